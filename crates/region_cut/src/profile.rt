@@ -1,0 +1,58 @@
+//! The two profiles of a pool: how many bits an allocator's number has, and which size classes it uses.
+ghost use Rattle.std.specs.Prelude.{◌≡◌, ◌≤◌, MatchOption};
+ghost use Rattle.region_cut.specs.Classes.{bits_of, classes_of, IsLeastFor, NoClassFor};
+ghost use Rattle.region_cut.specs.declared.profile.Profile.TheVariants.{Pool};
+
+use crate::class::Class;
+
+/// What a pool is made for.
+#[derive(Clone, Copy, Debug, PartialEq, Eq)]
+pub enum Profile {
+    /// 64 allocators, 16 classes, requests of at most 512 bytes.
+    Pool,
+    /// 4,096 allocators, 20 classes, requests of at most 1,024 bytes.
+    Pool2,
+}
+
+impl Profile {
+    /// How many bits the number of an allocator has.
+    pub fn bits(self) -> u32
+        ensures { result ≡ bits_of self }
+    {
+        match self {
+            Profile::Pool => 6,
+            Profile::Pool2 => 12,
+        }
+    }
+
+    /// How many classes are used: those with a number below this.
+    pub fn classes(self) -> u32
+        ensures { result ≡ classes_of self }
+    {
+        match self {
+            Profile::Pool => 16,
+            Profile::Pool2 => 20,
+        }
+    }
+
+    /// The least class whose size is at least `n` bytes, of those that the profile uses.
+    pub fn class_for(self, n: usize) -> Option<Class>
+        ensures { MatchOption result (NoClassFor self n) (λ c. IsLeastFor self n c) }
+    {
+        for number in 0..self.classes() {
+            if let Some(class) = Class::new(number) {
+                if n <= class.size() {
+                    return Some(class);
+                }
+            }
+        }
+        None
+    }
+}
+
+/// The class for a request of `n` bytes in the profile `Pool`.
+pub fn class_for(n: usize) -> Option<Class>
+    ensures { MatchOption result (NoClassFor Pool n) (λ c. IsLeastFor Pool n c) }
+{
+    Profile::Pool.class_for(n)
+}

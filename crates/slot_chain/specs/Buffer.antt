@@ -1,0 +1,17 @@
+-- What a contract sees of a buffer.
+use Rattle.std.specs.Prelude.{◌≡◌, ℕ, ◌<◌, List, length}
+use Rattle.std.specs.Borrow.{MutBor}
+use Rattle.region_cut.specs.Classes.{size_of}
+use Rattle.region_cut.specs.declared.slot.Slot.{Slot}
+
+-- two buffers are the same where these agree: `bytes` has the bytes now, and the name that tells the bytes when the borrow ends
+pub record Buffer : Type 0 where
+  pub slot : Slot
+  pub class : ℕ
+  pub owner : ℕ
+  pub forwards : ℕ
+  pub bytes : MutBor (List ℕ)
+
+-- its owner is a number of at most 12 bits, and its slice has the class's size
+abbrev pub IsBuffer : Buffer → Type 0
+IsBuffer b = (b.owner < 4096) × (length b.bytes.now ≡ size_of b.class)
