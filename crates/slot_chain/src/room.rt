@@ -9,11 +9,18 @@ use crate::lease::Lease;
 use crate::node::Node;
 use region_cut::{Class, Piece, Slot};
 use std::alloc::Global;
+use std::marker::Model;
 
-/// Room for one buffer: the box that the buffer and its link in a chain will lie in. It is the only thing of this crate that takes memory. It holds no bytes of a region.
+/// Room for one buffer: the box that the buffer and its link in a chain will lie in. It is the only thing of this crate that takes memory. It holds no bytes of a region, and contracts see nothing in it.
 #[derive(Drop)]
 pub struct Room<'r> {
     node: Box<Node<'r>>,
+}
+
+impl<'r> Model for Room<'r> {
+    ghost Value = { Unit {0} };
+
+    ghost view = { λ _. tt };
 }
 
 impl<'r> Room<'r> {

@@ -39,9 +39,7 @@ impl<'a, 'r> Iterator for Walk<'a, 'r> {
 
     ghost remaining = { item_count (λ buffers. buffers) };
 
-    fn next(&mut self) -> Option<Tag>
-        ensures { ShowsNext self.old result self.new }
-    {
+    fn next(&mut self) -> Option<Tag> {
         let at = self.at;
         match &at.top {
             None => None,
