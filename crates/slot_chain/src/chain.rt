@@ -91,9 +91,9 @@ impl<'r> Chain<'r> {
     {
         match self.top.take() {
             None => None,
-            Some(mut node) => {
-                mem::swap(&mut node.below, self);
-                Some(Buf { node })
+            Some(mut taken) => {
+                mem::swap(&mut taken.below, self);
+                Some(Buf { node: taken })
             }
         }
     }
@@ -106,10 +106,10 @@ impl<'r> Chain<'r> {
     {
         match other.top.take() {
             None => false,
-            Some(mut node) => {
-                mem::swap(&mut node.below, other);
-                mem::swap(&mut node.below, self);
-                self.top = Some(node);
+            Some(mut moved) => {
+                mem::swap(&mut moved.below, other);
+                mem::swap(&mut moved.below, self);
+                self.top = Some(moved);
                 true
             }
         }
