@@ -42,8 +42,9 @@ pub sizes_rise : (a b : ℕ) → a ≤ b → b < 20 → size_of a ≤ size_of b
 sizes_rise a zero h below = let e : a ≡ 0 = omega arith in rw e (omega arith)
 sizes_rise a (suc b) h below =
     elim (cases_lt b a) as (λ _. size_of a ≤ size_of (suc b)) [
-      inl more ↦ let e : a ≡ suc b = omega arith in rw e (omega arith)
-    | inr le ↦ risen (size_of a) (size_of b) (size_of (b + 1)) (size_of (suc b)) (sizes_rise a b le (omega arith)) (rises b (omega arith)) (ap (λ j. size_of j) (let e : b + 1 ≡ suc b = omega arith in e)) ]
+      | inl more ↦ let e : a ≡ suc b = omega arith in rw e (omega arith)
+      | inr le ↦ risen (size_of a) (size_of b) (size_of (b + 1)) (size_of (suc b)) (sizes_rise a b le (omega arith)) (rises b (omega arith)) (ap (λ j. size_of j) (let e : b + 1 ≡ suc b = omega arith in e))
+    ]
   where
     risen : (x y z w : ℕ) → x ≤ y → nat_le y z ≡ true → z ≡ w → x ≤ w
     risen x y z w le told same = let step : y ≤ z = grind (arith, nat_tests) in omega arith
@@ -64,8 +65,9 @@ class_holds n h = so ((n + 15) / 16) (size_of (class_by ((n + 15) / 16))) (by_ho
 not_below : (n i c k : ℕ) → ((c == 0) || nat_le (size_of (c - 1)) (16 * (i - 1))) ≡ true → 16 * (i - 1) < n → n ≤ size_of k → c < 20 → c ≤ k
 not_below n i c k told step fits below =
     elim (cases_lt k c) as (λ _. c ≤ k) [
-      inl more ↦ absurd (so (size_of (c - 1)) (size_of k) told (sizes_rise k (c - 1) (omega arith) (omega arith)) (omega arith))
-    | inr le ↦ le ]
+      | inl more ↦ absurd (so (size_of (c - 1)) (size_of k) told (sizes_rise k (c - 1) (omega arith) (omega arith)) (omega arith))
+      | inr le ↦ le
+    ]
   where
     so : (y z : ℕ) → ((c == 0) || nat_le y (16 * (i - 1))) ≡ true → size_of k ≤ y → 0 < c → ⊥
     so y z or rise some = let small : y ≤ 16 * (i - 1) = grind (arith, nat_tests) in omega arith

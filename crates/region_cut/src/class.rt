@@ -1,5 +1,5 @@
 //! The size classes.
-ghost use Rattle.std.specs.Prelude.{◌≡◌, ◌<◌, ◌≤◌, MatchOption};
+ghost use Rattle.std.specs.Prelude.{◌≡◌, ℕ, ◌<◌, ◌≤◌, MatchOption};
 ghost use Rattle.region_cut.specs.Classes.{size_of, slots_of, class_count};
 
 use crate::CHUNK;
@@ -9,6 +9,14 @@ use std::marker::Model;
 /// greater number has a greater size.
 pub const SIZES: [usize; 20] = [
     16, 32, 48, 64, 80, 96, 112, 128, 160, 192, 224, 256, 320, 384, 448, 512, 640, 768, 896, 1024,
+];
+
+/// The number of the least class for a request, by the request's size in steps of 16 bytes, rounded
+/// up. All sizes are multiples of 16, so the classes of the bytes of one step are the same.
+const CLASS_BY_STEP: [u8; 65] = [
+    0, 0, 1, 2, 3, 4, 5, 6, 7, 8, 8, 9, 9, 10, 10, 11, 11, 12, 12, 12, 12, 13, 13, 13, 13, 14, 14,
+    14, 14, 15, 15, 15, 15, 16, 16, 16, 16, 16, 16, 16, 16, 17, 17, 17, 17, 17, 17, 17, 17, 18, 18,
+    18, 18, 18, 18, 18, 18, 19, 19, 19, 19, 19, 19, 19, 19,
 ];
 
 /// A size class. All slots of a chunk are of one class. Contracts see it as its number, from 0 to
@@ -42,6 +50,18 @@ impl Class {
             Some(Class { number })
         } else {
             None
+        }
+    }
+
+    /// The least class whose size is at least `n`, of all classes. One look at a table.
+    #[tactic(auto, using(crate::proofs::ByStep::class_below, crate::proofs::ByStep::class_holds, crate::proofs::ByStep::class_least))]
+    pub(crate) fn least_for(n: usize) -> Class
+        requires { n ≤ 1024 }
+        ensures holds { n ≤ size_of result }
+        ensures least { (k : ℕ) → n ≤ size_of k → k < class_count → result ≤ k }
+    {
+        Class {
+            number: CLASS_BY_STEP[(n + 15) / 16] as u32,
         }
     }
 

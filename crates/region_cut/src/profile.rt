@@ -37,20 +37,27 @@ impl Profile {
 
     /// The class for a request of `n` bytes: of those that the profile uses, the least whose size
     /// is at least `n`. A request of no bytes takes the first class. `None` above the size of the
-    /// profile's last class, and only there.
+    /// profile's last class, and only there. One look at a table.
+    #[tactic(auto, using(crate::proofs::ByStep::least_of, crate::proofs::ByStep::none_for))]
     pub fn class_for(self, n: usize) -> Option<Class>
         ensures least { MatchOption result (NoClassFor self n) (λ c. IsLeastFor self n c) }
         ensures some { IsSome result ↔ (n ≤ largest_of self) }
         ensures none { IsNone result ↔ (largest_of self < n) }
     {
-        for number in 0..self.classes() {
-            if let Some(class) = Class::new(number) {
-                if n <= class.size() {
-                    return Some(class);
-                }
-            }
+        if n > self.largest() {
+            return None;
         }
-        None
+        Some(Class::least_for(n))
+    }
+
+    // The size in bytes of its last class.
+    fn largest(self) -> usize
+        ensures { result ≡ largest_of self }
+    {
+        match self {
+            Profile::Pool => 512,
+            Profile::Pool2 => 1024,
+        }
     }
 }
 
