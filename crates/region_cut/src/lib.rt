@@ -24,8 +24,9 @@ pub use class::{Class, SIZES};
 pub use error::CutError;
 pub use part::{Bump, Part, Piece};
 pub use profile::{Profile, class_for};
-pub use region::cut;
+pub use region::{cut, cut_with_front};
 pub use slot::Slot;
+pub use tie::Front;
 
 /// The bytes of a chunk.
 pub const CHUNK: usize = 4096;
