@@ -12,8 +12,8 @@ mod freed;
 mod home;
 mod homes;
 mod idle;
-// #[cfg(test)]
-// mod tests;
+#[cfg(test)]
+mod tests;
 
 pub use desk::Desk;
 pub use error::DeskError;
