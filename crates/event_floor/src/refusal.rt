@@ -1,7 +1,9 @@
 //! Why a floor refuses.
 ghost use Rattle.std.specs.Prelude.{◌≡◌};
+ghost use Rattle.event_floor.specs.Answers.{refusal_of};
 ghost use Rattle.event_floor.specs.Refusals.{number_of, name_of};
 
+use pool_desk::DeskError;
 use thiserror::Error;
 
 /// Why a request was refused. The floor is then as it was before it.
@@ -73,6 +75,19 @@ impl Refusal {
             Refusal::Held => "Held",
             Refusal::NoMemory => "NoMemory",
             Refusal::BadClass => "BadClass",
+        }
+    }
+}
+
+impl From<DeskError> for Refusal {
+    ghost from_gives = { λ error refusal. refusal ≡ refusal_of error };
+
+    fn from(error: DeskError) -> Refusal {
+        match error {
+            DeskError::TooLarge => Refusal::TooLarge,
+            DeskError::NeedChunk(_) => Refusal::NeedChunk,
+            DeskError::NotNeeded => Refusal::NotNeeded,
+            DeskError::NoMemory => Refusal::NoMemory,
         }
     }
 }

@@ -1,4 +1,8 @@
 //! What a floor answers.
+ghost use Rattle.std.specs.Prelude.{◌≡◌};
+ghost use Rattle.event_floor.specs.Answers.{reply_of};
+
+use pool_desk::Freed;
 use region_cut::Slot;
 
 /// What an accepted request gives.
@@ -16,4 +20,16 @@ pub enum Reply {
     Cached,
     /// The same, and that cache now has more bytes than the floor's limit.
     Due,
+}
+
+impl From<Freed> for Reply {
+    ghost from_gives = { λ freed reply. reply ≡ reply_of freed };
+
+    fn from(freed: Freed) -> Reply {
+        match freed {
+            Freed::Home => Reply::Home,
+            Freed::Cached => Reply::Cached,
+            Freed::Due => Reply::Due,
+        }
+    }
 }
