@@ -9,7 +9,6 @@ mod words;
 
 pub use commands::command;
 pub use outcome::Outcome;
-
 use std::process::ExitCode;
 
 fn main(rt: HostRuntime) -> ExitCode {

@@ -2,9 +2,9 @@
 
 use crate::{Outcome, command};
 use std::alloc::Global;
+use std::env;
 use std::io::{self, BufReader, BufWriter, ErrorKind, Write};
 use std::rt::Env;
-use std::env;
 use trace_audit::{FromReader, ToWriter};
 
 /// Runs what the program's words ask for over standard input and standard output.

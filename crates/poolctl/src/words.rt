@@ -23,10 +23,12 @@ pub enum Unread {
 }
 
 fn commands<'a>(alloc: Global) -> Result<Command<'a>, AllocError> {
-    let classes = Command::new(alloc, "classes")
-        .about("Print the size classes, one line each: number, slot size, slots of a chunk, bytes left over");
-    let replay = Command::new(alloc, "replay")
-        .about("Replay a trace from standard input and print the report");
+    let classes = Command::new(alloc, "classes").about(
+        "Print the size classes, one line each: number, slot size, slots of a chunk, bytes left over",
+    );
+    let replay = Command::new(alloc, "replay").about(
+        "Replay a trace from standard input and print the report",
+    );
     Command::new(alloc, "poolctl")
         .about("A message-passing buffer pool after snmalloc, driven from the command line")
         .subcommand_required(true)

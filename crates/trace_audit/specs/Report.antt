@@ -1,6 +1,7 @@
 -- The lines of a report.
-use Rattle.std.specs.Prelude.{ℕ, ◌+◌, ◌-◌, ◌^◌, ◌==◌, ◌&&◌, min, sum_by, nat_lt, Bool, List, [], ◌∷◌, ◌++◌, codes, decimal, Ok, Err, suc, if◌then◌else◌}
+use Rattle.std.specs.Prelude.{ℕ, ◌+◌, ◌==◌, ◌&&◌, sum_by, nat_lt, Bool, List, [], ◌∷◌, ◌++◌, codes, decimal, Ok, Err, suc, if◌then◌else◌}
 use Rattle.region_cut.specs.Slots.{printed}
+use Rattle.slot_chain.specs.Counts.{capped}
 use Rattle.event_floor.specs.declared.reply.Reply.{Reply}
 use Rattle.event_floor.specs.declared.reply.Reply.TheVariants.{Done, Chunk, Slot, Home, Cached, Due}
 use Rattle.event_floor.specs.declared.refusal.Refusal.{Refusal}
@@ -57,10 +58,7 @@ abbrev pub desk_lines : ℕ → List Counts → List ℕ
 desk_lines a [] = []
 desk_lines a (c ∷ cs) = desk_line a c ++ desk_lines (suc a) cs
 
--- a sum stops at the greatest u64
-abbrev pub capped : ℕ → ℕ
-capped n = min n (2 ^ 64 - 1)
-
+-- two desks together; a sum stops at the greatest u64
 abbrev pub plus : Counts → Counts → Counts
 plus c d = record { home = capped (c.home + d.home); cached = capped (c.cached + d.cached); queued = capped (c.queued + d.queued) }
 

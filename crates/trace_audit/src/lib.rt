@@ -8,6 +8,8 @@ mod grammar;
 mod lines;
 mod replaying;
 mod report;
+#[cfg(test)]
+mod tests;
 mod wire;
 
 pub use grammar::Header;

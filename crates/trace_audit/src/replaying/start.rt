@@ -1,7 +1,8 @@
 //! From the header on.
-ghost use Rattle.std.specs.Prelude.{◌≡◌, ◌≤◌, ◌*◌, false, IfOk, IfErr, IfSome};
+ghost use Rattle.std.specs.Prelude.{◌≡◌, ◌≤◌, ◌*◌, length, false, IfOk, IfErr, IfSome};
 ghost use Rattle.std.specs.Io.KnownBytes.{Appends};
 ghost use Rattle.event_floor.specs.Floors.{desk_count};
+ghost use Rattle.trace_audit.specs.Machine.{Opens};
 ghost use Rattle.trace_audit.specs.Grammar.{IsHeader};
 ghost use Rattle.trace_audit.specs.Replay.{Failures, Fails, Reports, ReportsTrace};
 ghost use Rattle.trace_audit.specs.Steps.{Houses, FailsHousing};
@@ -22,18 +23,24 @@ const LIMIT: u64 = 4096;
 /// A region of so many chunks.
 fn region_of(alloc: Global, chunks: u32) -> Result<Vec<u8>, AllocError>
     requires { chunks ≤ 1024 }
+    ensures { IfOk result (λ region. length region.items ≡ chunks * 4096) }
 {
     vec![in alloc; 0u8; chunks as usize * CHUNK]
 }
 
-/// A floor of so many desks over the region's chunks.
-fn floor_over<'r>(alloc: Global, region: &'r mut [u8], desks: u32) -> Result<Floor<'r>, AllocError>
-    requires some { 1 ≤ desks }
-    requires few { desks ≤ 64 }
-    ensures { IfOk result (λ floor. desk_count floor ≡ desks) }
+/// The floor of the header over the region's chunks.
+fn floor_over<'r>(
+    alloc: Global,
+    region: &'r mut [u8],
+    header: Header,
+) -> Result<Floor<'r>, AllocError>
+    requires header { IsHeader header }
+    requires region { length region.old ≡ header.chunks * 4096 }
+    ensures opens { IfOk result (λ floor. Opens header floor) }
+    ensures desks { IfOk result (λ floor. desk_count floor ≡ header.desks) }
 {
     match cut(alloc, region) {
-        Ok(parts) => Floor::new(alloc, parts, desks, LIMIT),
+        Ok(parts) => Floor::new(alloc, parts, header.desks, LIMIT),
         Err(_) => Err(AllocError),
     }
 }
@@ -57,7 +64,7 @@ fn on_floor<R: Source, W: Sink>(
     match region_of(alloc, header.chunks) {
         Ok(new) => {
             let mut region = new;
-            match floor_over(alloc, region.as_mut_slice(), header.desks) {
+            match floor_over(alloc, region.as_mut_slice(), header) {
                 Ok(made) => {
                     let mut floor = made;
                     drive(alloc, &mut floor, header.desks, held, reader, writer)

@@ -26,7 +26,6 @@ pub enum Turn {
 }
 
 /// Hands the request to the floor.
-#[tactic(auto, unfolding(crate::specs::Machine::Step))]
 fn answer_of(alloc: Global, floor: &mut Floor<'_>, request: Request) -> Result<Reply, Refusal>
     ensures step { Step floor.old request result floor.new }
     ensures desks { desk_count floor.new ≡ desk_count floor.old }
