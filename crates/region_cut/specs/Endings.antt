@@ -1,5 +1,5 @@
 -- What slices hold when their borrows end, and where a slot's bytes then lie.
-use Rattle.std.specs.Prelude.{ℕ, ◌≡◌, ◌≢◌, ◌+◌, ◌*◌, ◌<◌, ◌≤◌, List, [], ◌∷◌, ◌++◌, length, take, drop, All, Some}
+use Rattle.std.specs.Prelude.{ℕ, ◌≡◌, ◌*◌, ◌/◌, List, [], ◌∷◌, ◌++◌, length, take, drop, All, Some}
 use Rattle.std.specs.List.{slice_get, flat_map}
 use Rattle.std.specs.Borrow.{Fml, GName, ftrue, fsep}
 use base.Fml.{fall, fwand}
@@ -9,9 +9,10 @@ use Rattle.region_cut.specs.declared.part.Piece.{Piece}
 use Rattle.region_cut.specs.declared.part.Bump.{Bump}
 use Rattle.region_cut.specs.declared.slot.Slot.{Slot}
 use Rattle.region_cut.specs.Bumps.{pieces_of, GivesNext}
-use Rattle.region_cut.specs.Classes.{size_of, slots_of}
+use Rattle.region_cut.specs.Classes.{size_of}
 use Rattle.region_cut.specs.Joins.{ends, joins}
-use Rattle.region_cut.specs.Parts.{ArePartsOf}
+use Rattle.region_cut.specs.Parts.{ArePartsOf, bytes_of}
+use Rattle.region_cut.specs.Ranges.{start_of}
 
 -- what the slice of each name holds when its borrow ends
 abbrev pub Ending : Type 0
@@ -44,10 +45,6 @@ SlicesLieInOrder =
     (end : Ending) (xs : List GName) (z : ℕ) (bytes : List ℕ) → BeginsWith end xs z bytes
     → (i : ℕ) (x : GName) → slice_get xs i ≡ Some x → StandsAt (end x) (i * z) bytes
 
--- where the slot of a chunk of the class begins in its region
-abbrev pub start_of : Slot → ℕ → ℕ
-start_of s c = CHUNK * s.chunk + s.index * size_of c
-
 -- A region ends as its chunks, and the slot's chunk as the slots of its class: then the slice that is named where the slot stands lies at the slot's range of the region.
 abbrev pub SlotsLieAtTheirRanges : Type 0
 SlotsLieAtTheirRanges =
@@ -55,16 +52,6 @@ SlotsLieAtTheirRanges =
     → (chunks : List GName) → BeginsWith end chunks CHUNK region → (chunk : GName) → slice_get chunks s.chunk ≡ Some chunk
     → (slots : List GName) → BeginsWith end slots (size_of c) (end chunk) → (slot : GName) → slice_get slots s.index ≡ Some slot
     → StandsAt (end slot) (start_of s c) region
-
--- the byte of the region is one of the slot's
-abbrev pub Covers : Slot → ℕ → ℕ → Type 0
-Covers s c byte = (start_of s c ≤ byte) × (byte < start_of s c + size_of c)
-
--- Two slots share no byte, where each is one of a chunk of its class, and a chunk has one class.
-abbrev pub SlotsShareNoByte : Type 0
-SlotsShareNoByte =
-    (s t : Slot) (c d : ℕ) → s ≢ t → (s.chunk ≡ t.chunk → c ≡ d) → s.index < slots_of c → t.index < slots_of d
-    → (byte : ℕ) → Covers s c byte → Covers t d byte → ⊥
 
 -- A cursor's slice of the index i is the i-th that it gave.
 abbrev pub SlicesAreGivenInOrder : Type 0
@@ -75,3 +62,9 @@ abbrev pub PartsLieInOrder : Type 0
 PartsLieInOrder =
     (bytes : List ℕ) (parts : List Part) → ArePartsOf bytes parts → (i : ℕ) (p : Part) → slice_get parts i ≡ Some p
     → (p.chunk ≡ i) × StandsAt p.bytes.now (CHUNK * i) bytes
+
+-- There is a part for each whole chunk, and the parts and then the tail behind them, joined in order, are the bytes.
+abbrev pub PartsMakeTheWhole : Type 0
+PartsMakeTheWhole =
+    (bytes : List ℕ) (parts : List Part) → ArePartsOf bytes parts
+    → (length parts ≡ length bytes / CHUNK) × (flat_map bytes_of parts ++ drop (CHUNK * length parts) bytes ≡ bytes)

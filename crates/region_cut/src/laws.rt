@@ -2,7 +2,8 @@
 //! contract of a function, which does nothing but what the law speaks of.
 ghost use Rattle.std.specs.Prelude.{◌↔◌, IsTrue};
 ghost use Rattle.std.specs.Borrow.{sem};
-ghost use Rattle.region_cut.specs.Endings.{WholeEndsJoined, SlicesLieInOrder, SlicesAreGivenInOrder, PartsLieInOrder, SlotsLieAtTheirRanges, SlotsShareNoByte};
+ghost use Rattle.region_cut.specs.Endings.{WholeEndsJoined, SlicesLieInOrder, SlicesAreGivenInOrder, PartsLieInOrder, PartsMakeTheWhole, SlotsLieAtTheirRanges};
+ghost use Rattle.region_cut.specs.Ranges.{SlotsShareNoByte};
 ghost use Rattle.region_cut.specs.Slots.{IsBefore};
 
 use crate::slot::Slot;
@@ -35,6 +36,12 @@ pub fn slices_are_given_in_order()
 /// from `4096 * i` on.
 pub fn parts_lie_in_order()
     ensures { PartsLieInOrder }
+{}
+
+/// A cut has a part for each whole chunk of the region, and the parts and then the tail, joined in
+/// order, are the region.
+pub fn parts_make_the_whole()
+    ensures { PartsMakeTheWhole }
 {}
 
 /// When the borrow of a region ends, a slot's slice is what the region holds at the slot's range:

@@ -8,7 +8,9 @@
 //!
 //! Contracts say what the bytes are now, and what they are when the borrow ends. For the second
 //! each slice has a ghost name: the names that a [`Bump`] gave, in order, are the slots of its
-//! chunk from the front (`specs/Joins.antt`, [`laws`]).
+//! chunk from the front, and the names of the parts, in order, are the chunks of their region
+//! (`specs/Joins.antt`, [`laws`]). A caller that wants to know what its region holds afterwards
+//! gives back to a [`Front`] what was cut off it.
 #![tactic(auto)]
 
 mod class;

@@ -1,4 +1,4 @@
-use Rattle.region_cut.proofs.Rows.{share_none}
+use Rattle.region_cut.proofs.Apart.{share_none}
 use Rattle.region_cut.proofs.laws.slots_share_no_byte.Goals as goal
 
 pub returns : goal.returns
