@@ -1,15 +1,22 @@
 //! The posting of a cache, in rounds.
-ghost use Rattle.std.specs.Prelude.{◌≡◌, ◌≢◌, ℕ, ◌+◌, ◌-◌, ◌^◌, ◌<◌, ◌≤◌, [], ◌++◌, Any, All, MatchOption, IfSome, IsPermutation};
+ghost use Rattle.std.specs.Prelude.{◌≡◌, ◌^◌, ◌<◌, ◌≤◌, [], ◌++◌, All, MatchOption, IfSome, IsPermutation};
 ghost use Rattle.slot_chain.specs.Buffer.{Buffer};
-ghost use Rattle.digit_route.specs.Digits.{Scheme, common};
-ghost use Rattle.digit_route.specs.States.{PostingState, all_moves, Gives};
+ghost use Rattle.digit_route.specs.Digits.{common};
+ghost use Rattle.digit_route.specs.States.{all_moves, Gives};
 
 use crate::row::Row;
+use crate::walks::some_owner;
 use crate::{Batch, Cache};
-use slot_chain::Chain;
 use std::marker::Model;
 
-/// A cache that is posted, one round for each digit.
+/// A cache that is being posted, one round for each digit.
+///
+/// In round `j`, from 0, the owners that are left share the digits below `j` with the desk, and the buffers stand in
+/// a row by digit `j`. Each chain of the row but that of the desk's own digit is handed out whole, to some owner in
+/// it. Then the chain of the desk's own digit is moved, buffer by buffer, into the row of round `j + 1`. So a buffer
+/// is moved once for each digit that its owner shares with the desk, less often than a number has digits.
+///
+/// No call takes memory.
 #[derive(Drop)]
 pub struct Posting<'r> {
     row: Row<'r>,
@@ -18,9 +25,8 @@ pub struct Posting<'r> {
 }
 
 impl<'r> Model for Posting<'r> {
-    ghost use Rattle.digit_route.specs.States.{PostingState};
-
     ghost use Rattle.std.specs.Prelude.{◌≤◌};
+    ghost use Rattle.digit_route.specs.States.{PostingState};
 
     ghost Value = { PostingState };
 
@@ -41,28 +47,32 @@ impl<'r> Posting<'r> {
         }
     }
 
-    /// How many moves of a buffer from one round's row into the next were made.
+    /// How often a buffer was moved from one round's row into the next, or the greatest `u64` where that is less.
     pub fn moves(&self) -> u64
         ensures { result ≡ self.now.moves }
     {
         self.moves
     }
 
-    /// The digit that the row stands by.
+    /// The round, which is the digit that the row stands by.
     pub fn round(&self) -> u32
         ensures { result ≡ self.now.round }
     {
         self.row.round()
     }
 
-    /// All that goes to some owner of a buffer, or None where nothing is left.
+    /// Takes out the bucket for some owner of a buffer in it, or says that nothing is left.
     pub fn next_batch(&mut self) -> Option<Batch<'r>>
         ensures same { self.new ≡ record self.old { round = self.new.round; moves = self.new.moves; items = self.new.items } }
         ensures value { MatchOption result ((self.old.items ≡ []) × (self.new.items ≡ []))
             (λ b. Gives self.old.digits self.old.number self.old.items b self.new.items) }
+
+        // The rounds come in order: a batch has what belongs to the round that the call ends in, and less is not left.
         ensures here { IfSome result (λ b. All (λ (x : Buffer). common self.old.digits x.owner self.old.number ≡ self.new.round) b.items) }
         ensures left { All (λ (x : Buffer). self.new.round ≤ common self.old.digits x.owner self.old.number) self.new.items }
         ensures later { self.old.round ≤ self.new.round }
+
+        // The moves made and those still to be made are together always as many, where a `u64` can count them.
         ensures counted { all_moves self.old < 2 ^ 64 → all_moves self.new ≡ all_moves self.old }
     {
         loop {
@@ -82,7 +92,7 @@ impl<'r> Posting<'r> {
         }
     }
 
-    /// The cache of what is left, and of the batch.
+    /// Ends the posting: the cache of what is left and of the batch, which this desk would have sent.
     pub fn put_back(self, batch: Batch<'r>) -> Cache<'r>
         requires sender { batch.sender ≡ self.number }
         requires digits { batch.digits ≡ self.digits }
@@ -94,7 +104,7 @@ impl<'r> Posting<'r> {
         cache
     }
 
-    /// The cache of what is left.
+    /// Ends the posting: the cache of what is left.
     pub fn end(self) -> Cache<'r>
         ensures same { result ≡ record { number = self.entry.number; digits = self.entry.digits; limit = self.entry.limit; items = result.items } }
         ensures items { IsPermutation self.entry.items result.items }
@@ -106,15 +116,17 @@ impl<'r> Posting<'r> {
         } = self;
         Cache::from_row(row, limit)
     }
-}
 
-// The owner of a buffer.
-fn some_owner(chain: &Chain) -> u16
-    requires { chain.now ≢ [] }
-    ensures { Any (λ (b : Buffer). b.owner ≡ result) chain.now }
-{
-    match chain.walk().next() {
-        Some(tag) => tag.owner,
-        None => unreachable!(),
+    // The row of what is left, by the first digit.
+    pub(crate) fn into_row(self) -> Row<'r>
+        ensures same { result ≡ record { number = self.entry.number; digits = self.entry.digits; round = 0; items = result.items } }
+        ensures items { IsPermutation self.entry.items result.items }
+    {
+        let Posting {
+            row,
+            limit: _,
+            moves: _,
+        } = self;
+        row.restart()
     }
 }
