@@ -1,22 +1,19 @@
-// Buffers, and the empty nodes that they are made with.
-ghost use Rattle.std.specs.Prelude.{◌≡◌, ◌≤◌, ◌<◌, ◌*◌, ◌^◌, length};
+//! One buffer.
+ghost use Rattle.std.specs.Prelude.{◌≡◌, ◌<◌, ◌*◌, ◌^◌, length};
 ghost use Rattle.std.specs.Ptr.{block_ptr};
 ghost use Rattle.region_cut.specs.Classes.{size_of};
 
-use crate::chain::{Chain, Node};
-use crate::lease::Lease;
-use region_cut::{Class, Piece, Slot};
-use std::alloc::{AllocError, Global};
+use crate::node::Node;
+use region_cut::{Class, Slot};
 use std::marker::Model;
 use std::slice;
 
-// A node that is in no chain and has no buffer.
-#[derive(Drop)]
-pub struct Room<'r> {
-    node: Box<Node<'r>>,
-}
-
-// A buffer.
+/// A buffer: a slot of a region that is borrowed for `'r`, with the slice of bytes that lies there. It moves as one pointer.
+///
+/// Nobody else can reach the slice while the buffer lives. A buffer may be dropped: its slot is then lost until the region's borrow ends.
+///
+/// Contracts see it as a `Buffer`. Two buffers are the same where slot, class, owner, `forwards` and the bytes now agree, and the name under which the bytes are known that will be there when the region's
+/// borrow ends.
 #[derive(Drop)]
 pub struct Buf<'r> {
     pub(crate) node: Box<Node<'r>>,
@@ -35,57 +32,25 @@ impl<'r> Model for Buf<'r> {
     ghost invariant = { λ a. IsBuffer (kept a.node.value) };
 }
 
-impl<'r> Room<'r> {
-    pub fn new(alloc: Global) -> Result<Room<'r>, AllocError> {
-        let node = Node {
-            slot: Slot { chunk: 0, index: 0 },
-            class: Class::FIRST,
-            owner: 0,
-            forwards: 0,
-            lease: Lease::new(Default::default()),
-            below: Chain::new(),
-        };
-        Ok(Room {
-            node: Box::new(alloc, node)?,
-        })
-    }
-
-    pub fn fill(self, piece: Piece<'r>, class: Class, owner: u16) -> Buf<'r>
-        requires size { length piece.bytes.now ≡ size_of class }
-        requires owner { owner < 4096 }
-        ensures slot { result.slot ≡ piece.entry.slot }
-        ensures class { result.class ≡ class }
-        ensures owner { result.owner ≡ owner }
-        ensures forwards { result.forwards ≡ 0 }
-        ensures bytes { result.bytes ≡ piece.entry.bytes }
-    {
-        let Room { mut node } = self;
-        let Piece { slot, bytes } = piece;
-        node.slot = slot;
-        node.class = class;
-        node.owner = owner;
-        node.forwards = 0;
-        node.lease = Lease::new(bytes);
-        Buf { node }
-    }
-}
-
 impl<'r> Buf<'r> {
     ghost use Rattle.std.specs.Borrow.{sem};
-    ghost use Rattle.slot_chain.specs.BufLends.{LendsBytes};
+    ghost use Rattle.slot_chain.specs.Lends.{LendsBytes};
 
+    /// The place of the buffer in its region.
     pub fn slot(&self) -> Slot
         ensures { result ≡ self.now.slot }
     {
         self.node.slot
     }
 
+    /// The size class of its chunk.
     pub fn class(&self) -> Class
         ensures { result ≡ self.now.class }
     {
         self.node.class
     }
 
+    /// The number of the allocator to which it goes back.
     pub fn owner(&self) -> u16
         ensures value { result ≡ self.now.owner }
         ensures in_range { result < 4096 }
@@ -93,18 +58,21 @@ impl<'r> Buf<'r> {
         self.node.owner
     }
 
+    /// How often it was passed on by allocators that don't own it, since it was freed. Whoever moves the buffer keeps this count by [`Buf::set_forwards`].
     pub fn forwards(&self) -> u32
         ensures { result ≡ self.now.forwards }
     {
         self.node.forwards
     }
 
+    /// Sets the count of [`Buf::forwards`], and changes nothing else.
     pub fn set_forwards(&mut self, forwards: u32)
         ensures { self.new ≡ record self.old { forwards = forwards } }
     {
         self.node.forwards = forwards;
     }
 
+    /// The bytes of the slot, as many as its class has.
     pub fn bytes(&self) -> &[u8]
         ensures value { result.now ≡ self.now.bytes.now }
         ensures size { length result.now ≡ size_of self.now.class }
@@ -119,6 +87,7 @@ impl<'r> Buf<'r> {
         self.node.lease.words()
     }
 
+    /// The bytes of the slot, to be written. When the loan ends, the buffer is the same but for what was written.
     pub fn bytes_mut(&mut self) -> &mut [u8]
         ensures* writes_back { sem 𝓛 (LendsBytes self.entry result) }
         ensures value { result.now ≡ self.old.bytes.now }

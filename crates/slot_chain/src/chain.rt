@@ -1,30 +1,20 @@
-// Lists of boxed nodes that are linked through themselves.
+//! Lists of buffers, linked through the boxes that they lie in.
 ghost use Rattle.std.specs.Prelude.{◌≡◌, [], ◌∷◌, ◌++◌, length, MatchOption, MatchBool, IsTrue, ◌↔◌};
 ghost use Rattle.slot_chain.specs.Buffer.{Buffer};
 ghost use Rattle.slot_chain.specs.Counts.{capped, sizes};
 
 use crate::buf::Buf;
-use crate::lease::Lease;
-use region_cut::{Class, Slot};
+use crate::node::Node;
+use crate::walk::Walk;
 use std::marker::Model;
 use std::mem;
 
-// A place in memory for one buffer of a chain. It belongs to its buffer, also while that is in no chain.
-#[cycle(chain)]
-#[derive(Drop)]
-pub(crate) struct Node<'r> {
-    pub(crate) slot: Slot,
-    pub(crate) class: Class,
-    pub(crate) owner: u16,
-    pub(crate) forwards: u32,
-    pub(crate) lease: Lease<'r>,
-    pub(crate) below: Chain<'r>,
-}
-
-// A list of buffers. The last one is on top.
+/// A list of buffers. In contracts a chain is that list; its last buffer is on top, where [`Chain::push`] and [`Chain::pop`] work.
+///
+/// A chain is one pointer. No call takes memory, none can fail, and none changes or copies a buffer. A chain may be dropped, with all its buffers, however long it is.
 #[cycle(chain)]
 pub struct Chain<'r> {
-    top: Option<Box<Node<'r>>>,
+    pub(crate) top: Option<Box<Node<'r>>>,
 }
 
 impl<'r> Model for Chain<'r> {
@@ -79,12 +69,14 @@ impl Default for Chain<'_> {
 }
 
 impl<'r> Chain<'r> {
+    /// The empty chain. It takes no memory.
     pub fn new() -> Chain<'r>
         ensures { result ≡ [] }
     {
         Chain { top: None }
     }
 
+    /// Puts a buffer on top. Takes constant time.
     pub fn push(&mut self, buf: Buf<'r>)
         ensures { self.new ≡ self.old ++ buf.entry ∷ [] }
     {
@@ -93,14 +85,15 @@ impl<'r> Chain<'r> {
         self.top = Some(node);
     }
 
+    /// Takes the buffer on top, which came last, or `None` where there is none. Takes constant time.
     pub fn pop(&mut self) -> Option<Buf<'r>>
         ensures { MatchOption result ((self.old ≡ []) × (self.new ≡ [])) (λ b. self.old ≡ self.new ++ b ∷ []) }
     {
         match self.top.take() {
             None => None,
-            Some(mut node) => {
-                mem::swap(&mut node.below, self);
-                Some(Buf { node })
+            Some(mut taken) => {
+                mem::swap(&mut taken.below, self);
+                Some(Buf { node: taken })
             }
         }
     }
@@ -113,16 +106,18 @@ impl<'r> Chain<'r> {
     {
         match other.top.take() {
             None => false,
-            Some(mut node) => {
-                mem::swap(&mut node.below, other);
-                mem::swap(&mut node.below, self);
-                self.top = Some(node);
+            Some(mut moved) => {
+                mem::swap(&mut moved.below, other);
+                mem::swap(&mut moved.below, self);
+                self.top = Some(moved);
                 true
             }
         }
     }
 
-    // The other's list goes last, and the other is left empty.
+    /// Puts all buffers of `other` on top, in their order, and leaves it empty.
+    ///
+    /// Takes time for the length of `other` alone, whose links are turned, and turned back as they are put on top: two moves of a pointer for each. None of the buffers that are here already is looked at.
     #[tactic(auto, using(crate::proofs::Sums::reverse_push, crate::proofs::Sums::append_push))]
     pub fn append(&mut self, other: &mut Chain<'r>)
         ensures list { self.new ≡ self.old ++ other.old }
@@ -133,6 +128,7 @@ impl<'r> Chain<'r> {
         while self.shift(&mut turned) {}
     }
 
+    /// The number of buffers, or the greatest `u64` where that is less. It is counted by a walk.
     pub fn len(&self) -> u64
         ensures { result ≡ capped (length self.now) }
     {
@@ -149,6 +145,7 @@ impl<'r> Chain<'r> {
         }
     }
 
+    /// The sum of the sizes of the buffers in bytes, each that of its class, or the greatest `u64` where that is less. It is counted by a walk.
     #[tactic(auto, using(crate::proofs::Sums::sizes_push))]
     pub fn bytes_total(&self) -> u64
         ensures { result ≡ capped (sizes self.now) }
@@ -166,7 +163,7 @@ impl<'r> Chain<'r> {
         }
     }
 
-    // Whether there is none.
+    /// Whether there is no buffer. Takes constant time.
     pub fn is_empty(&self) -> bool
         ensures { IsTrue result ↔ (self.now ≡ []) }
     {
@@ -176,54 +173,10 @@ impl<'r> Chain<'r> {
         }
     }
 
-    // A walk over the buffers, from the end.
+    /// A walk over the buffers from the top, which only looks at them.
     pub fn walk(&self) -> Walk<'_, 'r>
         ensures { result ≡ self.now }
     {
         Walk { at: self }
-    }
-}
-
-// What a walk shows of a buffer.
-#[derive(Clone, Copy, Debug, PartialEq, Eq)]
-pub struct Tag {
-    pub slot: Slot,
-    pub class: Class,
-    pub owner: u16,
-}
-
-// What is left of a walk.
-#[derive(Drop)]
-pub struct Walk<'a, 'r> {
-    at: &'a Chain<'r>,
-}
-
-impl<'a, 'r> Model for Walk<'a, 'r> {
-    ghost use Rattle.std.specs.Prelude.{List};
-    ghost use Rattle.slot_chain.specs.Buffer.{Buffer};
-
-    ghost Value = { List Buffer };
-
-    ghost view = { λ w. w.at.now };
-}
-
-impl<'a, 'r> Walk<'a, 'r> {
-    // What is seen of the next one.
-    pub fn next(&mut self) -> Option<Tag>
-        ensures { MatchOption result ((self.old ≡ []) × (self.new ≡ []))
-            (λ p. (b : Buffer) × (self.old ≡ self.new ++ b ∷ []) × (b.slot ≡ p.slot) × (b.class ≡ p.class) × (b.owner ≡ p.owner)) }
-    {
-        let at = self.at;
-        match &at.top {
-            None => None,
-            Some(node) => {
-                self.at = &node.below;
-                Some(Tag {
-                    slot: node.slot,
-                    class: node.class,
-                    owner: node.owner,
-                })
-            }
-        }
     }
 }

@@ -1,0 +1,16 @@
+//! Callers of `region_cut` and `slot_chain` together: what they learn from the contracts, and the tests that cross the two crates.
+//!
+//! The pool itself calls nothing of this crate.
+#![tactic(auto)]
+
+mod crossing;
+mod filling;
+#[cfg(test)]
+mod tests;
+mod walking;
+mod writing;
+
+pub use crossing::{buf_crosses, chain_crosses, piece_crosses, room_crosses};
+pub use filling::fill_part;
+pub use walking::{count_owned, list_slots};
+pub use writing::{clear, copy_in, mark, mark_top, stamped};

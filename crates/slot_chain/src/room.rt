@@ -1,0 +1,63 @@
+//! The room that a buffer takes in memory.
+ghost use Rattle.std.specs.Prelude.{◌≡◌, ◌<◌, length};
+ghost use Rattle.region_cut.specs.Classes.{size_of};
+
+use crate::buf::Buf;
+use crate::chain::Chain;
+use crate::error::NoMemory;
+use crate::lease::Lease;
+use crate::node::Node;
+use region_cut::{Class, Piece, Slot};
+use std::alloc::Global;
+use std::marker::Model;
+
+/// Room for one buffer: the box that the buffer and its link in a chain will lie in. It is the only thing of this crate that takes memory. It holds no bytes of a region, and contracts see nothing in it.
+#[derive(Drop)]
+pub struct Room<'r> {
+    node: Box<Node<'r>>,
+}
+
+impl<'r> Model for Room<'r> {
+    ghost Value = { Unit {0} };
+
+    ghost view = { λ _. tt };
+}
+
+impl<'r> Room<'r> {
+    /// Makes an empty room. [`NoMemory`] is answered only where the allocator refused the box.
+    pub fn new(alloc: Global) -> Result<Room<'r>, NoMemory> {
+        let node = Node {
+            slot: Slot { chunk: 0, index: 0 },
+            class: Class::FIRST,
+            owner: 0,
+            forwards: 0,
+            lease: Lease::new(Default::default()),
+            below: Chain::new(),
+        };
+        Ok(Room {
+            node: Box::new(alloc, node)?,
+        })
+    }
+
+    /// Makes a buffer of a piece of a region. It lies in this room, so no memory is taken and nothing can fail.
+    ///
+    /// The piece has to be as long as a slot of `class`. `owner` is the number of the allocator to which the buffer goes back, of at most 12 bits. The bytes stay as they are.
+    pub fn fill(self, piece: Piece<'r>, class: Class, owner: u16) -> Buf<'r>
+        requires size { length piece.bytes.now ≡ size_of class }
+        requires owner { owner < 4096 }
+        ensures slot { result.slot ≡ piece.entry.slot }
+        ensures class { result.class ≡ class }
+        ensures owner { result.owner ≡ owner }
+        ensures forwards { result.forwards ≡ 0 }
+        ensures bytes { result.bytes ≡ piece.entry.bytes }
+    {
+        let Room { mut node } = self;
+        let Piece { slot, bytes } = piece;
+        node.slot = slot;
+        node.class = class;
+        node.owner = owner;
+        node.forwards = 0;
+        node.lease = Lease::new(bytes);
+        Buf { node }
+    }
+}
