@@ -19,6 +19,7 @@ mod profile;
 mod region;
 mod slot;
 mod tie;
+mod ties;
 
 pub use class::{Class, SIZES};
 pub use error::CutError;
@@ -26,6 +27,7 @@ pub use part::{Bump, Part, Piece};
 pub use profile::{Profile, class_for};
 pub use region::cut;
 pub use slot::Slot;
+pub use ties::Ties;
 
 /// The bytes of a chunk.
 pub const CHUNK: usize = 4096;
