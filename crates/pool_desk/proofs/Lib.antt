@@ -1,0 +1,4 @@
+pub mod ByClassLaws
+pub mod DeskLaws
+pub mod HandleLaws
+pub mod HomeLaws

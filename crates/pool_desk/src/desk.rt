@@ -1,0 +1,235 @@
+//! A desk that a worker holds.
+ghost use Rattle.std.specs.Prelude.{◌≡◌, ◌≢◌, ◌<◌, ◌^◌, ◌↔◌, [], ◌++◌, length, IsTrue, IsPermutation, Some, None, MatchBool, MatchOption, MatchResult};
+ghost use Rattle.region_cut.specs.Classes.{classes_of};
+ghost use Rattle.slot_chain.specs.Counts.{capped};
+ghost use Rattle.digit_route.specs.Route.{RouteFault};
+ghost use Rattle.digit_route.specs.States.{Gives};
+ghost use Rattle.pool_desk.specs.ByClass.{HasClass};
+ghost use Rattle.pool_desk.specs.Desks.{profile_at};
+ghost use Rattle.pool_desk.specs.Steps.{Claims, NotNeededFor, Allocs, Frees, Handles, Counted};
+ghost use Rattle.pool_desk.specs.Handling.{IsPassed, GoesHome, GoesOn};
+
+use crate::homes::Homes;
+use crate::{Counts, DeskError, DeskPosting, Freed, IdleDesk};
+use digit_route::{Batch, Cache, Digits, RouteError};
+use region_cut::{Class, Part};
+use slot_chain::Buf;
+use std::alloc::Global;
+use std::marker::Model;
+
+/// An allocator that a worker holds: its slots at home, and a cache of others' buffers that were freed here.
+///
+/// Nothing of it is shared, so no call waits. Only [`Desk::alloc`] of a slot that was never handed out takes memory, and `list_slots`.
+#[derive(Drop)]
+pub struct Desk<'r> {
+    pub(crate) worker: u32,
+    pub(crate) homes: Homes<'r>,
+    pub(crate) cache: Cache<'r>,
+}
+
+impl<'r> Model for Desk<'r> {
+    ghost use Rattle.std.specs.Prelude.{◌≡◌};
+    ghost use Rattle.pool_desk.specs.Desks.{DeskState};
+
+    ghost Value = { DeskState };
+
+    ghost view = { λ d. record { number = d.cache.number; digits = d.cache.digits; limit = d.cache.limit; worker = d.worker; home = d.homes.slots; drawn = d.homes.drawn; cached = d.cache.items } };
+
+    ghost invariant = { λ d. d.homes.owner ≡ d.cache.number };
+}
+
+impl<'r> Desk<'r> {
+    /// Its number, by which its buffers name their owner.
+    pub fn number(&self) -> u16
+        ensures value { result ≡ self.now.number }
+        ensures in_range { self.now.number < 2 ^ self.now.digits.bits }
+    {
+        self.cache.number()
+    }
+
+    /// How the numbers of desks are read. Its profile says which classes the desk uses.
+    pub fn digits(&self) -> Digits
+        ensures { result ≡ self.now.digits }
+    {
+        self.cache.digits()
+    }
+
+    /// The worker that holds it.
+    pub fn worker(&self) -> u32
+        ensures { result ≡ self.now.worker }
+    {
+        self.worker
+    }
+
+    /// Whether a slot of the class is at home. Takes constant time.
+    pub fn has_home(&self, class: Class) -> bool
+        ensures { IsTrue result ↔ HasClass class self.now.home }
+    {
+        self.homes.has(class)
+    }
+
+    /// Takes a part for a class that has no slot at home, and hands it back with [`DeskError::NotNeeded`] where there is one.
+    /// The chunk keeps its class and its owner until the region's borrow ends. Takes constant time and no memory.
+    pub fn claim(&mut self, part: Part<'r>, class: Class) -> Result<(), (Part<'r>, DeskError)>
+        requires { class < classes_of (profile_at self.old) }
+        ensures { MatchResult result
+            (λ _. Claims self.old part.entry class self.new)
+            (λ e. (e.0 ≡ part.entry) × NotNeededFor self.old class e.1 × (self.new ≡ self.old)) }
+    {
+        if self.has_home(class) {
+            return Err((part, DeskError::NotNeeded));
+        }
+        self.homes.claim(part, class);
+        Ok(())
+    }
+
+    /// Gives out a slot at home of the least class that holds `size` bytes: the one that came home last, else the next that was never handed out.
+    /// Only the latter takes memory, for the box of the buffer, which is made first; so a refusal changes nothing. No byte of a slot is written.
+    /// Takes constant time.
+    pub fn alloc(&mut self, alloc: Global, size: usize) -> Result<Buf<'r>, DeskError>
+        ensures { Allocs self.old size result self.new }
+    {
+        let Some(class) = self.cache.digits().profile().class_for(size) else {
+            return Err(DeskError::TooLarge);
+        };
+        self.homes.alloc(alloc, class)
+    }
+
+    /// Takes an own buffer home, and another into the cache. Always succeeds. Takes constant time and no memory.
+    ///
+    /// The owner's number is one of the desk's profile.
+    pub fn free(&mut self, buf: Buf<'r>) -> Freed
+        requires { buf.owner < 2 ^ self.old.digits.bits }
+        ensures { Frees self.old buf.entry result self.new }
+    {
+        let mut buf = buf;
+        buf.set_forwards(0);
+        if buf.owner() == self.cache.number() {
+            self.homes.keep(buf);
+            return Freed::Home;
+        }
+        self.cache.put(buf);
+        if self.cache.is_due() {
+            Freed::Due
+        } else {
+            Freed::Cached
+        }
+    }
+
+    // Takes an own buffer of a batch home, and puts another into the cache with one more forward.
+    fn handle_one(&mut self, buf: Buf<'r>) -> bool
+        requires { buf.owner ≢ self.old.number → IsPassed self.old.digits self.old.number buf }
+        ensures { MatchBool result (GoesHome self.old buf.entry self.new) (GoesOn self.old buf.entry self.new) }
+    {
+        if buf.owner() == self.cache.number() {
+            self.homes.keep(buf);
+            return true;
+        }
+        let _most = self.cache.digits().count();
+        let mut buf = buf;
+        let forwards = buf.forwards();
+        buf.set_forwards(forwards + 1);
+        self.cache.put(buf);
+        false
+    }
+
+    /// Takes the own buffers of a batch home, and puts the others into the cache with one more forward, to be sent on. Takes no memory.
+    pub fn handle(&mut self, batch: Batch<'r>) -> Counts
+        requires address { batch.address ≡ self.old.number }
+        requires digits { batch.digits ≡ self.old.digits }
+        ensures parts { Handles self.old batch.entry.items self.new }
+        ensures counts { Counted self.old.number batch.entry.items result }
+    {
+        let mut chain = batch.into_chain();
+        let mut home = 0u64;
+        let mut on = 0u64;
+        while let Some(buf) = chain.pop() {
+            if self.handle_one(buf) {
+                home = home.saturating_add(1);
+            } else {
+                on = on.saturating_add(1);
+            }
+        }
+        Counts { home, on }
+    }
+
+    /// Why [`Desk::batch_for`] would refuse, or `None` where it would give a batch.
+    pub fn fault_for(&self, t: u16) -> Option<RouteError>
+        ensures { RouteFault self.now.digits self.now.number t self.now.cached result }
+    {
+        self.cache.fault_for(t)
+    }
+
+    /// Takes out of the cache all that goes to `t`: the buffers whose owners share more digits with `t` than this desk does. Takes no memory.
+    pub fn batch_for(&mut self, t: u16) -> Result<Batch<'r>, RouteError>
+        ensures same { self.new ≡ record self.old { cached = self.new.cached } }
+        ensures value { MatchResult result
+            (λ b. RouteFault self.old.digits self.old.number t self.old.cached None × (b.address ≡ t)
+                × Gives self.old.digits self.old.number self.old.cached b self.new.cached)
+            (λ e. RouteFault self.old.digits self.old.number t self.old.cached (Some e) × (self.new ≡ self.old)) }
+    {
+        self.cache.take_bucket_for(t)
+    }
+
+    /// Takes out of the cache all that goes to some owner of a buffer in it, or says that it is empty. Takes no memory.
+    /// To post all of the cache, [`Desk::posting`] takes fewer steps.
+    pub fn next_batch(&mut self) -> Option<Batch<'r>>
+        ensures same { self.new ≡ record self.old { cached = self.new.cached } }
+        ensures value { MatchOption result ((self.old.cached ≡ []) × (self.new.cached ≡ []))
+            (λ b. Gives self.old.digits self.old.number self.old.cached b self.new.cached) }
+    {
+        self.cache.next_batch()
+    }
+
+    /// Takes back into the cache a batch of this desk that could not be posted. Takes no memory.
+    pub fn refused(&mut self, batch: Batch<'r>)
+        requires sender { batch.sender ≡ self.old.number }
+        requires digits { batch.digits ≡ self.old.digits }
+        ensures same { self.new ≡ record self.old { cached = self.new.cached } }
+        ensures items { IsPermutation (self.old.cached ++ batch.entry.items) self.new.cached }
+    {
+        self.cache.put_back(batch);
+    }
+
+    /// The desk without its worker, where its cache is empty. Where it isn't, the desk is handed back as it was: it is unsettled.
+    pub fn retire(self) -> Result<IdleDesk<'r>, Desk<'r>>
+        ensures { let s = self.entry in MatchResult result
+            (λ d. (s.cached ≡ []) × (d ≡ record { number = s.number; digits = s.digits; limit = s.limit; home = s.home; drawn = s.drawn }))
+            (λ d. (s.cached ≢ []) × (d ≡ s)) }
+    {
+        if !self.cache.is_empty() {
+            return Err(self);
+        }
+        let Desk {
+            worker: _,
+            homes,
+            cache,
+        } = self;
+        Ok(IdleDesk { homes, cache })
+    }
+
+    /// Begins to post the cache, round by round. Takes no memory.
+    pub fn posting(self) -> DeskPosting<'r>
+        ensures { let d = self.entry in result ≡ record { worker = d.worker; home = d.home; drawn = d.drawn;
+            posting = record { number = d.number; digits = d.digits; limit = d.limit; round = 0; moves = 0; items = d.cached } } }
+    {
+        let Desk {
+            worker,
+            homes,
+            cache,
+        } = self;
+        DeskPosting {
+            worker,
+            homes,
+            posting: cache.posting(),
+        }
+    }
+
+    /// The number of slots at home, and of buffers in the cache, each at most the greatest `u64`. Takes a walk over them.
+    pub fn counts(&self) -> (u64, u64)
+        ensures home { result.0 ≡ capped (length self.now.home) }
+        ensures cached { result.1 ≡ capped (length self.now.cached) }
+    {
+        (self.homes.count(), self.cache.len())
+    }
+}

@@ -1,0 +1,90 @@
+//! All slots at home of one owner.
+ghost use Rattle.std.specs.Prelude.{◌≡◌, ◌≢◌, ◌<◌, ◌↔◌, [], ◌∷◌, ◌++◌, IsTrue, IsPermutation, MatchResult, length};
+ghost use Rattle.region_cut.specs.Classes.{slots_of};
+ghost use Rattle.slot_chain.specs.Counts.{capped};
+ghost use Rattle.pool_desk.specs.Homes.{Draws, GivesOne, unused_from};
+ghost use Rattle.pool_desk.specs.Homes.AtHome.{Kept};
+ghost use Rattle.pool_desk.specs.ByClass.{HasClass, LacksClass, IsWanting};
+
+use crate::DeskError;
+use crate::by_class::{ByClass, alloc_at, claim_at, count_all, empty_homes, has_at, keep_at};
+use region_cut::{Class, Part};
+use slot_chain::Buf;
+use std::alloc::Global;
+use std::marker::Model;
+
+/// The slots at home of all classes, and what is known of all chunks that were claimed. There is a home for each of the 20 classes, also for those that the profile doesn't use.
+#[derive(Drop)]
+pub(crate) struct Homes<'r> {
+    owner: u16,
+    by_class: ByClass<'r>,
+}
+
+impl<'r> Model for Homes<'r> {
+    ghost use Rattle.std.specs.List.{flat_map};
+    ghost use Rattle.pool_desk.specs.ByClass.{HomesState, AreHomes, slots_at, drawn_at};
+
+    ghost Value = { HomesState };
+
+    ghost view = { λ h. record { owner = h.owner; slots = flat_map slots_at h.by_class.items; drawn = flat_map drawn_at h.by_class.items } };
+
+    ghost invariant = { λ h. AreHomes h.owner h.by_class.items };
+}
+
+impl<'r> Homes<'r> {
+    /// Nothing is at home.
+    pub(crate) fn new(owner: u16) -> Homes<'r>
+        requires { owner < 4096 }
+        ensures { result ≡ record { owner = owner; slots = []; drawn = [] } }
+    {
+        Homes {
+            owner,
+            by_class: empty_homes(owner),
+        }
+    }
+
+    /// Whether a slot of the class is there.
+    pub(crate) fn has(&self, class: Class) -> bool
+        ensures { IsTrue result ↔ HasClass class self.now.slots }
+    {
+        has_at(&self.by_class, class.number() as usize)
+    }
+
+    /// Takes a part for a class of which no slot is there.
+    pub(crate) fn claim(&mut self, part: Part<'r>, class: Class)
+        requires { HasClass class self.old.slots → ⊥ }
+        ensures same { self.new ≡ record self.old { slots = self.new.slots; drawn = self.new.drawn } }
+        ensures needed { LacksClass class self.old.slots }
+        ensures slots { IsPermutation (unused_from part.entry.chunk class part.entry.bytes.ghost_name (slots_of class) 0 part.entry.bytes.now ++ self.old.slots) self.new.slots }
+        ensures drawn { Draws part.entry class self.old.drawn self.new.drawn }
+    {
+        claim_at(&mut self.by_class, class.number() as usize, part);
+    }
+
+    /// Gives out a slot of the class: the one that came last, else the next that was never handed out.
+    pub(crate) fn alloc(&mut self, alloc: Global, class: Class) -> Result<Buf<'r>, DeskError>
+        ensures same { self.new ≡ record self.old { slots = self.new.slots; drawn = self.new.drawn } }
+        ensures value { MatchResult result
+            (λ b. GivesOne self.old.owner class self.old.slots b self.new.slots self.old.drawn self.new.drawn)
+            (λ e. IsWanting class self.old.slots e × (self.new ≡ self.old)) }
+    {
+        alloc_at(&mut self.by_class, class.number() as usize, alloc)
+    }
+
+    /// Takes an own buffer home.
+    pub(crate) fn keep(&mut self, buf: Buf<'r>)
+        requires { buf.owner ≡ self.old.owner }
+        ensures same { self.new ≡ record self.old { slots = self.new.slots } }
+        ensures slots { IsPermutation (Kept buf.entry ∷ self.old.slots) self.new.slots }
+    {
+        let class = buf.class();
+        keep_at(&mut self.by_class, class.number() as usize, buf);
+    }
+
+    /// The number of slots, or the greatest `u64` where that is less.
+    pub(crate) fn count(&self) -> u64
+        ensures { result ≡ capped (length self.now.slots) }
+    {
+        count_all(self.by_class.as_slice())
+    }
+}

@@ -1,0 +1,70 @@
+//! A desk that no worker holds.
+ghost use Rattle.std.specs.Prelude.{◌≡◌, ◌<◌, ◌≤◌, ◌^◌, [], length};
+ghost use Rattle.digit_route.specs.Digits.{Scheme};
+ghost use Rattle.slot_chain.specs.Counts.{capped};
+
+use crate::desk::Desk;
+use crate::homes::Homes;
+use digit_route::{Cache, Digits};
+use std::marker::Model;
+
+/// An allocator that no worker holds. Nothing is in its cache; its slots at home stay, for the worker that adopts it.
+#[derive(Drop)]
+pub struct IdleDesk<'r> {
+    pub(crate) homes: Homes<'r>,
+    pub(crate) cache: Cache<'r>,
+}
+
+impl<'r> Model for IdleDesk<'r> {
+    ghost use Rattle.std.specs.Prelude.{◌≡◌, []};
+    ghost use Rattle.pool_desk.specs.Desks.{IdleState};
+
+    ghost Value = { IdleState };
+
+    ghost view = { λ d. record { number = d.cache.number; digits = d.cache.digits; limit = d.cache.limit; home = d.homes.slots; drawn = d.homes.drawn } };
+
+    ghost invariant = { λ d. (d.homes.owner ≡ d.cache.number) × (d.cache.items ≡ []) };
+}
+
+impl<'r> IdleDesk<'r> {
+    /// A desk of this number with nothing at home. Owner numbers are read by `digits`, whose profile says which numbers and classes there are.
+    /// Its cache is due where it has more than `limit` bytes, at most a mebibyte.
+    pub fn new(number: u16, digits: Digits, limit: u64) -> IdleDesk<'r>
+        requires number { number < 2 ^ digits.bits }
+        requires limit { limit ≤ 1048576 }
+        ensures { result ≡ record { number = number; digits = digits; limit = limit; home = []; drawn = [] } }
+    {
+        let _profile = digits.profile();
+        IdleDesk {
+            homes: Homes::new(number),
+            cache: Cache::new(number, digits, limit),
+        }
+    }
+
+    /// Its number, by which its buffers name their owner.
+    pub fn number(&self) -> u16
+        ensures { result ≡ self.now.number }
+    {
+        self.cache.number()
+    }
+
+    /// The desk in the hands of a worker, whose number is kept and not looked at. All else stays.
+    pub fn adopt(self, worker: u32) -> Desk<'r>
+        ensures { let d = self.entry in result ≡ record { number = d.number; digits = d.digits; limit = d.limit; worker = worker; home = d.home; drawn = d.drawn; cached = [] } }
+    {
+        let IdleDesk { homes, cache } = self;
+        Desk {
+            worker,
+            homes,
+            cache,
+        }
+    }
+
+    /// The number of slots at home, and of buffers in the cache, which are none; each at most the greatest `u64`. Takes a walk over them.
+    pub fn counts(&self) -> (u64, u64)
+        ensures home { result.0 ≡ capped (length self.now.home) }
+        ensures cached { result.1 ≡ 0 }
+    {
+        (self.homes.count(), 0)
+    }
+}
