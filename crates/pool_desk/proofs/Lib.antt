@@ -2,3 +2,4 @@ pub mod ByClassLaws
 pub mod DeskLaws
 pub mod HandleLaws
 pub mod HomeLaws
+pub mod ListedLaws

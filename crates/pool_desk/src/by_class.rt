@@ -1,19 +1,20 @@
 //! The homes of the classes, in order.
-ghost use Rattle.std.specs.Prelude.{◌≡◌, ◌≢◌, ℕ, ◌<◌, ◌≤◌, ◌↔◌, [], ◌∷◌, ◌++◌, All, IsTrue, IsPermutation, MatchResult, length, slice_index_or, slice_set};
+ghost use Rattle.std.specs.Prelude.{◌≡◌, ◌≢◌, ℕ, ◌<◌, ◌≤◌, ◌↔◌, [], ◌∷◌, ◌++◌, All, IsTrue, IsPermutation, MatchResult, length, map, slice_index_or, slice_set};
 ghost use Rattle.arrayvec.specs.ArrayVec.{array_vec_len};
 ghost use Rattle.slot_chain.specs.Buffer.{Buffer};
 ghost use Rattle.region_cut.specs.Classes.{class_count, slots_of};
-ghost use Rattle.pool_desk.specs.Homes.{AtHome, HomeState, IsAtHome, GivesOne, IsRefused, Draws, unused_from};
+ghost use Rattle.pool_desk.specs.Homes.{AtHome, HomeState, IsAtHome, GivesOne, IsRefused, Draws, slot_at, unused_from};
 ghost use Rattle.pool_desk.specs.Homes.AtHome.{Kept};
 ghost use Rattle.pool_desk.specs.ByClass.{empties, home_at, slots_at};
 ghost use Rattle.std.specs.List.{flat_map};
 ghost use Rattle.slot_chain.specs.Counts.{capped};
+ghost use Rattle.pool_desk.specs.Listed.{AddsOn};
 
 use crate::DeskError;
 use crate::home::Home;
 use arrayvec::ArrayVec;
-use region_cut::{Class, Part};
-use slot_chain::Buf;
+use region_cut::{Class, Part, Slot};
+use slot_chain::{Buf, NoMemory};
 use std::alloc::Global;
 
 pub(crate) type ByClass<'r> = ArrayVec<Home<'r>, 20>;
@@ -87,4 +88,14 @@ pub(crate) fn count_all(homes: &[Home<'_>]) -> u64
         total = total.saturating_add(home.count());
     }
     total
+}
+
+/// Adds the slots. Where memory is refused some of them are added.
+pub(crate) fn add_all(homes: &[Home<'_>], slots: &mut Vec<Slot>) -> Result<(), NoMemory>
+    ensures { AddsOn result (map slot_at (flat_map slots_at homes.now)) slots.old.items slots.new.items }
+{
+    for home in homes {
+        home.add_slots(slots)?;
+    }
+    Ok(())
 }

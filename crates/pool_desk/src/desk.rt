@@ -1,19 +1,20 @@
 //! A desk that a worker holds.
-ghost use Rattle.std.specs.Prelude.{◌≡◌, ◌≢◌, ◌<◌, ◌^◌, ◌↔◌, [], ◌++◌, length, IsTrue, IsPermutation, Some, None, MatchBool, MatchOption, MatchResult};
+ghost use Rattle.std.specs.Prelude.{◌≡◌, ◌≢◌, ◌<◌, ◌^◌, ◌↔◌, [], ◌++◌, length, IsTrue, IsPermutation, Some, None, MatchBool, MatchOption, MatchResult, OnOk, OnErr};
 ghost use Rattle.region_cut.specs.Classes.{classes_of};
 ghost use Rattle.slot_chain.specs.Counts.{capped};
 ghost use Rattle.digit_route.specs.Route.{RouteFault};
 ghost use Rattle.digit_route.specs.States.{Gives};
 ghost use Rattle.pool_desk.specs.ByClass.{HasClass};
 ghost use Rattle.pool_desk.specs.Desks.{profile_at};
+ghost use Rattle.pool_desk.specs.Listed.{Adds, slots_in};
 ghost use Rattle.pool_desk.specs.Steps.{Claims, NotNeededFor, Allocs, Frees, Handles, Counted};
 ghost use Rattle.pool_desk.specs.Handling.{IsPassed, GoesHome, GoesOn};
 
 use crate::homes::Homes;
 use crate::{Counts, DeskError, DeskPosting, Freed, IdleDesk};
 use digit_route::{Batch, Cache, Digits, RouteError};
-use region_cut::{Class, Part};
-use slot_chain::Buf;
+use region_cut::{Class, Part, Slot};
+use slot_chain::{Buf, NoMemory};
 use std::alloc::Global;
 use std::marker::Model;
 
@@ -231,5 +232,18 @@ impl<'r> Desk<'r> {
         ensures cached { result.1 ≡ capped (length self.now.cached) }
     {
         (self.homes.count(), self.cache.len())
+    }
+
+    /// Adds the slots at home and in the cache to the end of `slots`, each as often as it is there, in no order. Where memory for that is refused, `slots` is as before.
+    pub fn list_slots(&self, slots: &mut Vec<Slot>) -> Result<(), NoMemory>
+        ensures ok { OnOk result (Adds (slots_in self.now.home self.now.cached) slots.old.items slots.new.items) }
+        ensures err { OnErr result (slots.new.items ≡ slots.old.items) }
+    {
+        let start = slots.len();
+        if self.homes.add_slots(slots).is_ok() && self.cache.list_slots(slots).is_ok() {
+            return Ok(());
+        }
+        slots.truncate(start);
+        Err(NoMemory)
     }
 }

@@ -1,13 +1,15 @@
 //! The slots at home of one class.
 ghost use Rattle.std.specs.Prelude.{◌≡◌, ◌≢◌, ℕ, ◌<◌, ◌≤◌, ◌↔◌, [], ◌∷◌, ◌++◌, All, IsTrue, IsPermutation, MatchResult, OnOk, OnErr, length, min, ◌^◌, ◌-◌, map};
 ghost use Rattle.slot_chain.specs.Buffer.{Buffer};
-ghost use Rattle.pool_desk.specs.Homes.{AtHome, IsAtHome, GivesOne, IsRefused, Draws, unused_from};
+ghost use Rattle.pool_desk.specs.Homes.{AtHome, IsAtHome, GivesOne, IsRefused, Draws, slot_at, unused_from};
 ghost use Rattle.pool_desk.specs.Homes.AtHome.{Kept};
 ghost use Rattle.region_cut.specs.Classes.{slots_of};
+ghost use Rattle.pool_desk.specs.Listed.{AddsOn};
 
 use crate::DeskError;
-use region_cut::{Bump, Class, Part, Ties};
-use slot_chain::{Buf, Chain, Room};
+use crate::listing::{add_chain, add_unused};
+use region_cut::{Bump, Class, Part, Slot, Ties};
+use slot_chain::{Buf, Chain, NoMemory, Room};
 use std::alloc::Global;
 use std::marker::Model;
 
@@ -127,5 +129,16 @@ impl<'r> Home<'r> {
             Some(bump) => bump.left() as u64,
         };
         self.list.len().saturating_add(left)
+    }
+
+    /// Adds the slots. Where memory is refused some of them are added.
+    pub(crate) fn add_slots(&self, slots: &mut Vec<Slot>) -> Result<(), NoMemory>
+        ensures { AddsOn result (map slot_at self.now.slots) slots.old.items slots.new.items }
+    {
+        add_chain(&self.list, slots)?;
+        match &self.bump {
+            None => Ok(()),
+            Some(bump) => add_unused(bump, slots),
+        }
     }
 }

@@ -1,15 +1,16 @@
 //! All slots at home of one owner.
-ghost use Rattle.std.specs.Prelude.{◌≡◌, ◌≢◌, ◌<◌, ◌↔◌, [], ◌∷◌, ◌++◌, IsTrue, IsPermutation, MatchResult, length};
+ghost use Rattle.std.specs.Prelude.{◌≡◌, ◌≢◌, ◌<◌, ◌↔◌, [], ◌∷◌, ◌++◌, IsTrue, IsPermutation, MatchResult, length, map};
 ghost use Rattle.region_cut.specs.Classes.{slots_of};
 ghost use Rattle.slot_chain.specs.Counts.{capped};
-ghost use Rattle.pool_desk.specs.Homes.{Draws, GivesOne, unused_from};
+ghost use Rattle.pool_desk.specs.Homes.{Draws, GivesOne, slot_at, unused_from};
 ghost use Rattle.pool_desk.specs.Homes.AtHome.{Kept};
+ghost use Rattle.pool_desk.specs.Listed.{AddsOn};
 ghost use Rattle.pool_desk.specs.ByClass.{HasClass, LacksClass, IsWanting};
 
 use crate::DeskError;
-use crate::by_class::{ByClass, alloc_at, claim_at, count_all, empty_homes, has_at, keep_at};
-use region_cut::{Class, Part};
-use slot_chain::Buf;
+use crate::by_class::{ByClass, add_all, alloc_at, claim_at, count_all, empty_homes, has_at, keep_at};
+use region_cut::{Class, Part, Slot};
+use slot_chain::{Buf, NoMemory};
 use std::alloc::Global;
 use std::marker::Model;
 
@@ -86,5 +87,12 @@ impl<'r> Homes<'r> {
         ensures { result ≡ capped (length self.now.slots) }
     {
         count_all(self.by_class.as_slice())
+    }
+
+    /// Adds the slots. Where memory is refused some of them are added.
+    pub(crate) fn add_slots(&self, slots: &mut Vec<Slot>) -> Result<(), NoMemory>
+        ensures { AddsOn result (map slot_at self.now.slots) slots.old.items slots.new.items }
+    {
+        add_all(self.by_class.as_slice(), slots)
     }
 }

@@ -1,11 +1,14 @@
 //! A desk that no worker holds.
-ghost use Rattle.std.specs.Prelude.{◌≡◌, ◌<◌, ◌≤◌, ◌^◌, [], length};
+ghost use Rattle.std.specs.Prelude.{◌≡◌, ◌<◌, ◌≤◌, ◌^◌, [], length, OnOk, OnErr};
 ghost use Rattle.digit_route.specs.Digits.{Scheme};
 ghost use Rattle.slot_chain.specs.Counts.{capped};
+ghost use Rattle.pool_desk.specs.Listed.{Adds, slots_in};
 
 use crate::desk::Desk;
 use crate::homes::Homes;
 use digit_route::{Cache, Digits};
+use region_cut::Slot;
+use slot_chain::NoMemory;
 use std::marker::Model;
 
 /// An allocator that no worker holds. Nothing is in its cache; its slots at home stay, for the worker that adopts it.
@@ -66,5 +69,18 @@ impl<'r> IdleDesk<'r> {
         ensures cached { result.1 ≡ 0 }
     {
         (self.homes.count(), 0)
+    }
+
+    /// Adds the slots at home to the end of `slots`, each as often as it is there, in no order. Where memory for that is refused, `slots` is as before.
+    pub fn list_slots(&self, slots: &mut Vec<Slot>) -> Result<(), NoMemory>
+        ensures ok { OnOk result (Adds (slots_in self.now.home []) slots.old.items slots.new.items) }
+        ensures err { OnErr result (slots.new.items ≡ slots.old.items) }
+    {
+        let start = slots.len();
+        if self.homes.add_slots(slots).is_ok() {
+            return Ok(());
+        }
+        slots.truncate(start);
+        Err(NoMemory)
     }
 }

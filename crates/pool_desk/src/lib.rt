@@ -13,6 +13,7 @@ mod freed;
 mod home;
 mod homes;
 mod idle;
+mod listing;
 mod posting;
 
 pub use counts::Counts;
