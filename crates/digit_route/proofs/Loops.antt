@@ -1,5 +1,5 @@
 -- What the loops of this crate keep.
-use Rattle.std.specs.Prelude.{◌≡◌, ◌≢◌, ℕ, ◌+◌, ◌-◌, ◌^◌, ◌<◌, ◌≤◌, ◌++◌, List, [], Bool, length, min, reverse, map, All, Any, MatchBool, IsPermutation}
+use Rattle.std.specs.Prelude.{◌≡◌, ◌≢◌, ℕ, ◌-◌, ◌^◌, ◌<◌, ◌≤◌, ◌++◌, List, Bool, length, min, reverse, map, All, Any, MatchBool, IsPermutation}
 use Rattle.std.specs.List.{flat_map}
 use Rattle.region_cut.specs.declared.slot.Slot.{Slot}
 use Rattle.slot_chain.specs.Buffer.{Buffer}
@@ -57,9 +57,10 @@ pub record Turns (old new : PostingState) : Type 0 where
   pub counted : all_moves old < 2 ^ 64 → all_moves new ≡ all_moves old
 
 -- a loop that gives batches of desk a away, until nothing is left of the items
-pub record Posted (s : Scheme) (a : ℕ) (items : List Buffer) (old given : List BatchState) (left : PostingState) : Type 0 where
+pub record Posted (s : Scheme) (a limit : ℕ) (items : List Buffer) (old given : List BatchState) (left : PostingState) : Type 0 where
   pub number : left.number ≡ a
   pub digits : left.digits ≡ s
+  pub limited : left.limit ≡ limit
   pub added : List BatchState
   pub appended : given ≡ old ++ added
   pub together : IsPermutation items (buffers_of added ++ left.items)

@@ -1,4 +1,4 @@
--- What is posted when a cache is posted to the end.
+-- What a posting to the end gives away.
 use Rattle.std.specs.Prelude.{◌≡◌, ℕ, ◌++◌, List, All, IsPermutation, sum_by}
 use Rattle.std.specs.List.{flat_map}
 use Rattle.slot_chain.specs.Buffer.{Buffer}
@@ -16,11 +16,11 @@ pub record IsFrom (s : Scheme) (a : ℕ) (b : BatchState) : Type 0 where
 abbrev pub buffers_of : List BatchState → List Buffer
 buffers_of bs = flat_map (λ (b : BatchState). b.items) bs
 
--- batches of a were given that have all of the buffers together, each as often as it is there
-pub record GivesAll (s : Scheme) (a : ℕ) (items : List Buffer) (old new : List BatchState) : Type 0 where
+-- batches of a were given that have, together with what is left, each buffer as often as it is there
+pub record Posts (s : Scheme) (a : ℕ) (items : List Buffer) (old new : List BatchState) (left : List Buffer) : Type 0 where
   pub added : List BatchState
   pub appended : new ≡ old ++ added
-  pub together : IsPermutation items (buffers_of added)
+  pub together : IsPermutation items (buffers_of added ++ left)
   pub routed : All (IsFrom s a) added
 
 -- how many digits the owners share with a, all buffers together

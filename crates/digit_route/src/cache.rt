@@ -1,18 +1,17 @@
 //! The cache of a desk.
-ghost use Rattle.std.specs.Prelude.{◌≡◌, ◌-◌, ◌*◌, ◌^◌, ◌<◌, ◌≤◌, ◌↔◌, [], ◌∷◌, ◌++◌, length, All, Some, None, MatchOption, MatchResult, IsTrue, IsPermutation, OnOk, OnErr};
+ghost use Rattle.std.specs.Prelude.{◌≡◌, ◌-◌, ◌*◌, ◌^◌, ◌<◌, ◌≤◌, ◌↔◌, ◌⊎◌, [], ◌∷◌, ◌++◌, length, All, Some, None, MatchOption, MatchResult, IsTrue, IsPermutation, OnOk, OnErr};
 ghost use Rattle.slot_chain.specs.Counts.{capped, sizes};
 ghost use Rattle.digit_route.specs.Digits.{Scheme, IsScheme, count};
-ghost use Rattle.digit_route.specs.Posts.{GivesAll, shared};
+ghost use Rattle.digit_route.specs.Posts.{Posts, shared};
 ghost use Rattle.digit_route.specs.Route.{IsCached, RouteFault};
 ghost use Rattle.digit_route.specs.Slots.{AddsSlots};
-ghost use Rattle.digit_route.specs.States.{Gives};
+ghost use Rattle.digit_route.specs.States.{BatchState, Gives};
 
 use crate::counter::bytes_left;
 use crate::row::Row;
 use crate::{Batch, BatchSink, Digits, Posting, RouteError};
 use region_cut::Slot;
-use slot_chain::Buf;
-use std::alloc::AllocError;
+use slot_chain::{Buf, NoMemory};
 use std::marker::Model;
 use std::mem;
 
@@ -118,7 +117,7 @@ impl<'r> Cache<'r> {
     /// Adds the slot of each buffer to the end of `slots`, each as often as it is there.
     ///
     /// An error says that `slots` could not grow. It then has what it had before.
-    pub fn list_slots(&self, slots: &mut Vec<Slot>) -> Result<(), AllocError>
+    pub fn list_slots(&self, slots: &mut Vec<Slot>) -> Result<(), NoMemory>
         ensures ok { OnOk result (AddsSlots self.now.items slots.old.items slots.new.items) }
         ensures err { OnErr result (slots.new.items ≡ slots.old.items) }
     {
@@ -163,7 +162,7 @@ impl<'r> Cache<'r> {
         ensures same { self.new ≡ record self.old { items = self.new.items } }
         ensures value { MatchResult result
             (λ b. RouteFault self.old.digits self.old.number t self.old.items None × (b.address ≡ t)
-                × Gives self.old.digits self.old.number self.old.items b self.new.items)
+            × Gives self.old.digits self.old.number self.old.items b self.new.items)
             (λ e. RouteFault self.old.digits self.old.number t self.old.items (Some e) × (self.new ≡ self.old)) }
     {
         match self.fault_for(t) {
@@ -210,22 +209,28 @@ impl<'r> Cache<'r> {
         Posting::new(row, limit)
     }
 
-    /// Posts the whole cache: gives all its buffers to `sink`, batch by batch, and says how often a buffer was moved
-    /// from one round's row into the next on the way.
+    /// Posts the cache until it is empty or `sink` refuses a batch. Gives the cache of what is left, and how often a
+    /// buffer was moved from one round's row into the next, or the greatest `u64` where that is less.
     ///
     /// Each buffer is moved once for each digit that its owner shares with the desk, so less often than a number has
-    /// digits. (The count stops at the greatest `u64`.)
-    pub fn post_all<S: BatchSink<'r>>(self, sink: &mut S) -> u64
-        ensures given { GivesAll self.entry.digits self.entry.number self.entry.items (S.given sink.old) (S.given sink.new) }
-        ensures moves { shared self.entry.digits self.entry.number self.entry.items < 2 ^ 64
-            → result ≡ shared self.entry.digits self.entry.number self.entry.items }
-        ensures few { result ≤ (count self.entry.digits - 1) * length self.entry.items }
+    /// digits.
+    pub fn post_all<S: BatchSink<'r>>(self, sink: &mut S) -> (Cache<'r>, u64)
+        ensures same { result.0 ≡ record self.entry { items = result.0.items } }
+        ensures posts { Posts self.entry.digits self.entry.number self.entry.items (S.given sink.old) (S.given sink.new) result.0.items }
+        ensures stops { (result.0.items ≡ []) ⊎ (b : BatchState) × S.refuses sink.new b }
+        ensures moves { result.0.items ≡ [] → shared self.entry.digits self.entry.number self.entry.items < 2 ^ 64
+            → result.1 ≡ shared self.entry.digits self.entry.number self.entry.items }
+        ensures few { result.1 ≤ (count self.entry.digits - 1) * length self.entry.items }
     {
         let _known = self.number();
         let mut posting = self.posting();
         while let Some(batch) = posting.next_batch() {
-            sink.give(batch);
+            if let Err(refused) = sink.give(batch) {
+                let moves = posting.moves();
+                return (posting.put_back(refused), moves);
+            }
         }
-        posting.moves()
+        let moves = posting.moves();
+        (posting.end(), moves)
     }
 }

@@ -8,8 +8,7 @@ ghost use Rattle.digit_route.specs.Slots.{AddsSlots};
 use crate::walks;
 use arrayvec::ArrayVec;
 use region_cut::Slot;
-use slot_chain::{Buf, Chain};
-use std::alloc::AllocError;
+use slot_chain::{Buf, Chain, NoMemory};
 use std::mem;
 
 /// The chain at `k` is for the value `k` of a digit. A digit has at most 64 values.
@@ -96,7 +95,7 @@ pub fn bytes(chains: &[Chain<'_>]) -> u64
 }
 
 /// Adds the slots of all buffers, or none.
-pub fn list_slots(chains: &[Chain<'_>], slots: &mut Vec<Slot>) -> Result<(), AllocError>
+pub fn list_slots(chains: &[Chain<'_>], slots: &mut Vec<Slot>) -> Result<(), NoMemory>
     ensures ok { OnOk result (AddsSlots (flat_map (λ x. x) chains.now) slots.old.items slots.new.items) }
     ensures err { OnErr result (slots.new.items ≡ slots.old.items) }
 {

@@ -7,13 +7,14 @@ ghost use Rattle.digit_route.specs.Route.{RouteFault, TakesBucket};
 ghost use Rattle.digit_route.specs.Rows.{IsLeft, Keeps};
 ghost use Rattle.digit_route.specs.Slots.{AddsSlots};
 
-use crate::chains::{Chains, all_empty, bytes, empty_chains, find_other, len, list_slots, push_at, set_at, take_at};
+use crate::chains::{
+    Chains, all_empty, bytes, empty_chains, find_other, len, list_slots, push_at, set_at, take_at,
+};
 use crate::moves::{scatter, scatter_all, split};
 use crate::walks::fault_in;
 use crate::{Digits, RouteError};
 use region_cut::Slot;
-use slot_chain::{Buf, Chain};
-use std::alloc::AllocError;
+use slot_chain::{Buf, Chain, NoMemory};
 use std::marker::Model;
 
 /// Buffers of other desks that share the digits below `round` with the desk `number`, each in the chain of its
@@ -97,7 +98,7 @@ impl<'r> Row<'r> {
     }
 
     /// Adds the slots of all buffers, or none.
-    pub fn list_slots(&self, slots: &mut Vec<Slot>) -> Result<(), AllocError>
+    pub fn list_slots(&self, slots: &mut Vec<Slot>) -> Result<(), NoMemory>
         ensures ok { OnOk result (AddsSlots self.now.items slots.old.items slots.new.items) }
         ensures err { OnErr result (slots.new.items ≡ slots.old.items) }
     {
@@ -132,7 +133,12 @@ impl<'r> Row<'r> {
             return Some(RouteError::ToSelf);
         }
         let k = self.digits.digit(t, 0);
-        fault_in(&self.chains.as_slice()[k as usize], self.digits, self.number, t)
+        fault_in(
+            &self.chains.as_slice()[k as usize],
+            self.digits,
+            self.number,
+            t,
+        )
     }
 
     /// Takes out the bucket for `t`.
@@ -157,7 +163,7 @@ impl<'r> Row<'r> {
             MatchOption result
             (All (λ (b : Buffer). digit self.now.digits b.owner self.now.round ≡ own) self.now.items)
             (λ k. (k < 2 ^ self.now.digits.width) × (k ≢ own)
-                × Any (λ (b : Buffer). digit self.now.digits b.owner self.now.round ≡ k) self.now.items) }
+            × Any (λ (b : Buffer). digit self.now.digits b.owner self.now.round ≡ k) self.now.items) }
     {
         let own = self.digits.digit(self.number, self.round);
         match find_other(self.chains.as_slice(), own as usize) {

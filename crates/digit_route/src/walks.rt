@@ -7,8 +7,7 @@ ghost use Rattle.digit_route.specs.Slots.{slot_of};
 
 use crate::{Digits, RouteError};
 use region_cut::Slot;
-use slot_chain::Chain;
-use std::alloc::AllocError;
+use slot_chain::{Chain, NoMemory};
 
 /// The owner of some buffer of the chain.
 pub fn some_owner(chain: &Chain<'_>) -> u16
@@ -28,8 +27,7 @@ pub fn fault_in(chain: &Chain<'_>, digits: Digits, a: u16, t: u16) -> Option<Rou
 {
     let near = digits.common(a, t);
     let mut found = false;
-    let mut rest = chain.walk();
-    while let Some(tag) = rest.next() {
+    for tag in chain.walk() {
         if digits.common(tag.owner, t) > near {
             if tag.owner == t {
                 return None;
@@ -45,16 +43,15 @@ pub fn fault_in(chain: &Chain<'_>, digits: Digits, a: u16, t: u16) -> Option<Rou
 }
 
 /// Adds the slots of the chain, the last buffer's first, or none.
-pub fn list_slots(chain: &Chain<'_>, slots: &mut Vec<Slot>) -> Result<(), AllocError>
+pub fn list_slots(chain: &Chain<'_>, slots: &mut Vec<Slot>) -> Result<(), NoMemory>
     ensures ok { OnOk result (slots.new.items ≡ slots.old.items ++ reverse (map slot_of chain.now)) }
     ensures err { OnErr result (slots.new.items ≡ slots.old.items) }
 {
     let start = slots.len();
-    let mut rest = chain.walk();
-    while let Some(tag) = rest.next() {
+    for tag in chain.walk() {
         if slots.push(tag.slot).is_err() {
             slots.truncate(start);
-            return Err(AllocError);
+            return Err(NoMemory);
         }
     }
     Ok(())

@@ -1,4 +1,4 @@
-use Rattle.std.proofs.Common.{rules, ◌≡◌, ◌<◌, ◌^◌, ◌++◌, length, arith, sym, ap, ◌∙◌}
+use Rattle.std.proofs.Common.{rules, ◌≡◌, ◌<◌, length, arith, sym}
 use Rattle.digit_route.specs.Digits.{digit}
 use Rattle.digit_route.proofs.RowLaws.{Scatters-step}
 use Rattle.digit_route.proofs.moves.scatter.Goals as goal

@@ -1,7 +1,4 @@
-use Rattle.std.proofs.Common.{◌≡◌, ℕ, ◌+◌, ◌-◌, ◌^◌, ◌<◌, ◌≤◌, ◌++◌, [], min, length, IsPermutation}
-use Rattle.std.specs.List.{flat_map}
-use Rattle.arrayvec.specs.ArrayVec.{array_vec_len}
-use Rattle.digit_route.specs.Rows.{IsByDigit}
+use Rattle.std.proofs.Common.{length}
 use Rattle.digit_route.proofs.Loops.{Scatters}
 use Rattle.digit_route.proofs.moves.scatter.Given as goal
 

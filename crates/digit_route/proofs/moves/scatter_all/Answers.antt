@@ -1,4 +1,3 @@
-use Rattle.std.proofs.Common.{rules, ◌≡◌, ◌∙◌, sym}
 use Rattle.digit_route.proofs.MoveLaws.{Pours-step}
 use Rattle.digit_route.proofs.moves.scatter_all.Goals as goal
 

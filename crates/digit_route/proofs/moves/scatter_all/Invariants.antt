@@ -1,4 +1,3 @@
-use Rattle.std.proofs.Common.{◌-◌}
 use Rattle.arrayvec.specs.ArrayVec.{array_vec_len}
 use Rattle.digit_route.proofs.Loops.{Pours}
 use Rattle.digit_route.proofs.moves.scatter_all.Given as goal

@@ -1,6 +1,6 @@
-use Rattle.std.proofs.Common.{rules, ◌≡◌, ◌<◌, ◌≤◌, arith, sym, ap, ◌∙◌, List, []}
+use Rattle.std.proofs.Common.{◌≡◌}
 use Rattle.digit_route.specs.Digits.{common}
-use Rattle.digit_route.proofs.MoveLaws.{Parts-taken, Parts-kept, Parts-start, Splits-from}
+use Rattle.digit_route.proofs.MoveLaws.{Parts-taken, Parts-kept, Parts-start}
 use Rattle.digit_route.proofs.moves.split.Goals as goal
 
 pub loop-item-init : goal.loop-item-init
