@@ -122,7 +122,8 @@ impl<'r> Desk<'r> {
         requires { buf.owner ≢ self.old.number → IsPassed self.old.digits self.old.number buf }
         ensures { MatchBool result (GoesHome self.old buf.entry self.new) (GoesOn self.old buf.entry self.new) }
     {
-        if buf.owner() == self.cache.number() {
+        let number = self.cache.number();
+        if buf.owner() == number {
             self.homes.keep(buf);
             return true;
         }

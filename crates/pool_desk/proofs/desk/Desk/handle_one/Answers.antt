@@ -8,7 +8,7 @@ use Rattle.pool_desk.proofs.desk.Desk.handle_one.Goals as goal
 
 pub overflow_add-forwards : goal.overflow_add-forwards
 overflow_add-forwards c =
-    let other : c.args.buf.owner ≢ c.args.self.now.number = λ e. c.if-owner-number.false (c.owner.ensures.value ∙ (e ∙ sym (c.number.ensures.value ∙ ap (λ (d : DeskState). d.number) c.self.view_is))) in
+    let other : c.args.buf.owner ≢ c.args.self.now.number = λ e. c.if-owner-number.false (c.owner.ensures.value ∙ (e ∙ sym (c.number-number.ensures.value ∙ ap (λ (d : DeskState). d.number) c.self.view_is))) in
     let one : IsPassed c.args.self.now.digits c.args.self.now.number c.args.buf = c.requires other in
     let below = one.forwards in
     let within = common-le c.args.self.now.digits c.args.buf.owner c.args.self.now.number in
@@ -21,6 +21,6 @@ overflow_add-forwards c =
 
 pub returns : goal.returns
 returns c =
-    let other : c.args.buf.owner ≢ c.self.inside.cache.number = λ e. c.if-owner-number.false (c.owner.ensures.value ∙ (e ∙ sym c.number.ensures.value)) in
+    let other : c.args.buf.owner ≢ c.self.inside.cache.number = λ e. c.if-owner-number.false (c.owner.ensures.value ∙ (e ∙ sym c.number-number.ensures.value)) in
     let put = rw (c.set_forwards.ensures, c.forwards-forwards.ensures) at c.put.ensures.items in
     rw (← c.self.view_is) (goes_on _ c.args.buf c.put.new.self other c.put.ensures.same put)
