@@ -25,7 +25,7 @@ let_go_spec 𝓤 𝓛 𝓜 𝓡 wired =
     let y : (walk_of 𝓛 f.ended stayed c).Ghost = ((κs, qs, bounds, a, (mut_vals t, (mut_vals i, (mut_slice_vals s, tt)))), tt) in
     let v : List ℕ = h.settled ++ s.now in
     qed 𝓛 (((‵ (flft κ q) ⊛ ‵ (flft κ' q') ⊛ ‵ (flft κ'' q'') ⊛ ‵ ftrue) ⊛ ‵ ((MutRef (named 0) κ T.the_row).own_val t (mut_vals t)) ⊛ ‵ ((MutRef (named 1) κ' T.the_row).own_val i (mut_vals i)) ⊛ ‵ ((MutSlice (named 2) κ'' u8).own_val s (mut_slice_vals s)) ⊛ ‵ ftrue) ∷
-      (raw (fact 𝓤 (h.taken ≡ [])) ⊛ raw (fact 𝓤 (h.rest ≡ s.ghost_name)) ⊛ raw (fact 𝓤 ((more : List GName) × (d.taken ≡ h.whole ∷ more)))) ∷ []) ∵
+    (raw (fact 𝓤 (h.taken ≡ [])) ⊛ raw (fact 𝓤 (h.rest ≡ s.ghost_name)) ⊛ raw (fact 𝓤 ((more : List GName) × (d.taken ≡ h.whole ∷ more)))) ∷ []) ∵
     move ! (1 ∷ []) $ split3 ! $ heard ! _ (λ all_settled. heard ! _ (λ tied. heard ! _ (λ first.
     let xs : List GName = first.0 in
     let d' : Tie = record { whole = d.whole; settled = d.settled ++ v; taken = xs; rest = d.rest } in
