@@ -2,7 +2,9 @@
 #![tactic(auto)]
 
 mod callers;
+mod marks;
 #[cfg(test)]
 mod tests;
 
 pub use callers::{cleared, count, may_cross_threads};
+pub use marks::{mark, marked_byte};

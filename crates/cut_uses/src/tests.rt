@@ -1,3 +1,4 @@
+use crate::mark;
 use region_cut::{CHUNK, Class, CutError, Profile, Slot, class_for, cut};
 use std::test::Fail;
 
@@ -132,4 +133,31 @@ fn a_region_of_1025_chunks_is_refused(rt: HostRuntime) -> Result<(), Fail> {
     );
     assert!(rt; region.iter().all(|byte| *byte == 7));
     Ok(())
+}
+
+// With memory, and without: `rt try --test --fail-alloc 1` refuses it.
+#[test]
+fn a_cut_writes_no_byte(rt: HostRuntime) {
+    let mut region = [7u8; 5000];
+    let refusal = cut(rt.alloc(), &mut region).err();
+    assert!(rt; refusal.is_none() || refusal == Some(CutError::NoMemory));
+    assert!(rt; region.iter().all(|byte| *byte == 7));
+}
+
+#[test]
+fn a_region_without_a_chunk_takes_no_memory(rt: HostRuntime) {
+    let mut region = [7u8; 4095];
+    assert_eq!(rt;
+        cut(rt.alloc(), &mut region).map(|parts| parts.len()),
+        Ok(0)
+    );
+}
+
+#[test]
+fn a_mark_changes_one_byte(rt: HostRuntime) {
+    let mut region = [7u8; 5000];
+    mark(rt.alloc(), &mut region, 9);
+    for (at, byte) in region.iter().copied().enumerate() {
+        assert_eq!(rt; byte, if at == 64 { 9 } else { 7 }, "byte {at}");
+    }
 }

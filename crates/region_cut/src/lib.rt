@@ -25,8 +25,9 @@ pub use class::{Class, SIZES};
 pub use error::CutError;
 pub use part::{Bump, Part, Piece};
 pub use profile::{Profile, class_for};
-pub use region::cut;
+pub use region::{cut, cut_with_front};
 pub use slot::Slot;
+pub use tie::Front;
 pub use ties::Ties;
 
 /// The bytes of a chunk.

@@ -20,6 +20,7 @@ unsafe impl Send for Ties {}
 
 // The fact of the token moves over, and the token is left with one that says nothing.
 pub(crate) fn gather(ties: &mut Ties, tie: &mut Tie, chunk: u16, class: u32)
+    requires { tie.old.settled ≡ [] }
     ensures { ties.new.all ≡ record { chunk = chunk; class = class; whole = tie.old.whole; taken = tie.old.taken; rest = tie.old.rest } ∷ ties.old.all }
 {
 }

@@ -1,8 +1,8 @@
 -- The fact of the token moves over, and a token that says nothing is left.
-use Rattle.region_cut.proofs.Steps.{[], ◌∷◌, ◌≡◌, List, refl, proved, emp, fact, fact_i, flft, ftrue, named, Val, vunit, raw, ‵, ◌⊛◌, ◌$◌, ◌∵◌, !, qed, done, move, keep, use0, split, split3, join, fsplit, fsplit3, feq_i, fjoin, fjoin3, suffices, enter, of_opd, unit_lit, returns, alloc_all, pass_all, free_all, look_at, sets, nothing, MutRef, mut_vals, mut_Tells, plain, Stays, stay_ref, stay_dropped, Goes-ref, Goes-dropped, uint_vals, uint_Tells, yes, vint, walk_of, ends_at, opens, closes}
+use Rattle.region_cut.proofs.Steps.{[], ◌∷◌, ◌≡◌, List, refl, proved, emp, fact, fact_i, flft, ftrue, named, Val, vunit, raw, ‵, ◌⊛◌, ◌$◌, ◌∵◌, !, qed, done, move, keep, use0, split, split3, join, fsplit, fsplit3, feq_i, fjoin, fjoin3, suffices, enter, of_opd, unit_lit, returns, alloc_all, pass_all, free_all, look_at, sets, nothing, heard, rewrite, ℕ, MutRef, mut_vals, mut_Tells, plain, Stays, stay_ref, stay_dropped, Goes-ref, Goes-dropped, uint_vals, uint_Tells, yes, vint, walk_of, ends_at, opens, closes}
 use mir.Syntax.{w16, w32}
 use denote.Builtin.{u16, u32}
-use Rattle.region_cut.specs.Joins.{joins}
+use Rattle.region_cut.specs.Joins.{joins, joins_after}
 use Rattle.region_cut.specs.Carved.{Carved, all_joined}
 use Rattle.region_cut.proofs.Joined.{begins}
 use Rattle.region_cut.specs.declared.tie.Tie.{Tie}
@@ -30,17 +30,18 @@ gather_spec 𝓤 𝓛 𝓜 𝓡 wired =
     let fits_chunk : _ = are.1.1.0.1 in let fits_class : _ = are.1.1.1.0.1 in
     let one : Carved = record { chunk = chunk; class = class; whole = d.whole; taken = d.taken; rest = d.rest } in
     let ts' : Ties = record { all = one ∷ ts.all } in
-    let d' : Tie = record { whole = d.whole; taken = []; rest = d.whole } in
+    let d' : Tie = record { whole = d.whole; settled = []; taken = []; rest = d.whole } in
     let y : (walk_of 𝓛 f.ended stayed c).Ghost = ((κs, qs, bounds, a, (mut_vals t, (mut_vals s, (vint w16 chunk ∷ [], (vint w32 class ∷ [], tt))))), tt) in
-    qed 𝓛 (((‵ (flft κ q) ⊛ ‵ (flft κ' q') ⊛ ‵ ftrue) ⊛ ‵ ((MutRef (named 0) κ TS.the_row).own_val t (mut_vals t)) ⊛ ‵ ((MutRef (named 1) κ' T.the_row).own_val s (mut_vals s)) ⊛ ‵ (u16.own_val chunk (vint w16 chunk ∷ [])) ⊛ ‵ (u32.own_val class (vint w32 class ∷ [])) ⊛ ‵ ftrue) ∷ ‵ ftrue ∷ []) ∵
-    split ! $ split3 ! $ move ! (3 ∷ []) $ split3 ! $
-    -- [the ties; the tie; the numbers and nothing; token; token'; nothing; nothing]
+    qed 𝓛 (((‵ (flft κ q) ⊛ ‵ (flft κ' q') ⊛ ‵ ftrue) ⊛ ‵ ((MutRef (named 0) κ TS.the_row).own_val t (mut_vals t)) ⊛ ‵ ((MutRef (named 1) κ' T.the_row).own_val s (mut_vals s)) ⊛ ‵ (u16.own_val chunk (vint w16 chunk ∷ [])) ⊛ ‵ (u32.own_val class (vint w32 class ∷ [])) ⊛ ‵ ftrue) ∷ raw (fact 𝓤 (d.settled ≡ [])) ∷ []) ∵
+    split ! $ split3 ! $ move ! (3 ∷ []) $ split3 ! $ move ! (6 ∷ []) $ heard ! _ (λ unsettled.
+    -- [the ties; the tie; the numbers and nothing; token; token'; nothing]
+    nothing ! $ move ! (1 ∷ 2 ∷ 3 ∷ 4 ∷ 5 ∷ 6 ∷ 0 ∷ []) $
     enter ! _ _ _ _ _ $ alloc_all ! (λ l. pass_all ! refl ((tt, tt), ((tt, tt), ((tt, record { fits = fits_chunk }), ((tt, record { fits = fits_class }), tt)))) $
     move ! (1 ∷ []) $ fsplit3 ! $ move ! (1 ∷ 2 ∷ 6 ∷ []) $ opens ! tt T.the_row {h = d} b' o' (λ us'. move ! (1 ∷ []) $ fsplit ! $
     use0 𝓛 (‵ (joins d.whole [] d.whole)) (begins 𝓛 d.whole) $ move ! (1 ∷ 0 ∷ []) $ fjoin ! $ move ! (2 ∷ 0 ∷ 3 ∷ 4 ∷ 5 ∷ []) $ closes ! tt T.the_row d' us' b' o' $
     -- [two parts of the tie; token'; its fact; its first part; the ties; nothing; token; nothing; nothing]
     move ! (4 ∷ 0 ∷ 1 ∷ []) $ fjoin3 ! $ move ! (3 ∷ []) $ fsplit3 ! $ move ! (1 ∷ 2 ∷ 7 ∷ []) $ opens ! tt TS.the_row {h = ts} b o (λ us. move ! (1 ∷ []) $ fsplit ! $
-    move ! (9 ∷ 1 ∷ []) $ fjoin ! $ move ! (1 ∷ 0 ∷ []) $ fjoin ! $ move ! (1 ∷ 0 ∷ []) $ closes ! tt TS.the_row ts' us b o $
+    move ! (9 ∷ 1 ∷ []) $ rewrite ! 0 (λ (z : List ℕ). ‵ (joins_after d.whole z d.taken d.rest)) unsettled refl $ fjoin ! $ move ! (1 ∷ 0 ∷ []) $ fjoin ! $ move ! (1 ∷ 0 ∷ []) $ closes ! tt TS.the_row ts' us b o $
     move ! (3 ∷ 0 ∷ 1 ∷ []) $ fjoin3 ! $
     -- [the ties; token; the tie; token'; the numbers and nothing; nothing; nothing]
     sets ! (of_opd ! (unit_lit !)) refl (tt, tt) $
@@ -49,4 +50,4 @@ gather_spec 𝓤 𝓛 𝓜 𝓡 wired =
     nothing ! $ nothing ! $ fjoin ! $ nothing ! $ fjoin ! $ move ! (3 ∷ 0 ∷ []) $ fjoin ! $ move ! (1 ∷ 0 ∷ []) $ fjoin ! $
     feq_i ! (List Val) (vunit ∷ []) (vunit ∷ []) refl $ move ! (1 ∷ 0 ∷ []) $ join ! $
     move ! (2 ∷ 4 ∷ []) $ join ! $ move ! (2 ∷ 0 ∷ []) $ join ! $ join ! $
-    use0 𝓛 (raw (fact 𝓤 (ts'.all ≡ one ∷ ts.all))) (fact_i 𝓤 (ts'.all ≡ one ∷ ts.all) (emp 𝓤) refl) $ move ! (1 ∷ 0 ∷ []) $ join ! $ keep ! (0 ∷ []) $ done !))))
+    use0 𝓛 (raw (fact 𝓤 (ts'.all ≡ one ∷ ts.all))) (fact_i 𝓤 (ts'.all ≡ one ∷ ts.all) (emp 𝓤) refl) $ move ! (1 ∷ 0 ∷ []) $ join ! $ keep ! (0 ∷ []) $ done !)))))
