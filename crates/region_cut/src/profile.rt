@@ -5,6 +5,15 @@ ghost use Rattle.region_cut.specs.declared.profile.Profile.TheVariants.{Pool};
 
 use crate::class::Class;
 
+// The number of the least class that holds `16 * i` bytes, for each `i`: all sizes are multiples of 16.
+const NUMBERS: [u8; 65] = [
+    0,
+    0, 1, 2, 3, 4, 5, 6, 7, 8, 8, 9, 9, 10, 10, 11, 11,
+    12, 12, 12, 12, 13, 13, 13, 13, 14, 14, 14, 14, 15, 15, 15, 15,
+    16, 16, 16, 16, 16, 16, 16, 16, 17, 17, 17, 17, 17, 17, 17, 17,
+    18, 18, 18, 18, 18, 18, 18, 18, 19, 19, 19, 19, 19, 19, 19, 19,
+];
+
 /// What a pool is made for: how many allocators, and requests of which sizes.
 #[derive(Clone, Copy, Debug, PartialEq, Eq)]
 pub enum Profile {
@@ -37,20 +46,28 @@ impl Profile {
 
     /// The class for a request of `n` bytes: of those that the profile uses, the least whose size
     /// is at least `n`. A request of no bytes takes the first class. `None` above the size of the
-    /// profile's last class, and only there.
+    /// profile's last class, and only there. Takes constant time, by a table.
     pub fn class_for(self, n: usize) -> Option<Class>
         ensures least { MatchOption result (NoClassFor self n) (λ c. IsLeastFor self n c) }
         ensures some { IsSome result ↔ (n ≤ largest_of self) }
         ensures none { IsNone result ↔ (largest_of self < n) }
     {
-        for number in 0..self.classes() {
-            if let Some(class) = Class::new(number) {
-                if n <= class.size() {
-                    return Some(class);
-                }
-            }
+        if n > self.largest() {
+            return None;
         }
-        None
+        let number = NUMBERS[(n + 15) / 16];
+        Class::new(u32::from(number))
+    }
+
+    // The size of the last class that is used.
+    fn largest(self) -> usize
+        ensures value { result ≡ largest_of self }
+        ensures high { result ≤ 1024 }
+    {
+        match self {
+            Profile::Pool => 512,
+            Profile::Pool2 => 1024,
+        }
     }
 }
 
