@@ -31,8 +31,7 @@ fn writes_reach_the_region(rt: HostRuntime) {
         assert_eq!(rt; free(&rt, &mut desk, buf), Freed::Home);
     }
     assert_eq!(rt; desk.counts(), (24, 0));
-    drop(desk);
-    drop(parts);
+    drop((desk, lent, parts));
     for (place, want) in [
         (0, 0),
         (319, 0),

@@ -78,9 +78,7 @@ fn posts_in_rounds(rt: HostRuntime) {
     let mut one = desk(&rt, 1);
     let buf = owned(&rt, alloc, &mut one, part);
     assert_eq!(rt; free(&rt, &mut zero, buf), Freed::Cached);
-    let Err(zero) = zero.retire() else {
-        panic!(rt; "its cache is not empty");
-    };
+    let zero = zero.retire().err().expect(&rt, "its cache is not empty");
     let mut posting = zero.posting();
     let batch = posting.next_batch().expect(&rt, "one goes to 1");
     assert!(rt; posting.next_batch().is_none());
@@ -91,10 +89,9 @@ fn posts_in_rounds(rt: HostRuntime) {
     let zero = posting.end();
     assert_eq!(rt; zero.counts(), (0, 0));
     assert_eq!(rt; handle(&rt, &mut one, batch), Counts { home: 1, on: 0 });
-    assert!(rt; zero.retire().is_ok());
-    let Ok(one) = one.retire() else {
-        panic!(rt; "its cache is empty");
-    };
+    let zero = zero.retire().ok().expect(&rt, "its cache is empty");
+    assert_eq!(rt; zero.counts(), (0, 0));
+    let one = one.retire().ok().expect(&rt, "its cache is empty");
     assert_eq!(rt; (one.number(), one.counts()), (1, (8, 0)));
     assert_eq!(rt; one.adopt(5).worker(), 5);
 }
