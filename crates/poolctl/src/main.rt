@@ -5,6 +5,8 @@ mod classes;
 mod commands;
 mod outcome;
 mod streams;
+#[cfg(test)]
+mod tests;
 mod words;
 
 pub use commands::command;

@@ -1,0 +1,62 @@
+use super::outcome_of;
+use crate::Outcome;
+use std::test::Fail;
+
+#[test]
+fn no_subcommand_is_refused(rt: HostRuntime) -> Result<(), Fail> {
+    let (outcome, written) = outcome_of(rt.alloc(), [].as_slice(), b"")?;
+    assert!(rt; outcome.status() == 2, "{outcome:?}");
+    let text = "error: 'poolctl' requires a subcommand but one was not provided\n  \
+        [subcommands: classes, replay, help]\n\nUsage: poolctl <COMMAND>\n\n\
+        For more information, try '--help'.\n";
+    assert!(rt; outcome.words() == text, "{outcome:?}");
+    assert!(rt; written.is_empty());
+    Ok(())
+}
+
+#[test]
+fn an_unknown_subcommand_is_refused(rt: HostRuntime) -> Result<(), Fail> {
+    let (outcome, _) = outcome_of(rt.alloc(), ["reply"].as_slice(), b"")?;
+    assert!(rt; outcome.status() == 2, "{outcome:?}");
+    let text = "error: unrecognized subcommand 'reply'\n\n  \
+        tip: a similar subcommand exists: 'replay'\n\nUsage: poolctl <COMMAND>\n\n\
+        For more information, try '--help'.\n";
+    assert!(rt; outcome.words() == text, "{outcome:?}");
+    Ok(())
+}
+
+#[test]
+fn a_word_too_many_is_refused(rt: HostRuntime) -> Result<(), Fail> {
+    let (outcome, written) = outcome_of(rt.alloc(), ["classes", "3"].as_slice(), b"")?;
+    assert!(rt; outcome.status() == 2, "{outcome:?}");
+    let text = "error: unexpected argument '3' found\n\nUsage: poolctl classes\n\n\
+        For more information, try '--help'.\n";
+    assert!(rt; outcome.words() == text, "{outcome:?}");
+    assert!(rt; written.is_empty());
+    Ok(())
+}
+
+/// Help goes to standard error too, and the status is 2.
+#[test]
+fn help_gives_status_2(rt: HostRuntime) -> Result<(), Fail> {
+    let (outcome, written) = outcome_of(rt.alloc(), ["--help"].as_slice(), b"")?;
+    assert!(rt; outcome.status() == 2);
+    assert!(rt; written.is_empty());
+    let Outcome::Refused(text) = outcome else {
+        assert!(rt; false, "no help");
+        return Ok(());
+    };
+    assert!(rt;
+        text.as_str().contains("Usage: poolctl <COMMAND>"),
+        "{text}"
+    );
+    assert!(rt;
+        text.as_str().contains("  classes  Print the size classes"),
+        "{text}"
+    );
+    assert!(rt;
+        text.as_str().contains("  replay   Replay a trace"),
+        "{text}"
+    );
+    Ok(())
+}
