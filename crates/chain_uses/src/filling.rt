@@ -1,8 +1,9 @@
-//! From a part of a region to a chain.
-ghost use Rattle.std.specs.Prelude.{◌≡◌, ◌+◌, ◌<◌, length, OnOk};
+//! From a region to a chain of its buffers, and back.
+ghost use Rattle.std.specs.Prelude.{◌≡◌, ◌+◌, ◌*◌, ◌/◌, ◌<◌, length, OnOk, IfOk};
 ghost use Rattle.region_cut.specs.Classes.{slots_of};
 
-use region_cut::{Class, Part};
+use crate::writing::mark;
+use region_cut::{Class, CutError, Part, cut};
 use slot_chain::{Chain, NoMemory, Room};
 use std::alloc::Global;
 
@@ -25,4 +26,37 @@ pub fn fill_part<'r>(
             Some(piece) => chain.push(room.fill(piece, class, owner)),
         }
     }
+}
+
+/// Cuts a region, and puts a buffer for each of its slots on one chain, in order. [`CutError::NoMemory`] also says that a room was refused.
+#[tactic(auto, using(crate::proofs::Counting::parts_length))]
+pub fn fill_region<'r>(
+    alloc: Global,
+    region: &'r mut [u8],
+    class: Class,
+    owner: u16,
+) -> Result<Chain<'r>, CutError>
+    requires { owner < 4096 }
+    ensures { IfOk result (λ chain. length chain ≡ length region.old / 4096 * slots_of class) }
+{
+    let mut chain = Chain::new();
+    for part in cut(alloc, region)? {
+        let Ok(()) = fill_part(alloc, part, class, owner, &mut chain) else {
+            return Err(CutError::NoMemory);
+        };
+    }
+    Ok(chain)
+}
+
+/// Writes the first byte of each slot of a region, through its buffers, which are dropped before the region's borrow ends.
+pub fn mark_region(alloc: Global, region: &mut [u8], class: Class, byte: u8) -> Result<(), CutError>
+    ensures { length region.new ≡ length region.old }
+{
+    let mut chain = fill_region(alloc, region, class, 0)?;
+    while let Some(mut buf) = chain.pop() {
+        mark(&mut buf, byte);
+        drop(buf);
+    }
+    drop(chain);
+    Ok(())
 }

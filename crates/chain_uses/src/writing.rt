@@ -8,6 +8,7 @@ use slot_chain::{Buf, Chain};
 pub fn mark(buf: &mut Buf<'_>, byte: u8)
     ensures { buf.new ≡ marked buf.old byte }
 {
+    // No class has the size 0.
     let _size = buf.class().size();
     buf.bytes_mut()[0] = byte;
 }

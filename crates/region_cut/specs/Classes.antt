@@ -1,5 +1,5 @@
 -- The size classes, over the table of the source, and the two profiles.
-use Rattle.std.specs.Prelude.{ℕ, ◌≤◌, ◌<◌, ◌/◌, length, slice_index}
+use Rattle.std.specs.Prelude.{ℕ, ◌≤◌, ◌<◌, ◌/◌, slice_index}
 use Rattle.region_cut.specs.declared.TheConstants.{CHUNK}
 use Rattle.region_cut.specs.declared.class.TheConstants.{SIZES}
 use Rattle.region_cut.specs.declared.profile.Profile.{Profile}
@@ -36,3 +36,8 @@ pub record IsLeastFor (p : Profile) (n c : ℕ) : Type 0 where
 -- no class of the profile has a size of at least n
 abbrev pub NoClassFor : Profile → ℕ → Type 0
 NoClassFor p n = (k : ℕ) → k < classes_of p → size_of k < n
+
+-- the greatest size of a class that the profile uses
+abbrev pub largest_of : Profile → ℕ
+largest_of Pool = 512
+largest_of Pool2 = 1024

@@ -1,16 +1,26 @@
 //! The size classes.
-ghost use Rattle.std.specs.Prelude.{◌≡◌, ◌<◌, ◌≤◌, MatchOption};
+ghost use Rattle.std.specs.Prelude.{◌≡◌, ℕ, ◌<◌, ◌≤◌, MatchOption};
 ghost use Rattle.region_cut.specs.Classes.{size_of, slots_of, class_count};
 
 use crate::CHUNK;
 use std::marker::Model;
 
-/// The size in bytes of each class, by its number.
+/// The size in bytes of each class, by the class's number. No size stands twice, and a class of a
+/// greater number has a greater size.
 pub const SIZES: [usize; 20] = [
     16, 32, 48, 64, 80, 96, 112, 128, 160, 192, 224, 256, 320, 384, 448, 512, 640, 768, 896, 1024,
 ];
 
-/// A size class: all buffers of a chunk are of one. Contracts see it as its number.
+/// The number of the least class for a request, by the request's size in steps of 16 bytes, rounded
+/// up. All sizes are multiples of 16, so the classes of the bytes of one step are the same.
+const CLASS_BY_STEP: [u8; 65] = [
+    0, 0, 1, 2, 3, 4, 5, 6, 7, 8, 8, 9, 9, 10, 10, 11, 11, 12, 12, 12, 12, 13, 13, 13, 13, 14, 14,
+    14, 14, 15, 15, 15, 15, 16, 16, 16, 16, 16, 16, 16, 16, 17, 17, 17, 17, 17, 17, 17, 17, 18, 18,
+    18, 18, 18, 18, 18, 18, 19, 19, 19, 19, 19, 19, 19, 19,
+];
+
+/// A size class. All slots of a chunk are of one class. Contracts see it as its number, from 0 to
+/// 19; which of them a pool uses is a matter of its [`Profile`](crate::Profile).
 #[derive(Clone, Copy, Debug, PartialEq, Eq, PartialOrd, Ord)]
 pub struct Class {
     number: u32,
@@ -29,10 +39,10 @@ impl Model for Class {
 }
 
 impl Class {
-    /// The class of the least size.
+    /// The class of the least size, 16 bytes.
     pub const FIRST: Class = Class { number: 0 };
 
-    /// The class of this number, or `None` where there is none.
+    /// The class of this number, or `None` where there is none, from 20 on.
     pub fn new(number: u32) -> Option<Class>
         ensures { MatchOption result (class_count ≤ number) (λ c. c ≡ number) }
     {
@@ -40,6 +50,18 @@ impl Class {
             Some(Class { number })
         } else {
             None
+        }
+    }
+
+    /// The least class whose size is at least `n`, of all classes. One look at a table.
+    #[tactic(auto, using(crate::proofs::ByStep::class_below, crate::proofs::ByStep::class_holds, crate::proofs::ByStep::class_least))]
+    pub(crate) fn least_for(n: usize) -> Class
+        requires { n ≤ 1024 }
+        ensures holds { n ≤ size_of result }
+        ensures least { (k : ℕ) → n ≤ size_of k → k < class_count → result ≤ k }
+    {
+        Class {
+            number: CLASS_BY_STEP[(n + 15) / 16] as u32,
         }
     }
 
@@ -58,7 +80,8 @@ impl Class {
         SIZES[self.number as usize]
     }
 
-    /// How many slots a chunk of the class has.
+    /// How many slots a chunk of the class has. What is left of the chunk behind them is never
+    /// handed out.
     pub fn slots(self) -> usize
         ensures value { result ≡ slots_of self }
     {

@@ -1,11 +1,11 @@
 //! The two profiles of a pool: how many bits an allocator's number has, and which size classes it uses.
-ghost use Rattle.std.specs.Prelude.{◌≡◌, ◌≤◌, MatchOption};
-ghost use Rattle.region_cut.specs.Classes.{bits_of, classes_of, IsLeastFor, NoClassFor};
+ghost use Rattle.std.specs.Prelude.{◌≡◌, ◌≤◌, ◌<◌, ◌↔◌, IsSome, IsNone, MatchOption};
+ghost use Rattle.region_cut.specs.Classes.{bits_of, classes_of, largest_of, IsLeastFor, NoClassFor};
 ghost use Rattle.region_cut.specs.declared.profile.Profile.TheVariants.{Pool};
 
 use crate::class::Class;
 
-/// What a pool is made for.
+/// What a pool is made for: how many allocators, and requests of which sizes.
 #[derive(Clone, Copy, Debug, PartialEq, Eq)]
 pub enum Profile {
     /// 64 allocators, 16 classes, requests of at most 512 bytes.
@@ -35,24 +35,37 @@ impl Profile {
         }
     }
 
-    /// The least class whose size is at least `n` bytes, of those that the profile uses.
+    /// The class for a request of `n` bytes: of those that the profile uses, the least whose size
+    /// is at least `n`. A request of no bytes takes the first class. `None` above the size of the
+    /// profile's last class, and only there. One look at a table.
+    #[tactic(auto, using(crate::proofs::ByStep::least_of, crate::proofs::ByStep::none_for))]
     pub fn class_for(self, n: usize) -> Option<Class>
-        ensures { MatchOption result (NoClassFor self n) (λ c. IsLeastFor self n c) }
+        ensures least { MatchOption result (NoClassFor self n) (λ c. IsLeastFor self n c) }
+        ensures some { IsSome result ↔ (n ≤ largest_of self) }
+        ensures none { IsNone result ↔ (largest_of self < n) }
     {
-        for number in 0..self.classes() {
-            if let Some(class) = Class::new(number) {
-                if n <= class.size() {
-                    return Some(class);
-                }
-            }
+        if n > self.largest() {
+            return None;
         }
-        None
+        Some(Class::least_for(n))
+    }
+
+    // The size in bytes of its last class.
+    fn largest(self) -> usize
+        ensures { result ≡ largest_of self }
+    {
+        match self {
+            Profile::Pool => 512,
+            Profile::Pool2 => 1024,
+        }
     }
 }
 
-/// The class for a request of `n` bytes in the profile `Pool`.
+/// The class for a request of `n` bytes in the profile `Pool`, `None` exactly above 512 bytes.
 pub fn class_for(n: usize) -> Option<Class>
-    ensures { MatchOption result (NoClassFor Pool n) (λ c. IsLeastFor Pool n c) }
+    ensures least { MatchOption result (NoClassFor Pool n) (λ c. IsLeastFor Pool n c) }
+    ensures some { IsSome result ↔ (n ≤ 512) }
+    ensures none { IsNone result ↔ (512 < n) }
 {
     Profile::Pool.class_for(n)
 }

@@ -1,5 +1,5 @@
 //! What is written through buffers is what the region holds when its borrow ends.
-use crate::filling::fill_part;
+use crate::filling::{fill_part, mark_region};
 use crate::writing::{clear, copy_in, mark_top, stamped};
 use region_cut::{Class, class_for, cut};
 use slot_chain::Chain;
@@ -73,4 +73,15 @@ fn writes_are_read_back(rt: HostRuntime) {
     assert!(rt; !mark_top(&mut Chain::new(), 7));
     assert_eq!(rt; region.get(4079).copied(), Some(3));
     assert_eq!(rt; region.get(4080).copied(), Some(0));
+}
+
+#[test]
+fn marks_each_slot(rt: HostRuntime) {
+    let alloc = rt.alloc();
+    let class = class_for(512).expect(&rt, "a class of 512 bytes");
+    let mut region = Vec::from_elem(alloc, 1u8, 2 * 4096 + 1).expect(&rt, "memory");
+    mark_region(alloc, &mut region, class, 9).expect(&rt, "memory");
+    for (place, want) in [(0, 9), (1, 1), (511, 1), (512, 9), (7680, 9), (8192, 1)] {
+        assert_eq!(rt; region.get(place).copied(), Some(want), "byte {place}");
+    }
 }

@@ -1,0 +1,70 @@
+#!/usr/bin/env python3
+"""Tries the edits crates/NAME/must-not-compile/*.edit, each on a copy of the repository.
+
+Each breaks a rule of borrowing, as keeping a slot past the borrow of its region, so it is the
+compiler that must refuse it and not the prover, whom the edits in must-fail/ are for. An edit has
+the same lines: `file: PATH` and then pairs of `old: TEXT`, which stands in that file exactly once,
+and `new: TEXT`. Its line `says: TEXT` is what the compiler must say.
+
+Prints a line for each edit. The exit status is 1 where one was not refused in these words.
+"""
+import pathlib
+import shutil
+import subprocess
+import sys
+import tempfile
+
+TOP = pathlib.Path(__file__).resolve().parent.parent
+
+
+def read(edit):
+    """The file, the words of the compiler and the pairs of old and new text of an edit."""
+    file, says, old, pairs = None, None, None, []
+    for line in edit.read_text().splitlines():
+        key, _, text = line.partition(": ")
+        if key == "file":
+            file = text
+        elif key == "says":
+            says = text
+        elif key == "old":
+            old = text
+        elif key == "new":
+            pairs.append((old, text))
+    if not (file and says and pairs):
+        sys.exit(f"{edit}: it needs lines file:, old:, new: and says:")
+    return file, says, pairs
+
+
+def refused(edit, repository):
+    """Whether the compiler refuses the edit in its words, and all that was said."""
+    file, says, pairs = read(edit)
+    crate = repository / "crates" / edit.parent.parent.name
+    path = crate / file
+    before = path.read_text()
+    after = before
+    for old, new in pairs:
+        if after.count(old) != 1:
+            return False, f"`{old}` stands in {file} {after.count(old)} times, and not once"
+        after = after.replace(old, new)
+    path.write_text(after)
+    command = ["rt", "check", "--jobs", "1", "--only", ""]
+    run = subprocess.run(command, cwd=crate, capture_output=True, text=True)
+    path.write_text(before)
+    said = run.stdout + run.stderr
+    return run.returncode != 0 and says in said, said[-3000:]
+
+
+def main():
+    failed = 0
+    with tempfile.TemporaryDirectory() as work:
+        repository = pathlib.Path(work) / "repository"
+        shutil.copytree(TOP, repository, ignore=shutil.ignore_patterns("out", ".git"))
+        for edit in sorted(TOP.glob("crates/*/must-not-compile/*.edit")):
+            good, said = refused(edit, repository)
+            name = edit.relative_to(TOP)
+            print(f"refused: {name}" if good else f"NOT REFUSED AS IT MUST BE: {name}\n{said}", flush=True)
+            failed += not good
+    sys.exit(1 if failed else 0)
+
+
+main()

@@ -1,0 +1,23 @@
+-- The chunks of a region, drawn and undrawn.
+use Rattle.std.specs.Prelude.{ℕ, zero, suc, ◌≡◌, ◌≤◌, ◌+◌, List, [], ◌∷◌, ◌++◌, map, Option, option_map, slice_get}
+use Rattle.region_cut.specs.declared.part.Part.{Part}
+use Rattle.region_cut.specs.Parts.{number_of, numbers_from}
+use Rattle.event_floor.specs.declared.chunks.Drawn.{Drawn}
+
+-- how many chunks there are, and those that are drawn, in the order of their numbers
+pub record ChunksSeen : Type 0 where
+  pub count : ℕ
+  pub drawn : List Drawn
+
+-- the parts are numbered from 0, at most 1,024 of them, as a cut gives them
+abbrev pub AreNumbered : List Part → Type 0
+AreNumbered parts = (n : ℕ) × (n ≤ 1024) × (map number_of parts ≡ numbers_from 0 n)
+
+-- n numbers from `least` on, the least of them last
+abbrev pub stacked : ℕ → ℕ → List ℕ
+stacked least zero = []
+stacked least (suc n) = stacked (least + 1) n ++ least ∷ []
+
+-- the class of a chunk, where it is drawn
+abbrev pub class_drawn : List Drawn → ℕ → Option ℕ
+class_drawn drawn chunk = option_map (λ (d : Drawn). d.class) (slice_get drawn chunk)

@@ -1,0 +1,16 @@
+-- The table of the lent buffers.
+use Rattle.std.specs.Prelude.{ℕ, ◌≡◌, ◌<◌, ◌+◌, ◌*◌, List, Option, None, IfSome, slice_index_or, nat_lt, if◌then◌else◌}
+use Rattle.region_cut.specs.declared.slot.Slot.{Slot}
+use Rattle.slot_chain.specs.Buffer.{Buffer}
+
+-- where the buffer of a slot lies: a chunk has 256 places, one for each slot that it could have
+abbrev pub place_of : Slot → ℕ
+place_of s = 256 * s.chunk + s.index
+
+-- the lent buffer of the slot with these numbers
+abbrev pub lent_at : List (Option Buffer) → ℕ → ℕ → Option Buffer
+lent_at places chunk index = if nat_lt index 256 then slice_index_or places (256 * chunk + index) None else None
+
+-- each buffer lies in the place of its slot
+abbrev pub AreInPlace : List (Option Buffer) → Type 0
+AreInPlace places = (i : ℕ) → IfSome (slice_index_or places i None) (λ (b : Buffer). (place_of b.slot ≡ i) × (b.slot.index < 256))

@@ -1,0 +1,77 @@
+//! The chunks of a region: those that are drawn, and the parts of those that aren't.
+ghost use Rattle.std.specs.Prelude.{◌≡◌, ◌<◌, ◌∷◌, ◌++◌, [], length, IfOk, MatchOption};
+ghost use Rattle.std.specs.Prelude.{option_map, slice_get};
+ghost use Rattle.event_floor.specs.Chunks.{AreNumbered, class_drawn};
+ghost use Rattle.region_cut.specs.declared.part.Part.{Part};
+
+use region_cut::{Class, Part};
+use std::alloc::{AllocError, Global};
+use std::marker::Model;
+
+/// A drawn chunk: the desk that drew it, and the class that it was drawn for.
+#[derive(Clone, Copy)]
+pub(crate) struct Drawn {
+    pub(crate) owner: u32,
+    pub(crate) class: Class,
+}
+
+/// All chunks of a region. They are drawn in the order of their numbers.
+#[derive(Drop)]
+pub(crate) struct Chunks<'r> {
+    // the least number is last
+    undrawn: Vec<Part<'r>>,
+    drawn: Vec<Drawn>,
+}
+
+impl<'r> Model for Chunks<'r> {
+    ghost use Rattle.std.specs.Prelude.{◌≡◌, ◌+◌, ◌≤◌, length, map, vec_capacity};
+    ghost use Rattle.region_cut.specs.Parts.{number_of};
+    ghost use Rattle.event_floor.specs.Chunks.{ChunksSeen, stacked};
+
+    ghost Value = { ChunksSeen };
+
+    ghost view = { λ c. record { count = length c.drawn.items + length c.undrawn.items; drawn = c.drawn.items } };
+
+    ghost invariant = { λ c. (map number_of c.undrawn.items ≡ stacked (length c.drawn.items) (length c.undrawn.items))
+        × (length c.drawn.items + length c.undrawn.items ≤ vec_capacity c.drawn) };
+}
+
+impl<'r> Chunks<'r> {
+    /// The chunks of these parts, none of them drawn.
+    pub(crate) fn new(alloc: Global, parts: Vec<Part<'r>>) -> Result<Chunks<'r>, AllocError>
+        requires { AreNumbered parts.items }
+        ensures { IfOk result (λ c. c ≡ record { count = length parts.entry.items; drawn = [] }) }
+    {
+        let drawn = Vec::with_capacity(alloc, parts.len())?;
+        let mut undrawn = parts;
+        undrawn.reverse();
+        Ok(Chunks { undrawn, drawn })
+    }
+
+    /// Draws the undrawn chunk with the least number. Takes no memory.
+    pub(crate) fn draw(&mut self, owner: u32, class: Class) -> Option<Part<'r>>
+        ensures { MatchOption result
+            ((length self.old.drawn ≡ self.old.count) × (self.new ≡ self.old))
+            (λ (p : Part). (p.chunk ≡ length self.old.drawn) × (length self.old.drawn < self.old.count)
+            × (self.new ≡ record self.old { drawn = self.old.drawn ++ record { owner = owner; class = class } ∷ [] })) }
+    {
+        let part = self.undrawn.pop()?;
+        self.drawn.push_reserved(Drawn { owner, class });
+        Some(part)
+    }
+
+    /// How many are drawn.
+    pub(crate) fn drawn_count(&self) -> u64
+        ensures { result ≡ length self.now.drawn }
+    {
+        self.drawn.len() as u64
+    }
+
+    /// The class that the chunk was drawn for.
+    pub(crate) fn class_of(&self, chunk: u32) -> Option<Class>
+        ensures { result ≡ class_drawn self.now.drawn chunk }
+    {
+        let drawn = self.drawn.get(chunk as usize)?;
+        Some(drawn.class)
+    }
+}

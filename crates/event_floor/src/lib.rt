@@ -1,0 +1,18 @@
+//! The floor: all desks of a pool over one region, driven one request at a time.
+//!
+//! It is the pool without threads: each request is one whole step, so a run of requests can be written down, repeated and
+//! checked. A request is accepted and answered, or it is refused by name and changes nothing.
+#![tactic(auto)]
+
+mod chunks;
+mod floor;
+mod lent;
+mod refusal;
+mod reply;
+mod request;
+mod seat;
+
+pub use floor::Floor;
+pub use refusal::Refusal;
+pub use reply::Reply;
+pub use request::Request;

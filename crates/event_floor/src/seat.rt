@@ -1,0 +1,46 @@
+//! A desk's place on the floor.
+ghost use Rattle.std.specs.Prelude.{◌≡◌, ◌≤◌, IfOk};
+ghost use Rattle.event_floor.specs.Seats.{idle_seats, held_by};
+
+use pool_desk::{Desk, IdleDesk};
+use region_cut::Profile;
+use std::alloc::{AllocError, Global};
+use std::mem;
+
+/// A desk, idle or in the hands of a worker.
+#[derive(Drop)]
+pub(crate) enum Seat<'r> {
+    Idle(IdleDesk<'r>),
+    Held(Desk<'r>),
+}
+
+/// So many desks, numbered from 0, with nothing at home.
+#[tactic(auto, using(crate::proofs::FloorLaws::idle_seats_length), unfolding(crate::specs::Seats::idle_seats))]
+pub(crate) fn empty_seats<'r>(
+    alloc: Global,
+    count: u32,
+    limit: u64,
+) -> Result<Vec<Seat<'r>>, AllocError>
+    requires count { count ≤ 64 }
+    requires limit { limit ≤ 1048576 }
+    ensures { IfOk result (λ seats. seats.items ≡ idle_seats limit count) }
+{
+    let mut seats = Vec::with_capacity(alloc, count as usize)?;
+    for number in 0..count {
+        let desk = IdleDesk::new(number as u16, Profile::Pool, limit);
+        seats.push_reserved(Seat::Idle(desk));
+    }
+    Ok(seats)
+}
+
+/// Gives an idle desk to a worker. A held one stays as it is.
+pub(crate) fn hold(seat: &mut Seat<'_>, worker: u32)
+    ensures { seat.new ≡ held_by worker seat.old }
+{
+    // the desk moves by value, and an empty one keeps its place for that time
+    let empty = IdleDesk::new(0, Profile::Pool, 0);
+    match mem::replace(seat, Seat::Idle(empty)) {
+        Seat::Idle(desk) => drop(mem::replace(seat, Seat::Held(desk.adopt(worker)))),
+        Seat::Held(desk) => drop(mem::replace(seat, Seat::Held(desk))),
+    }
+}

@@ -1,0 +1,116 @@
+-- Lemmas on homes.
+use Rattle.std.proofs.Common.{◌≡◌, ◌≢◌, ℕ, zero, suc, ◌+◌, ◌-◌, List, [], ◌∷◌, ◌++◌, length, refl, sym, ap, ◌∙◌, subst, arith, All, IsPermutation, map, take, drop}
+use Rattle.std.proofs.lemmas.List.Elements.{All-cons, All-nil, All-contains, Contains-push}
+use Rattle.std.proofs.lemmas.List.Sorted.{IsPermutation-refl, IsPermutation-sym, IsPermutation-trans, IsPermutation-append_left, IsPermutation-append_right, IsPermutation-append_comm}
+use Rattle.std.specs.Borrow.{GName, MutBor}
+use Rattle.region_cut.specs.declared.slot.Slot.{Slot}
+use Rattle.std.proofs.Math.Nat.{zero-add}
+use Rattle.region_cut.specs.declared.part.Part.{Part}
+use Rattle.region_cut.specs.declared.part.Piece.{Piece}
+use Rattle.region_cut.specs.declared.part.Bump.{Bump}
+use Rattle.region_cut.specs.Bumps.{left_of, part_of, HoldsPart, GivesNext}
+use Rattle.region_cut.specs.Classes.{slots_of, size_of}
+use Rattle.slot_chain.specs.Buffer.{Buffer}
+use Rattle.pool_desk.specs.Homes.{AtHome, IsAtHome, unused_from, unused_of, IsUnused, GivesOne}
+use Rattle.pool_desk.specs.Homes.AtHome.{Kept, Fresh}
+
+pub unused_length : (chunk class : ℕ) (part : GName) (n i : ℕ) (bs : List ℕ) → length (unused_from chunk class part n i bs) ≡ n
+unused_length chunk class part zero i bs = refl
+unused_length chunk class part (suc n) i bs = ap suc (unused_length chunk class part n (i + 1) (drop (size_of class) bs))
+
+pub unused_class : (owner chunk class : ℕ) (part : GName) (n i : ℕ) (bs : List ℕ) → All (IsAtHome owner class) (unused_from chunk class part n i bs)
+unused_class owner chunk class part zero i bs = All-nil _
+unused_class owner chunk class part (suc n) i bs =
+    All-cons (IsAtHome owner class) _ _ refl (unused_class owner chunk class part n (i + 1) (drop (size_of class) bs))
+
+pub sub_zero : (n : ℕ) → n - 0 ≡ n
+sub_zero n = omega arith
+
+-- a new cursor
+pub unused_new : (p : Part) (k : ℕ) (b : Bump) → HoldsPart p k b
+    → unused_of b ≡ unused_from p.chunk k p.bytes.ghost_name (slots_of k) 0 p.bytes.now
+unused_new p k b h = rw (h.chunk, h.class_is, h.none_given, h.same_bytes, h.same_part, sub_zero) refl
+
+pub take_front : (xs ys : List ℕ) → take (length xs) (xs ++ ys) ≡ xs
+take_front [] ys = refl
+take_front (x ∷ xs) ys = ap (λ z. x ∷ z) (take_front xs ys)
+
+pub drop_front : (xs ys : List ℕ) → drop (length xs) (xs ++ ys) ≡ ys
+drop_front [] ys = refl
+drop_front (x ∷ xs) ys = drop_front xs ys
+
+pub unused_step : (chunk class : ℕ) (part : GName) (n i : ℕ) (xs ys : List ℕ) → length xs ≡ size_of class
+    → unused_from chunk class part (suc n) i (xs ++ ys)
+    ≡ Fresh (record { slot = record { chunk = chunk; index = i }; class = class; part = part; bytes = xs }) ∷ unused_from chunk class part n (i + 1) ys
+unused_step chunk class part n i xs ys h =
+    let front : take (size_of class) (xs ++ ys) ≡ xs = subst (λ z. take z (xs ++ ys) ≡ xs) h (take_front xs ys) in
+    let back : drop (size_of class) (xs ++ ys) ≡ ys = subst (λ z. drop z (xs ++ ys) ≡ ys) h (drop_front xs ys) in
+    subst (λ z. unused_from chunk class part (suc n) i (xs ++ ys) ≡ Fresh (record { slot = record { chunk = chunk; index = i }; class = class; part = part; bytes = z }) ∷ unused_from chunk class part n (i + 1) ys) front
+    (subst (λ w. unused_from chunk class part (suc n) i (xs ++ ys) ≡ Fresh (record { slot = record { chunk = chunk; index = i }; class = class; part = part; bytes = take (size_of class) (xs ++ ys) }) ∷ unused_from chunk class part n (i + 1) w) back refl)
+
+pub same_unused : {chunk chunk' class class' : ℕ} {part part' : GName} {n n' i i' : ℕ} {bs bs' : List ℕ}
+    → chunk ≡ chunk' → class ≡ class' → part ≡ part' → n ≡ n' → i ≡ i' → bs ≡ bs'
+    → unused_from chunk class part n i bs ≡ unused_from chunk' class' part' n' i' bs'
+same_unused a b c d e f = rw (a, b, c, d, e, f) refl
+
+-- the slot that a cursor gives is the first of those that it had
+pub unused_next : (b b' : Bump) (p : Piece) → GivesNext b b' p
+    → unused_of b ≡ Fresh (record { slot = p.slot; class = b.class; part = part_of b; bytes = p.bytes.now }) ∷ unused_of b'
+unused_next b b' p g =
+    let n : slots_of b.class - b.next ≡ suc (slots_of b.class - (b.next + 1)) = let w = g.was_left in omega arith in
+    let slot : record { chunk = b.chunk; index = b.next } ≡ p.slot = rw (g.slot_chunk, g.slot_index) refl in
+    let class : b.class ≡ b'.class = sym g.same_class in
+    let left : slots_of b.class - (b.next + 1) ≡ left_of b' = rw (g.one_more, ← class) refl in
+    same_unused refl refl refl n refl g.joined_now
+    ∙ (unused_step b.chunk b.class (part_of b) (slots_of b.class - (b.next + 1)) b.next p.bytes.now b'.front.rest.now g.size_is
+    ∙ (ap (λ (s : Slot). Fresh (record { slot = s; class = b.class; part = part_of b; bytes = p.bytes.now }) ∷ unused_from b.chunk b.class (part_of b) (slots_of b.class - (b.next + 1)) (b.next + 1) b'.front.rest.now) slot
+    ∙ ap (λ us. Fresh (record { slot = p.slot; class = b.class; part = part_of b; bytes = p.bytes.now }) ∷ us)
+    (same_unused (sym g.same_chunk) class (sym g.same_part) left (sym g.one_more) refl)))
+
+pub kept_length : (bs : List Buffer) (us : List AtHome) → length (map {A = Buffer} {B = AtHome} (λ x. Kept x) bs ++ us) ≡ length bs + length us
+kept_length [] us = sym (zero-add _)
+kept_length (b ∷ bs) us = let h = kept_length bs us in omega (arith, h)
+
+pub none_kept : (bs : List Buffer) (us : List AtHome) → map {A = Buffer} {B = AtHome} (λ x. Kept x) bs ++ us ≡ [] → bs ≡ []
+none_kept [] us e = refl
+none_kept (b ∷ bs) us e = absurd (cc)
+
+pub kept_push : (bs : List Buffer) (b : Buffer) (us : List AtHome)
+    → IsPermutation (Kept b ∷ (map {A = Buffer} {B = AtHome} (λ x. Kept x) bs ++ us)) (map {A = Buffer} {B = AtHome} (λ x. Kept x) (bs ++ b ∷ []) ++ us)
+kept_push [] b us = IsPermutation-refl _
+kept_push (x ∷ bs) b us =
+    IsPermutation-trans _ (Kept x ∷ (Kept b ∷ (map {A = Buffer} {B = AtHome} (λ y. Kept y) bs ++ us))) _
+    (IsPermutation-append_left _ (Kept b ∷ Kept x ∷ []) (Kept x ∷ Kept b ∷ []) (IsPermutation-append_comm (Kept b ∷ []) (Kept x ∷ [])))
+    (IsPermutation-append_right (Kept x ∷ []) _ _ (kept_push bs b us))
+
+pub unused_all : (chunk class : ℕ) (part : GName) (n i : ℕ) (bs : List ℕ) → All IsUnused (unused_from chunk class part n i bs)
+unused_all chunk class part zero i bs = All-nil _
+unused_all chunk class part (suc n) i bs = All-cons IsUnused _ _ tt (unused_all chunk class part n (i + 1) (drop (size_of class) bs))
+
+pub unused_some : (chunk class : ℕ) (part : GName) (n i : ℕ) (bs : List ℕ) → n ≢ 0 → unused_from chunk class part n i bs ≢ []
+unused_some chunk class part n i bs h e = h (sym (unused_length chunk class part n i bs) ∙ ap length e)
+
+pub kept_pop : (bs : List Buffer) (b : Buffer) (us : List AtHome)
+    → IsPermutation (map {A = Buffer} {B = AtHome} (λ x. Kept x) (bs ++ b ∷ []) ++ us) (Kept b ∷ (map {A = Buffer} {B = AtHome} (λ x. Kept x) bs ++ us))
+kept_pop bs b us = IsPermutation-sym _ _ (kept_push bs b us)
+
+pub All-end : {X : Type 0} (P : X → Type 0) (xs : List X) (x : X) → All P (xs ++ x ∷ []) → P x
+All-end P xs x h = All-contains P (xs ++ x ∷ []) x h (Contains-push xs x)
+
+pub gives_kept : (owner class : ℕ) (list rest : List Buffer) (b : Buffer) (us : List AtHome)
+    → All (λ (b : Buffer). (b.owner ≡ owner) × (b.class ≡ class)) list → list ≡ rest ++ b ∷ []
+    → GivesOne owner class (map {A = Buffer} {B = AtHome} (λ x. Kept x) list ++ us) b (map {A = Buffer} {B = AtHome} (λ x. Kept x) rest ++ us)
+gives_kept owner class list rest b us all is =
+    let one = All-end (λ (b : Buffer). (b.owner ≡ owner) × (b.class ≡ class)) rest b (rw is at all) in
+    record { owner_is = one.0; class_is = one.1; from = Kept b; gives = refl; others = rw is (kept_pop rest b us) }
+
+pub gives_fresh : (owner : ℕ) (class : ℕ) (x : Buffer) (b b' : Bump) (p : Piece) → GivesNext b b' p → b.class ≡ class
+    → x.owner ≡ owner → x.class ≡ class → x.slot ≡ p.slot → x.forwards ≡ 0 → x.bytes ≡ p.bytes
+    → GivesOne owner class (unused_of b) x (unused_of b')
+gives_fresh owner class x b b' p g c o k s f m = record {
+  owner_is = o;
+  class_is = k;
+  from = Fresh (record { slot = p.slot; class = b.class; part = part_of b; bytes = p.bytes.now });
+  gives = (s, k ∙ sym c, f, ap (λ (z : MutBor (List ℕ)). z.now) m);
+  others = rw (unused_next b b' p g) (IsPermutation-refl _);
+}

@@ -1,0 +1,3 @@
+pub mod CachedLaws
+pub mod DeskLaws
+pub mod HomeLaws

@@ -1,0 +1,4 @@
+pub mod Desks
+pub mod Homes
+pub mod Refusals
+pub mod Steps

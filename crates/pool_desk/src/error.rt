@@ -1,0 +1,37 @@
+//! Why a desk refuses.
+ghost use Rattle.std.specs.Prelude.{◌≡◌};
+ghost use Rattle.pool_desk.specs.Refusals.{number_of};
+
+use region_cut::Class;
+use thiserror::Error;
+
+/// Why a call of a desk is refused. The desk is then as it was before the call.
+#[derive(Clone, Copy, Debug, PartialEq, Eq, Drop, Error)]
+pub enum DeskError {
+    /// No class of the desk's profile is large enough.
+    #[error("too large")]
+    TooLarge,
+    /// No slot of this class, the least that is large enough, is at home.
+    #[error("needs a chunk")]
+    NeedChunk(Class),
+    /// A slot of the class is at home, so a further chunk isn't needed.
+    #[error("not needed")]
+    NotNeeded,
+    /// The node of a buffer could not be made.
+    #[error("no memory")]
+    NoMemory,
+}
+
+impl DeskError {
+    /// Its number. (The number 4 is kept for a desk that can't be retired.)
+    pub fn number(self) -> u32
+        ensures { result ≡ number_of self }
+    {
+        match self {
+            DeskError::TooLarge => 1,
+            DeskError::NeedChunk(_) => 2,
+            DeskError::NotNeeded => 3,
+            DeskError::NoMemory => 5,
+        }
+    }
+}

@@ -1,0 +1,125 @@
+//! The slots at home of one class.
+ghost use Rattle.std.specs.Prelude.{◌≡◌, ◌≢◌, ℕ, ◌<◌, ◌≤◌, ◌↔◌, [], ◌∷◌, ◌++◌, All, IsTrue, IsPermutation, MatchResult, OnOk, OnErr, length, min, ◌^◌, ◌-◌, map};
+ghost use Rattle.slot_chain.specs.Buffer.{Buffer};
+ghost use Rattle.pool_desk.specs.Homes.{AtHome, IsAtHome, GivesOne, IsRefused, unused_from};
+ghost use Rattle.pool_desk.specs.Homes.AtHome.{Kept};
+ghost use Rattle.region_cut.specs.Classes.{slots_of};
+
+use crate::DeskError;
+use region_cut::{Bump, Class, Part};
+use slot_chain::{Buf, Chain, Room};
+use std::alloc::Global;
+use std::marker::Model;
+
+/// The buffers of one class that came home, and the slots of the chunk drawn last that were never handed out.
+#[derive(Drop)]
+pub(crate) struct Home<'r> {
+    owner: u16,
+    class: Class,
+    list: Chain<'r>,
+    bump: Option<Bump<'r>>,
+}
+
+impl<'r> Model for Home<'r> {
+    ghost use Rattle.std.specs.Prelude.{◌≡◌, ◌++◌, ◌<◌, map, All, IfSome};
+    ghost use Rattle.slot_chain.specs.Buffer.{Buffer};
+    ghost use Rattle.region_cut.specs.declared.part.Bump.{Bump};
+    ghost use Rattle.pool_desk.specs.Homes.{HomeState, AtHome, IsAtHome, unused};
+    ghost use Rattle.pool_desk.specs.Homes.AtHome.{Kept};
+
+    ghost Value = { HomeState };
+
+    ghost view = { λ h. record { owner = h.owner; class = h.class; slots = map Kept h.list ++ unused h.bump } };
+
+    ghost invariant = { λ h. (h.owner < 4096) × All (λ (b : Buffer). (b.owner ≡ h.owner) × (b.class ≡ h.class)) h.list × IfSome h.bump (λ (b : Bump). b.class ≡ h.class) };
+}
+
+impl Default for Home<'_> {
+    ghost use Rattle.pool_desk.specs.Desks.{no_home};
+
+    ghost is_default = { λ h. h ≡ no_home };
+
+    fn default() -> Self {
+        Home::new(0, Class::FIRST)
+    }
+}
+
+impl<'r> Home<'r> {
+    pub(crate) fn new(owner: u16, class: Class) -> Home<'r>
+        requires { owner < 4096 }
+        ensures { result ≡ record { owner = owner; class = class; slots = [] } }
+    {
+        Home {
+            owner,
+            class,
+            list: Chain::new(),
+            bump: None,
+        }
+    }
+
+    /// Whether a slot is there.
+    pub(crate) fn has(&self) -> bool
+        ensures { IsTrue result ↔ (self.now.slots ≢ []) }
+    {
+        if !self.list.is_empty() {
+            return true;
+        }
+        match &self.bump {
+            None => false,
+            Some(bump) => bump.left() > 0,
+        }
+    }
+
+    /// Takes a part for the class, where no slot is there.
+    pub(crate) fn claim(&mut self, part: Part<'r>)
+        requires { self.old.slots ≡ [] }
+        ensures { self.new ≡ record self.old { slots = unused_from part.entry.chunk self.old.class part.entry.bytes.ghost_name (slots_of self.old.class) 0 part.entry.bytes.now } }
+    {
+        self.bump = Some(part.bump(self.class));
+    }
+
+    /// Gives out a slot.
+    pub(crate) fn alloc(&mut self, alloc: Global) -> Result<Buf<'r>, DeskError>
+        ensures same { self.new ≡ record self.old { slots = self.new.slots } }
+        ensures value { MatchResult result
+            (λ b. GivesOne self.old.owner self.old.class self.old.slots b self.new.slots)
+            (λ e. IsRefused self.old.class self.old.slots e × (self.new ≡ self.old)) }
+    {
+        if let Some(buf) = self.list.pop() {
+            return Ok(buf);
+        }
+        let Some(bump) = &mut self.bump else {
+            return Err(DeskError::NeedChunk(self.class));
+        };
+        if bump.left() == 0 {
+            return Err(DeskError::NeedChunk(self.class));
+        }
+        let Ok(room) = Room::new(alloc) else {
+            return Err(DeskError::NoMemory);
+        };
+        let Some(piece) = bump.next() else {
+            unreachable!();
+        };
+        Ok(room.fill(piece, self.class, self.owner))
+    }
+
+    /// Takes an own buffer home.
+    pub(crate) fn keep(&mut self, buf: Buf<'r>)
+        requires { IsAtHome self.old.owner self.old.class (Kept buf) }
+        ensures same { self.new ≡ record self.old { slots = self.new.slots } }
+        ensures slots { IsPermutation (Kept buf.entry ∷ self.old.slots) self.new.slots }
+    {
+        self.list.push(buf);
+    }
+
+    /// The number of slots.
+    pub(crate) fn count(&self) -> u64
+        ensures { result ≡ min (length self.now.slots) (2 ^ 64 - 1) }
+    {
+        let left = match &self.bump {
+            None => 0,
+            Some(bump) => bump.left() as u64,
+        };
+        self.list.len().saturating_add(left)
+    }
+}

@@ -1,0 +1,32 @@
+//! What each subcommand does.
+ghost use Rattle.std.specs.Prelude.{◌≡◌, ◌↔◌, false, true};
+
+use crate::classes::write_classes;
+use crate::outcome::{Outcome, replayed};
+use crate::words::{self, Asked, Unread};
+use region_cut::Profile;
+use std::alloc::Global;
+use trace_audit::{Sink, Source, replay};
+
+/// Does what the words ask for. The program's own name stands first among them.
+///
+/// Nothing is read from the source but by `replay`, and nothing is written after a failed write. Words that are refused,
+/// or that ask for help, are answered with the text for standard error.
+pub fn command<R: Source, W: Sink>(
+    alloc: Global,
+    words: &[String],
+    source: &mut R,
+    sink: &mut W,
+) -> Outcome
+    requires source_down { R.has_failed source.old ≡ false }
+    requires sink_down { W.has_failed sink.old ≡ false }
+    ensures read { (R.has_failed source.new ≡ true) ↔ (result ≡ Outcome.ReadFailed) }
+    ensures write { (W.has_failed sink.new ≡ true) ↔ (result ≡ Outcome.WriteFailed) }
+{
+    match words::read(alloc, words) {
+        Ok(Asked::Classes) => write_classes(alloc, Profile::Pool, sink),
+        Ok(Asked::Replay) => replayed(replay(alloc, source, sink)),
+        Err(Unread::Memory) => Outcome::NoMemory,
+        Err(Unread::Refused(text)) => Outcome::Refused(text),
+    }
+}

@@ -1,0 +1,18 @@
+//! The command line over the buffer pool: `poolctl replay` and `poolctl classes`.
+#![tactic(auto)]
+
+mod classes;
+mod commands;
+mod outcome;
+mod streams;
+mod words;
+
+pub use commands::command;
+pub use outcome::Outcome;
+use std::process::ExitCode;
+
+fn main(rt: HostRuntime) -> ExitCode {
+    let outcome = streams::run(&rt);
+    let _ = rt.eprint(outcome.words());
+    ExitCode::from(outcome.status())
+}

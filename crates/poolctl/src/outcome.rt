@@ -1,0 +1,57 @@
+//! How a command ends.
+ghost use Rattle.std.specs.Prelude.{◌≡◌};
+ghost use Rattle.poolctl.specs.Outcomes.{outcome_of};
+
+use trace_audit::{End, ReplayError};
+
+/// How a command ended: one variant for each exit status and its words.
+#[derive(Debug, PartialEq, Eq, Drop)]
+pub enum Outcome {
+    /// Done. Status 0.
+    Done,
+    /// The trace has a bad line, or there is no room for its region or floor; the report says so. Status 1.
+    Stopped,
+    /// Want of memory outside a report. Status 1.
+    NoMemory,
+    /// The words of the command line were refused, or ask for help, and this is the text. Status 2.
+    Refused(String),
+    /// Standard input failed. Status 3.
+    ReadFailed,
+    /// Standard output failed, or took nothing. Status 3.
+    WriteFailed,
+}
+
+impl Outcome {
+    /// The exit status.
+    pub fn status(&self) -> u8 {
+        match self {
+            Outcome::Done => 0,
+            Outcome::Stopped | Outcome::NoMemory => 1,
+            Outcome::Refused(_) => 2,
+            Outcome::ReadFailed | Outcome::WriteFailed => 3,
+        }
+    }
+
+    /// What goes to standard error, with its line feed; empty where there is nothing to say.
+    pub fn words(&self) -> &str {
+        match self {
+            Outcome::Done | Outcome::Stopped => "",
+            Outcome::NoMemory => "poolctl: no memory\n",
+            Outcome::Refused(text) => text.as_str(),
+            Outcome::ReadFailed => "poolctl: read failed\n",
+            Outcome::WriteFailed => "poolctl: write failed\n",
+        }
+    }
+}
+
+/// How the subcommand `replay` ends.
+pub fn replayed(ended: Result<End, ReplayError>) -> Outcome
+    ensures { result ≡ outcome_of ended }
+{
+    match ended {
+        Ok(End::Whole) => Outcome::Done,
+        Ok(End::BadLine(_)) | Ok(End::NoRoom) => Outcome::Stopped,
+        Err(ReplayError::Read) => Outcome::ReadFailed,
+        Err(ReplayError::Write) => Outcome::WriteFailed,
+    }
+}

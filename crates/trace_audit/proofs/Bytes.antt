@@ -1,0 +1,35 @@
+-- What writes and reads do to known bytes.
+use Rattle.std.proofs.Common.{◌≡◌, ℕ, ◌+◌, ◌<◌, List, [], length, take, drop, Option, sym, subst, arith, length-drop, append-nil, Bool, true, false}
+use Rattle.std.proofs.lemmas.List.{take-append-drop}
+use Rattle.std.proofs.Math.Seq.{take-add}
+use Rattle.std.specs.Io.KnownBytes.{Appends, Keeps, Consumes}
+use Rattle.std.proofs.KnownBytes.{Appends-nil, Appends-trans, Appends-kept, Consumes-nil, Consumes-kept}
+use Rattle.std.proofs.Common.{◌||◌, ◌&&◌, ◌==◌, not, ◌-◌}
+use Rattle.std.proofs.lemmas.Bool.Decides.{nat_tests}
+use Rattle.std.proofs.lemmas.List.{take_rest}
+use Rattle.trace_audit.specs.Wire.{Begins}
+
+pub appends_kept : (a b : Option (List ℕ)) → Keeps a b → Appends a b []
+appends_kept a b h = Appends-kept a a b [] (Appends-nil a) h
+
+pub consumes_kept : (a b : Option (List ℕ)) → Keeps a b → Consumes a b []
+consumes_kept a b h = Consumes-kept a a b [] (Consumes-nil a) h
+
+-- a writer that gave up behind the first `at` bytes
+pub put_stops : (old mid new : Option (List ℕ)) (text : List ℕ) (at : ℕ) (up : Bool) → Appends old mid (take at text) → Appends mid new [] → up ≡ true → Begins old new text × (up ≡ true)
+put_stops old mid new text at up h k e = ((take at text, drop at text, sym (take-append-drop at text), subst (λ (w : List ℕ). Appends old new w) (append-nil (take at text)) (Appends-trans old mid new (take at text) [] h k)), e)
+
+pub put_goes_on : (old mid new : Option (List ℕ)) (text : List ℕ) (at n : ℕ) → Appends old mid (take at text) → Appends mid new (take n (drop at text)) → Appends old new (take (at + n) text)
+put_goes_on old mid new text at n h k = rw (take-add at n text) (Appends-trans old mid new (take at text) (take n (drop at text)) h k)
+
+pub flag_stays : (old new : Bool) (n len : ℕ) → new ≡ (old || ((n == 0) && not (len == 0))) → old ≡ false → (n ≡ 0 → ⊥) → new ≡ false
+flag_stays old new n len e down more = grind (arith, nat_tests)
+
+pub flag_rises : (old new : Bool) (n len : ℕ) → new ≡ (old || ((n == 0) && not (len == 0))) → n ≡ 0 → 0 < len → new ≡ true
+flag_rises old new n len e none some = grind (arith, nat_tests)
+
+pub length_rest : (text : List ℕ) (at : ℕ) → at < length text → 0 < length (take (length text - at) (drop at text))
+length_rest text at h = rw (take_rest text at) (omega (arith, length-drop at text))
+
+pub put_goes_on' : (old mid new : Option (List ℕ)) (text : List ℕ) (at n : ℕ) → Appends old mid (take at text) → Appends mid new (take n (take (length text - at) (drop at text))) → Appends old new (take (at + n) text)
+put_goes_on' old mid new text at n h k = put_goes_on old mid new text at n h (subst (λ (w : List ℕ). Appends mid new (take n w)) (take_rest text at) k)

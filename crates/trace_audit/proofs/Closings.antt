@@ -1,0 +1,56 @@
+-- The closing lines.
+use Rattle.std.proofs.Common.{◌≡◌, ℕ, suc, ◌+◌, ◌<◌, ◌≤◌, List, [], ◌∷◌, ◌++◌, length, take, drop, get_or, Option, Bool, Result, Ok, Err, sym, ◌∙◌, ap, subst, arith, append_assoc, append-nil, add-one, length-take-le, take_all}
+use Rattle.std.proofs.Math.Seq.{split_at, take-suc}
+use Rattle.std.specs.Io.KnownBytes.{Appends}
+use Rattle.std.proofs.KnownBytes.{Appends-trans}
+use Rattle.trace_audit.specs.Report.{closing, desk_line, desk_lines, end_line}
+use Rattle.trace_audit.specs.Wire.{Begins, Writes}
+use Rattle.trace_audit.specs.declared.report.closing.Counts.{Counts}
+use Rattle.trace_audit.specs.declared.report.closing.Tally.{Tally}
+
+desk_lines-append : (a : ℕ) (xs ys : List Counts) → desk_lines a (xs ++ ys) ≡ desk_lines a xs ++ desk_lines (a + length xs) ys
+desk_lines-append a [] ys = let e : a ≡ a + 0 = omega arith in ap (λ n. desk_lines n ys) e
+desk_lines-append a (x ∷ xs) ys =
+    let e : suc a + length xs ≡ a + suc (length xs) = omega arith in
+    ap (λ l. desk_line a x ++ l) (desk_lines-append (suc a) xs ys ∙ ap (λ n. desk_lines (suc a) xs ++ desk_lines n ys) e)
+    ∙ sym (append_assoc (desk_line a x) (desk_lines (suc a) xs) (desk_lines (a + suc (length xs)) ys))
+
+lines_at : (xs : List Counts) (i : ℕ) (y : Counts) (ys : List Counts) → i < length xs → desk_lines 0 (take i xs ++ y ∷ ys) ≡ desk_lines 0 (take i xs) ++ (desk_line i y ++ desk_lines (suc i) ys)
+lines_at xs i y ys low = desk_lines-append 0 (take i xs) (y ∷ ys) ∙ ap (λ n. desk_lines 0 (take i xs) ++ desk_lines n (y ∷ ys)) (let e : 0 + length (take i xs) ≡ i = omega (arith, length-take-le i xs (omega arith)) in e)
+
+-- the lines so far, and one desk more
+lines_more : (xs : List Counts) (i : ℕ) (d : Counts) → i < length xs → desk_lines 0 (take (i + 1) xs) ≡ desk_lines 0 (take i xs) ++ desk_line i (get_or xs i d)
+lines_more xs i d low =
+    ap (λ n. desk_lines 0 (take n xs)) (add-one i) ∙ ap (desk_lines 0) (take-suc xs i d low) ∙ lines_at xs i (get_or xs i d) [] low
+    ∙ ap (λ l. desk_lines 0 (take i xs) ++ l) (append-nil (desk_line i (get_or xs i d)))
+
+-- the writer gave up within the line of desk i
+pub close_cut : (old mid new : Option (List ℕ)) (t : Tally) (xs : List Counts) (i : ℕ) (d : Counts) (text : List ℕ) → xs ≡ t.desks.items → i < length xs → text ≡ desk_line i (get_or xs i d)
+    → Appends old mid (desk_lines 0 (take i xs)) → Begins mid new text → Begins old new (closing t)
+close_cut old mid new t xs i d text same low is before (front, back, cut, wrote) =
+    let behind : List ℕ = desk_lines (suc i) (drop (suc i) xs) ++ end_line t in
+    let lines : closing t ≡ (desk_lines 0 (take i xs) ++ front) ++ (back ++ behind) =
+    ap (λ l. desk_lines 0 l ++ end_line t) (sym same ∙ split_at xs i d low)
+    ∙ ap (λ l. l ++ end_line t) (lines_at xs i (get_or xs i d) (drop (suc i) xs) low)
+    ∙ ap (λ l. (desk_lines 0 (take i xs) ++ (l ++ desk_lines (suc i) (drop (suc i) xs))) ++ end_line t) (sym is ∙ cut) ∙ simp append_assoc in
+    (desk_lines 0 (take i xs) ++ front, back ++ behind, lines, Appends-trans old mid new (desk_lines 0 (take i xs)) front before wrote)
+
+-- what stands before was written, and then all of the text, or a beginning of it
+pub writes_behind : {E : Type 0} → (old mid new : Option (List ℕ)) (failed : Bool) (x y : List ℕ) (r : Result (Unit {0}) E) → Appends old mid x → Writes mid new failed y r → Writes old new failed (x ++ y) r
+writes_behind old mid new failed x y (Ok u) h p = (Appends-trans old mid new x y h p.0, p.1)
+writes_behind old mid new failed x y (Err e) h ((front, back, cut, wrote), up) =
+    ((x ++ front, back, ap (λ w. x ++ w) cut ∙ sym (append_assoc x front back), Appends-trans old mid new x front h wrote), up)
+
+-- the last line was written, or a beginning of it
+pub closed : {E : Type 0} → (old mid new : Option (List ℕ)) (failed : Bool) (t : Tally) (xs : List Counts) (i : ℕ) (text : List ℕ) (r : Result (Unit {0}) E) → xs ≡ t.desks.items → length xs ≤ i → text ≡ end_line t
+    → Appends old mid (desk_lines 0 (take i xs)) → Writes mid new failed text r → Writes old new failed (closing t) r
+closed old mid new failed t xs i text r same all is before after =
+    let whole : take i xs ≡ t.desks.items = take_all i xs all ∙ same in
+    writes_behind old mid new failed (desk_lines 0 t.desks.items) (end_line t) r
+    (subst (λ (l : List Counts). Appends old mid (desk_lines 0 l)) whole before) (subst (λ (w : List ℕ). Writes mid new failed w r) is after)
+
+-- the line of desk i was written
+pub close_more : (old mid new : Option (List ℕ)) (xs : List Counts) (i : ℕ) (d : Counts) (text : List ℕ) → i < length xs → text ≡ desk_line i (get_or xs i d)
+    → Appends old mid (desk_lines 0 (take i xs)) → Appends mid new text → Appends old new (desk_lines 0 (take (i + 1) xs))
+close_more old mid new xs i d text low is before after =
+    subst (λ (w : List ℕ). Appends old new w) (ap (λ w. desk_lines 0 (take i xs) ++ w) is ∙ sym (lines_more xs i d low)) (Appends-trans old mid new (desk_lines 0 (take i xs)) text before after)

@@ -1,0 +1,10 @@
+mod Bytes
+mod Numbers
+mod Steps
+mod Closings
+mod Cuts
+mod Fronts
+mod Openings
+mod Plays
+mod Headers
+pub mod Known

@@ -1,0 +1,36 @@
+use Rattle.std.proofs.Common.{◌∙◌, refl}
+use Rattle.trace_audit.proofs.Fronts.{bad_text, answered_line, begins_same, not_empty, longer, bad_front}
+use Rattle.trace_audit.proofs.replaying.turn.one_line.Goals as goal
+
+pub returns-in-Err-write_all-clause-broke : goal.returns-in-Err-write_all-clause-broke
+returns-in-Err-write_all-clause-broke g c =
+    let p = rw c.in-Ok-Text.field-0-is at c.in-Ok-Text.ensures.ok in (
+      p.0,
+      p.1,
+      (
+        c.in-Some.request,
+        c.answer_of-answer.result,
+        c.in-Some.ensures.found.0,
+        answered_line _ c.in-Ok-Text.text.items c.as_slice.result.now _ c.in-Some.request p.2.0 c.as_slice.ensures.value c.in-Some.ensures.found.1,
+        c.answer_of-answer.ensures.step,
+        begins_same _ _ _ _ (c.as_slice-in-Some.ensures.value ∙ c.line_of_answer-line.ensures) c.in-Err-write_all.ensures.0,
+      ),
+    )
+
+pub returns-in-None-clause-turn : goal.returns-in-None-clause-turn
+returns-in-None-clause-turn g c =
+    let p = rw c.in-Ok-Text.field-0-is at c.in-Ok-Text.ensures.ok in (
+      p.0,
+      p.1,
+      (
+        λ e. not_empty _ (rw p.2.0 (longer _ _)) e,
+        bad_text _ c.in-Ok-Text.text.items _ _ p.2.0 p.2.1 (λ r fits is. c.in-None.ensures.none r fits (c.as_slice.ensures.value ∙ is)),
+        refl,
+        refl,
+      ),
+    )
+
+pub returns-in-Ok-Bad-clause-turn : goal.returns-in-Ok-Bad-clause-turn
+returns-in-Ok-Bad-clause-turn g c =
+    let p = rw c.in-Ok-Bad.field-0-is at c.in-Ok-Bad.ensures.ok in
+    (p.0, p.1, bad_front _ _ _ p.2.0 p.2.1 p.2.2)

@@ -1,0 +1,6 @@
+pub mod Wire
+pub mod Grammar
+pub mod Machine
+pub mod Report
+pub mod Replay
+pub mod Steps

@@ -1,0 +1,145 @@
+-- What a replay reads, how it ends, and what it writes.
+use Rattle.std.specs.Prelude.{ℕ, ◌≡◌, ◌≢◌, ◌⊎◌, ◌+◌, ◌≤◌, List, [], ◌∷◌, ◌++◌, length, Option, Bool, true, false}
+use Rattle.std.specs.List.{flat_map, AllByRecursion}
+use Rattle.std.specs.Io.KnownBytes.{Appends, Consumes, IsAtEnd}
+use Rattle.event_floor.specs.Floors.{FloorSeen}
+use Rattle.event_floor.specs.declared.request.Request.{Request}
+use Rattle.trace_audit.specs.Grammar.{Lacks, spelling, IsRequest, header_text, IsHeader}
+use Rattle.trace_audit.specs.Machine.{Answer, Opens, Run, Tells}
+use Rattle.trace_audit.specs.Report.{answer_line, bad_line, closing, no_memory_line}
+use Rattle.trace_audit.specs.Wire.{Begins}
+use Rattle.trace_audit.specs.declared.grammar.header.Header.{Header}
+use Rattle.trace_audit.specs.declared.report.closing.Tally.{Tally}
+use Rattle.trace_audit.specs.declared.replaying.ending.End.{End}
+use Rattle.trace_audit.specs.declared.replaying.ending.End.TheVariants.{Whole, BadLine, NoRoom}
+use Rattle.trace_audit.specs.declared.replaying.ending.ReplayError.{ReplayError}
+use Rattle.trace_audit.specs.declared.replaying.ending.ReplayError.TheVariants.{Read, Write}
+
+-- Lines: 10 is the line feed.
+
+abbrev pub header_line : Header → List ℕ
+header_line h = header_text h ++ 10 ∷ []
+
+abbrev pub request_line : Request → List ℕ
+request_line r = spelling r ++ 10 ∷ []
+
+-- a good header line stands at the front
+abbrev pub BeginsWithHeader : List ℕ → Type 0
+BeginsWithHeader bytes = (h : Header) × (more : List ℕ) × IsHeader h × (bytes ≡ header_text h ++ 10 ∷ more)
+
+-- a good request line stands at the front
+abbrev pub BeginsWithRequest : List ℕ → Type 0
+BeginsWithRequest bytes = (r : Request) × (more : List ℕ) × IsRequest r × (bytes ≡ spelling r ++ 10 ∷ more)
+
+-- A trace: a good header line, good request lines, 1,000,000 lines at most, and a rest. Nothing is left; or no good
+-- line stands at the front of what is left, or as many lines as there may be stand before it: then the next line is bad.
+
+abbrev pub EndsTrace : ℕ → List ℕ → End → Type 0
+EndsTrace n rest Whole = rest ≡ []
+EndsTrace n rest (BadLine k) = (rest ≢ []) × (k ≡ n + 2) × ((BeginsWithRequest rest → ⊥) ⊎ (n ≡ 999999))
+EndsTrace n rest NoRoom = ⊥
+
+pub record IsTrace (bytes : List ℕ) (h : Header) (requests : List Request) (end : End) : Type 0 where
+  pub header : IsHeader h
+  pub rest : List ℕ
+  pub lines : bytes ≡ header_line h ++ (flat_map request_line requests ++ rest)
+  pub good : AllByRecursion IsRequest requests
+  pub few : length requests ≤ 999999
+  pub ends : EndsTrace (length requests) rest end
+
+-- The report.
+
+-- the floor of this header answers the requests so, and this is told of it afterwards
+pub record IsAnswered (h : Header) (requests : List Request) (answers : List Answer) (tally : Tally) : Type 0 where
+  pub start : FloorSeen
+  pub now : FloorSeen
+  pub opens : Opens h start
+  pub run : Run start requests answers now
+  pub tells : Tells now tally
+
+-- the lines behind the answers
+abbrev pub tail_text : Tally → End → List ℕ
+tail_text tally Whole = closing tally
+tail_text tally (BadLine k) = bad_line k ++ closing tally
+tail_text tally NoRoom = []
+
+-- P holds of the report of the trace, which has this end
+pub record ReportsLines (bytes : List ℕ) (P : List ℕ → Type 0) (end : End) : Type 0 where
+  pub header : Header
+  pub requests : List Request
+  pub answers : List Answer
+  pub tally : Tally
+  pub trace : IsTrace bytes header requests end
+  pub answered : IsAnswered header requests answers tally
+  pub wrote : P (flat_map answer_line answers ++ tail_text tally end)
+
+-- The bytes have this end, and P holds of their report and of nothing else: the lines of the answers, that of the bad
+-- line and the closing lines; or one line alone where no good header line stands first, or where there is no room.
+abbrev pub ReportsTrace : List ℕ → (List ℕ → Type 0) → End → Type 0
+ReportsTrace bytes P Whole = ReportsLines bytes P Whole
+ReportsTrace bytes P (BadLine k) = ReportsLines bytes P (BadLine k) ⊎ ((k ≡ 1) × (BeginsWithHeader bytes → ⊥) × P (bad_line 1))
+ReportsTrace bytes P NoRoom = BeginsWithHeader bytes × P no_memory_line
+
+-- The same of a reader that may not tell its bytes: of those that it gave. What it gave may end within a line.
+
+-- no good header line stands at the front, however the input goes on, or as it ends here
+abbrev pub IsBadHeader : List ℕ → Type 0 → Type 0
+IsBadHeader bytes at_end = ((more : List ℕ) → BeginsWithHeader (bytes ++ more) → ⊥) ⊎ (at_end × (BeginsWithHeader bytes → ⊥))
+
+-- no good request line stands at the front, however the input goes on, or as it ends here
+abbrev pub IsBadFront : List ℕ → Type 0 → Type 0
+IsBadFront bytes at_end = ((more : List ℕ) → BeginsWithRequest (bytes ++ more) → ⊥) ⊎ (at_end × (BeginsWithRequest bytes → ⊥))
+
+-- the beginning of a line of which it is not yet known that it is bad
+abbrev pub IsPartial : List ℕ → Type 0
+IsPartial bytes = Lacks 10 bytes × (length bytes ≤ 64)
+
+-- The bytes given are a good header line, n good request lines and a rest; the floor was driven by them, and P holds of
+-- the lines of its answers, with the tail behind them.
+pub record Traced (left0 left : Option (List ℕ)) (h : Header) (rest : List ℕ) (now : FloorSeen) (n : ℕ) (tail : List ℕ) (P : List ℕ → Type 0) : Type 0 where
+  pub given : List ℕ
+  pub requests : List Request
+  pub answers : List Answer
+  pub start : FloorSeen
+  pub header : IsHeader h
+  pub read : Consumes left0 left given
+  pub lines : given ≡ header_line h ++ (flat_map request_line requests ++ rest)
+  pub good : AllByRecursion IsRequest requests
+  pub number : length requests ≡ n
+  pub opens : Opens h start
+  pub run : Run start requests answers now
+  pub wrote : P (flat_map answer_line answers ++ tail)
+
+-- how the bytes given end behind a header and n request lines
+abbrev pub EndsSo : ℕ → List ℕ → Type 0 → End → Type 0
+EndsSo n rest at_end Whole = (n ≤ 999999) × (rest ≡ []) × at_end
+EndsSo n rest at_end (BadLine k) = (n ≤ 999999) × (rest ≢ []) × (k ≡ n + 2) × (IsBadFront rest at_end ⊎ (n ≡ 999999))
+EndsSo n rest at_end NoRoom = ⊥
+
+-- no good header line, or want of memory for region or floor: one line and no other
+abbrev pub EndsEarly : Option (List ℕ) → Option (List ℕ) → (List ℕ → Type 0) → End → Type 0
+EndsEarly left0 left P Whole = ⊥
+EndsEarly left0 left P (BadLine k) = (k ≡ 1) × (given : List ℕ) × Consumes left0 left given × IsBadHeader given (IsAtEnd left) × P (bad_line 1)
+EndsEarly left0 left P NoRoom = (h : Header) × (given : List ℕ) × (rest : List ℕ) × IsHeader h × Consumes left0 left given × (given ≡ header_line h ++ rest) × P no_memory_line
+
+-- P holds of the report of the bytes given, which have this end
+abbrev pub Reports : Option (List ℕ) → Option (List ℕ) → (List ℕ → Type 0) → End → Type 0
+Reports left0 left P end = ((h : Header) × (now : FloorSeen) × (tally : Tally) × (n : ℕ) × (rest : List ℕ)
+    × Traced left0 left h rest now n (tail_text tally end) P × Tells now tally × EndsSo n rest (IsAtEnd left) end)
+    ⊎ EndsEarly left0 left P end
+
+-- Read: no bad line was known; the lines of the answers to all whole lines were written, and nothing else; nothing at
+-- all where not even a header line was whole. Write: a beginning of a report was written.
+abbrev pub Fails : Option (List ℕ) → Option (List ℕ) → Option (List ℕ) → Option (List ℕ) → ReplayError → Type 0
+Fails left0 left out0 out Read =
+    ((h : Header) × (now : FloorSeen) × (n : ℕ) × (rest : List ℕ)
+    × Traced left0 left h rest now n [] (Appends out0 out) × (n ≤ 999999) × IsPartial rest × (n ≡ 999999 → rest ≡ []))
+    ⊎ ((given : List ℕ) × Consumes left0 left given × IsPartial given × (out ≡ out0))
+Fails left0 left out0 out Write =
+    ((h : Header) × (now : FloorSeen) × (n : ℕ) × (rest : List ℕ) × Traced left0 left h rest now n [] (Begins out0 out) × (n ≤ 999999))
+    ⊎ ((end : End) × Reports left0 left (Begins out0 out) end)
+
+-- which of the two failed
+abbrev pub Failures : Bool → Bool → ReplayError → Type 0
+Failures reader writer Read = (reader ≡ true) × (writer ≡ false)
+Failures reader writer Write = (reader ≡ false) × (writer ≡ true)

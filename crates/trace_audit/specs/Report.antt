@@ -1,0 +1,74 @@
+-- The lines of a report.
+use Rattle.std.specs.Prelude.{ℕ, ◌+◌, ◌==◌, ◌&&◌, sum_by, nat_lt, Bool, List, [], ◌∷◌, ◌++◌, codes, decimal, Ok, Err, suc, if◌then◌else◌}
+use Rattle.region_cut.specs.Slots.{printed}
+use Rattle.slot_chain.specs.Counts.{capped}
+use Rattle.event_floor.specs.declared.reply.Reply.{Reply}
+use Rattle.event_floor.specs.declared.reply.Reply.TheVariants.{Done, Chunk, Slot, Home, Cached, Due}
+use Rattle.event_floor.specs.declared.refusal.Refusal.{Refusal}
+use Rattle.event_floor.specs.Refusals.{number_of, name_of}
+use Rattle.trace_audit.specs.declared.report.closing.Counts.{Counts}
+use Rattle.trace_audit.specs.declared.report.closing.Tally.{Tally}
+use Rattle.trace_audit.specs.Machine.{Answer}
+
+abbrev pub reply_text : Reply → List ℕ
+reply_text Done = codes "ok"
+reply_text (Chunk k) = codes "chunk " ++ decimal k
+reply_text (Slot s) = codes "slot " ++ printed s
+reply_text Home = codes "home"
+reply_text Cached = codes "cached"
+reply_text Due = codes "due"
+
+-- a number below 100, with two digits
+abbrev pub two_digits : ℕ → List ℕ
+two_digits n = (if nat_lt n 10 then codes "0" else []) ++ decimal n
+
+-- as `R04 NeedChunk`
+abbrev pub refusal_text : Refusal → List ℕ
+refusal_text r = codes "R" ++ two_digits (number_of r) ++ codes " " ++ name_of r
+
+abbrev pub answer_text : Answer → List ℕ
+answer_text (Ok reply) = reply_text reply
+answer_text (Err refusal) = refusal_text refusal
+
+-- the line of an answer; 10 is the line feed
+abbrev pub answer_line : Answer → List ℕ
+answer_line a = answer_text a ++ 10 ∷ []
+
+-- the line of a bad line
+abbrev pub bad_line : ℕ → List ℕ
+bad_line n = codes "R17 BadLine " ++ decimal n ++ 10 ∷ []
+
+-- the report where the region or the floor can't be made
+abbrev pub no_memory_line : List ℕ
+no_memory_line = codes "R15 NoMemory" ++ 10 ∷ []
+
+-- the three counts, and the line's end
+abbrev pub counts_text : Counts → List ℕ
+counts_text c = codes " home " ++ decimal c.home ++ codes " cached " ++ decimal c.cached ++ codes " queued " ++ decimal c.queued ++ 10 ∷ []
+
+abbrev pub are_zero : Counts → Bool
+are_zero c = (c.home == 0) && (c.cached == 0) && (c.queued == 0)
+
+-- the line of desk a; nothing where it has nothing
+abbrev pub desk_line : ℕ → Counts → List ℕ
+desk_line a c = if are_zero c then [] else codes "desk " ++ decimal a ++ counts_text c
+
+-- the lines of the desks from a on
+abbrev pub desk_lines : ℕ → List Counts → List ℕ
+desk_lines a [] = []
+desk_lines a (c ∷ cs) = desk_line a c ++ desk_lines (suc a) cs
+
+-- two desks together; a sum stops at the greatest u64
+abbrev pub plus : Counts → Counts → Counts
+plus c d = record { home = capped (c.home + d.home); cached = capped (c.cached + d.cached); queued = capped (c.queued + d.queued) }
+
+-- the sums over the desks
+abbrev pub total : List Counts → Counts
+total cs = record { home = capped (sum_by (λ c. c.home) cs); cached = capped (sum_by (λ c. c.cached) cs); queued = capped (sum_by (λ c. c.queued) cs) }
+
+abbrev pub end_line : Tally → List ℕ
+end_line t = codes "end chunks " ++ decimal t.chunks ++ codes " lent " ++ decimal t.lent ++ counts_text (total t.desks.items)
+
+-- the closing lines
+abbrev pub closing : Tally → List ℕ
+closing t = desk_lines 0 t.desks.items ++ end_line t

@@ -1,0 +1,52 @@
+//! The words of a line.
+ghost use Rattle.std.specs.Prelude.{◌≡◌, ℕ, ◌<◌, ◌++◌, ◌∷◌, IfSome, IfNone, decimal};
+ghost use Rattle.trace_audit.specs.Grammar.{Lacks, IsWord, pair};
+
+/// The bytes before the first `mark`, and those behind it.
+pub fn cut_at(bytes: &[u8], mark: u8) -> Option<(&[u8], &[u8])>
+    ensures found { IfSome result (λ r. (bytes.now ≡ r.0.now ++ mark ∷ r.1.now) × Lacks mark r.0.now) }
+    ensures none { IfNone result (Lacks mark bytes.now) }
+{
+    for (at, byte) in bytes.iter().enumerate() {
+        if *byte == mark {
+            return Some((&bytes[..at], &bytes[at + 1..]));
+        }
+    }
+    None
+}
+
+/// The number that the bytes spell: `0`, or digits of which the first isn't 0.
+pub fn number(bytes: &[u8]) -> Option<u32>
+    ensures found { IfSome result (λ n. IsWord n × (bytes.now ≡ decimal n)) }
+    ensures none { IfNone result ((n : ℕ) → IsWord n → bytes.now ≡ decimal n → ⊥) }
+{
+    if bytes.is_empty() {
+        return None;
+    }
+    let first = bytes[0];
+    if first == b'0' {
+        return if bytes.len() == 1 { Some(0) } else { None };
+    }
+    if first == b'+' {
+        return None;
+    }
+    match str::from_utf8(bytes) {
+        Ok(text) => match text.parse::<u32>() {
+            Ok(number) => Some(number),
+            Err(_) => None,
+        },
+        Err(_) => None,
+    }
+}
+
+/// Two numbers with one mark between them.
+pub fn two(bytes: &[u8], mark: u8) -> Option<(u32, u32)>
+    requires { mark < 48 }
+    ensures found { IfSome result (λ r. IsWord r.0 × IsWord r.1 × (bytes.now ≡ pair mark r.0 r.1)) }
+    ensures none { IfNone result ((a b : ℕ) → IsWord a → IsWord b → bytes.now ≡ pair mark a b → ⊥) }
+{
+    let (front, back) = cut_at(bytes, mark)?;
+    let first = number(front)?;
+    let second = number(back)?;
+    Some((first, second))
+}

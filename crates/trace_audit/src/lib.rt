@@ -1,0 +1,18 @@
+//! Traces of a buffer pool: [`replay`] reads one, drives a floor with it, and writes a report.
+//!
+//! The formats of the trace and of the report stand in `docs/FORMATS.md`. A trace comes from a [`Source`], a report
+//! goes to a [`Sink`]; over readers and writers of std these are [`FromReader`] and [`ToWriter`].
+#![tactic(auto)]
+
+mod grammar;
+mod lines;
+mod replaying;
+mod report;
+#[cfg(test)]
+mod tests;
+mod wire;
+
+pub use grammar::Header;
+pub use replaying::{End, ReplayError, replay};
+pub use report::{Counts, Tally};
+pub use wire::{Failed, FromReader, Sink, Source, ToWriter, write_all};

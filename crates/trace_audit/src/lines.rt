@@ -1,0 +1,122 @@
+//! Lines taken off a source, one after the other.
+//!
+//! Nothing more is read than what the next line wants: a read is made only while neither a line feed nor 65 bytes
+//! without one are held.
+ghost use Rattle.std.specs.Prelude.{◌≡◌, ℕ, ◌<◌, ◌≤◌, ◌+◌, List, [], ◌∷◌, ◌++◌, length, true, false, IfOk, IfErr, IsTrue, IfSome, IfNone};
+ghost use Rattle.std.specs.Io.KnownBytes.{Consumes, IsAtEnd, Keeps};
+ghost use Rattle.arrayvec.specs.ArrayVec.{array_vec_len};
+ghost use Rattle.trace_audit.specs.Grammar.{Lacks};
+ghost use Rattle.trace_audit.specs.Replay.{IsPartial};
+ghost use Rattle.trace_audit.specs.Steps.{Took};
+
+use crate::grammar::cut_at;
+use crate::wire::{Failed, Source};
+use arrayvec::ArrayVec;
+
+/// The bytes that were read and belong to no line so far. A good line has at most 64 bytes before its line feed, so
+/// 65 tell a line that is too long.
+pub type Held = ArrayVec<u8, 65>;
+
+/// What stands next in a trace.
+#[derive(Drop)]
+pub enum Next {
+    /// A line, without its line feed.
+    Text(Held),
+    /// The end, directly after a line feed.
+    Over,
+    /// A line that is too long, or that the input ends within.
+    Bad,
+}
+
+fn copied(bytes: &[u8]) -> Held
+    requires { length bytes.now ≤ 65 }
+    ensures { result.items ≡ bytes.now }
+{
+    let mut held = Held::new();
+    let _ = held.try_extend_from_slice(bytes);
+    held
+}
+
+/// Takes the first line out, if all of it is held.
+fn take_line(held: &mut Held) -> Option<Held>
+    ensures some { IfSome result (λ text. (held.old.items ≡ text.items ++ 10 ∷ held.new.items) × Lacks 10 text.items) }
+    ensures none { IfNone result ((held.new.items ≡ held.old.items) × Lacks 10 held.old.items) }
+{
+    let bytes = held.as_slice();
+    match cut_at(bytes, b'\n') {
+        Some((line, rest)) => {
+            let text = copied(line);
+            let rest = copied(rest);
+            *held = rest;
+            Some(text)
+        }
+        None => None,
+    }
+}
+
+/// Reads once. False at the end of the input.
+fn refill<R: Source>(held: &mut Held, reader: &mut R) -> Result<bool, Failed>
+    requires room { array_vec_len held.old < 65 }
+    requires down { R.has_failed reader.old ≡ false }
+    ensures more { IfOk result (λ more. IsTrue more → (given : List ℕ) × (0 < length given) × Consumes (R.remaining reader.old) (R.remaining reader.new) given × (held.new.items ≡ held.old.items ++ given)) }
+    ensures end { IfOk result (λ more. (more ≡ false) → Consumes (R.remaining reader.old) (R.remaining reader.new) [] × IsAtEnd (R.remaining reader.new) × (held.new.items ≡ held.old.items)) }
+    ensures ok { IfOk result (λ _. R.has_failed reader.new ≡ false) }
+    ensures err { IfErr result (λ _. (R.has_failed reader.new ≡ true) × Keeps (R.remaining reader.old) (R.remaining reader.new) × (held.new.items ≡ held.old.items)) }
+{
+    let mut piece = [0u8; 65];
+    let room = 65 - held.len();
+    match reader.read(&mut piece[..room]) {
+        Ok(0) => Ok(false),
+        Ok(count) => {
+            let _ = held.try_extend_from_slice(&piece[..count]);
+            Ok(true)
+        }
+        Err(failed) => Err(failed),
+    }
+}
+
+/// Takes the next line, reading as far as it must.
+pub fn next_line<R: Source>(held: &mut Held, reader: &mut R) -> Result<Next, Failed>
+    requires { R.has_failed reader.old ≡ false }
+    ensures ok { IfOk result (λ next. (given : List ℕ) × Consumes (R.remaining reader.old) (R.remaining reader.new) given × Took (held.old.items ++ given) held.new.items (IsAtEnd (R.remaining reader.new)) next) }
+    ensures down { IfOk result (λ _. R.has_failed reader.new ≡ false) }
+    ensures err { IfErr result (λ _. (given : List ℕ) × Consumes (R.remaining reader.old) (R.remaining reader.new) given × (held.new.items ≡ held.old.items ++ given) × IsPartial held.new.items) }
+    ensures up { IfErr result (λ _. R.has_failed reader.new ≡ true) }
+{
+    'reading: loop {
+        if let Some(text) = take_line(held) {
+            return Ok(Next::Text(text));
+        }
+        if held.is_full() {
+            return Ok(Next::Bad);
+        }
+        match refill(held, reader) {
+            Ok(true) => {}
+            Ok(false) => {
+                return Ok(if held.is_empty() {
+                    Next::Over
+                } else {
+                    Next::Bad
+                });
+            }
+            Err(failed) => return Err(failed),
+        }
+    }
+}
+
+/// Whether the input ends here. Asked where no further line may stand: one byte is enough to tell.
+pub fn is_over<R: Source>(held: &mut Held, reader: &mut R) -> Result<bool, Failed>
+    requires { R.has_failed reader.old ≡ false }
+    ensures more { IfOk result (λ over. (over ≡ false) → (given : List ℕ) × Consumes (R.remaining reader.old) (R.remaining reader.new) given × (0 < length (held.old.items ++ given))) }
+    ensures over { IfOk result (λ over. IsTrue over → Consumes (R.remaining reader.old) (R.remaining reader.new) [] × IsAtEnd (R.remaining reader.new) × (held.old.items ≡ [])) }
+    ensures down { IfOk result (λ _. R.has_failed reader.new ≡ false) }
+    ensures err { IfErr result (λ _. (R.has_failed reader.new ≡ true) × Keeps (R.remaining reader.old) (R.remaining reader.new) × (held.old.items ≡ [])) }
+{
+    if !held.is_empty() {
+        return Ok(false);
+    }
+    match refill(held, reader) {
+        Ok(more) => Ok(!more),
+        Err(failed) => Err(failed),
+    }
+}

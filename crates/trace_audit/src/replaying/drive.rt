@@ -1,0 +1,46 @@
+//! All lines behind the header.
+ghost use Rattle.std.specs.Prelude.{◌≡◌, ◌≤◌, false, IfOk, IfErr};
+ghost use Rattle.event_floor.specs.Floors.{desk_count};
+ghost use Rattle.trace_audit.specs.Replay.{Failures};
+ghost use Rattle.trace_audit.specs.Steps.{Ended, Stopped};
+
+use super::ending::finish;
+use super::turn::{Turn, one_line};
+use super::{End, ReplayError};
+use crate::lines::{Held, is_over};
+use crate::wire::{Sink, Source};
+use event_floor::Floor;
+use std::alloc::Global;
+
+/// Reads request lines to the end of the trace, answers each, and writes what stands behind the answers.
+pub fn drive<R: Source, W: Sink>(
+    alloc: Global,
+    floor: &mut Floor<'_>,
+    desks: u32,
+    held: &mut Held,
+    reader: &mut R,
+    writer: &mut W,
+) -> Result<End, ReplayError>
+    requires desks { desks ≡ desk_count floor.old }
+    requires few { desks ≤ 64 }
+    requires reader_down { R.has_failed reader.old ≡ false }
+    requires writer_down { W.has_failed writer.old ≡ false }
+    ensures ended { IfOk result (λ end. Ended (R.remaining reader.old) (R.remaining reader.new) held.old.items floor.old (W.contents writer.old) (W.contents writer.new) end) }
+    ensures down { IfOk result (λ _. (R.has_failed reader.new ≡ false) × (W.has_failed writer.new ≡ false)) }
+    ensures stopped { IfErr result (λ e. Stopped (R.remaining reader.old) (R.remaining reader.new) held.old.items floor.old (W.contents writer.old) (W.contents writer.new) e) }
+    ensures up { IfErr result (λ e. Failures (R.has_failed reader.new) (W.has_failed writer.new) e) }
+{
+    for number in 2..1_000_001u32 {
+        match one_line(alloc, floor, held, reader, writer) {
+            Ok(Turn::Answered) => {}
+            Ok(Turn::Over) => return finish(floor, desks, writer, End::Whole),
+            Ok(Turn::Bad) => return finish(floor, desks, writer, End::BadLine(number)),
+            Err(error) => return Err(error),
+        }
+    }
+    match is_over(held, reader) {
+        Ok(true) => finish(floor, desks, writer, End::Whole),
+        Ok(false) => finish(floor, desks, writer, End::BadLine(1_000_001)),
+        Err(_) => Err(ReplayError::Read),
+    }
+}

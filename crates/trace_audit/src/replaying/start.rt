@@ -1,0 +1,127 @@
+//! From the header on.
+ghost use Rattle.std.specs.Prelude.{◌≡◌, ◌≤◌, ◌*◌, length, false, IfOk, IfErr, IfSome};
+ghost use Rattle.std.specs.Io.KnownBytes.{Appends};
+ghost use Rattle.event_floor.specs.Floors.{desk_count};
+ghost use Rattle.trace_audit.specs.Machine.{Opens};
+ghost use Rattle.trace_audit.specs.Grammar.{IsHeader};
+ghost use Rattle.trace_audit.specs.Replay.{Failures, Fails, Reports, ReportsTrace};
+ghost use Rattle.trace_audit.specs.Steps.{Houses, FailsHousing};
+
+use super::drive::drive;
+use super::ending::only;
+use super::{End, ReplayError};
+use crate::grammar::{Header, read_header};
+use crate::lines::{Held, Next, next_line};
+use crate::wire::{Sink, Source};
+use event_floor::Floor;
+use region_cut::{CHUNK, cut};
+use std::alloc::{AllocError, Global};
+
+/// The limit of each desk's cache in bytes.
+const LIMIT: u64 = 4096;
+
+/// A region of so many chunks.
+fn region_of(alloc: Global, chunks: u32) -> Result<Vec<u8>, AllocError>
+    requires { chunks ≤ 1024 }
+    ensures { IfOk result (λ region. length region.items ≡ chunks * 4096) }
+{
+    vec![in alloc; 0u8; chunks as usize * CHUNK]
+}
+
+/// The floor of the header over the region's chunks.
+fn floor_over<'r>(
+    alloc: Global,
+    region: &'r mut [u8],
+    header: Header,
+) -> Result<Floor<'r>, AllocError>
+    requires header { IsHeader header }
+    requires region { length region.old ≡ header.chunks * 4096 }
+    ensures opens { IfOk result (λ floor. Opens header floor) }
+    ensures desks { IfOk result (λ floor. desk_count floor ≡ header.desks) }
+{
+    match cut(alloc, region) {
+        Ok(parts) => Floor::new(alloc, parts, header.desks, LIMIT),
+        Err(_) => Err(AllocError),
+    }
+}
+
+/// Makes the region and the floor, and drives it to the end of the trace.
+fn on_floor<R: Source, W: Sink>(
+    alloc: Global,
+    header: Header,
+    held: &mut Held,
+    reader: &mut R,
+    writer: &mut W,
+) -> Result<End, ReplayError>
+    requires header { IsHeader header }
+    requires reader_down { R.has_failed reader.old ≡ false }
+    requires writer_down { W.has_failed writer.old ≡ false }
+    ensures ended { IfOk result (λ end. Houses (R.remaining reader.old) (R.remaining reader.new) held.old.items header (W.contents writer.old) (W.contents writer.new) end) }
+    ensures down { IfOk result (λ _. (R.has_failed reader.new ≡ false) × (W.has_failed writer.new ≡ false)) }
+    ensures failed { IfErr result (λ e. FailsHousing (R.remaining reader.old) (R.remaining reader.new) held.old.items header (W.contents writer.old) (W.contents writer.new) e) }
+    ensures up { IfErr result (λ e. Failures (R.has_failed reader.new) (W.has_failed writer.new) e) }
+{
+    match region_of(alloc, header.chunks) {
+        Ok(new) => {
+            let mut region = new;
+            match floor_over(alloc, region.as_mut_slice(), header) {
+                Ok(made) => {
+                    let mut floor = made;
+                    drive(alloc, &mut floor, header.desks, held, reader, writer)
+                }
+                Err(_) => only(writer, b"R15 NoMemory\n", End::NoRoom),
+            }
+        }
+        Err(_) => only(writer, b"R15 NoMemory\n", End::NoRoom),
+    }
+}
+
+/// Reads the header, and what follows.
+fn play<R: Source, W: Sink>(
+    alloc: Global,
+    reader: &mut R,
+    writer: &mut W,
+) -> Result<End, ReplayError>
+    requires reader_down { R.has_failed reader.old ≡ false }
+    requires writer_down { W.has_failed writer.old ≡ false }
+    ensures ended { IfOk result (λ end. Reports (R.remaining reader.old) (R.remaining reader.new) (Appends (W.contents writer.old) (W.contents writer.new)) end) }
+    ensures down { IfOk result (λ _. (R.has_failed reader.new ≡ false) × (W.has_failed writer.new ≡ false)) }
+    ensures failed { IfErr result (λ e. Fails (R.remaining reader.old) (R.remaining reader.new) (W.contents writer.old) (W.contents writer.new) e) }
+    ensures up { IfErr result (λ e. Failures (R.has_failed reader.new) (W.has_failed writer.new) e) }
+{
+    let mut held = Held::new();
+    match next_line(&mut held, reader) {
+        Ok(Next::Text(text)) => match read_header(text.as_slice()) {
+            Some(header) => on_floor(alloc, header, &mut held, reader, writer),
+            None => only(writer, b"R17 BadLine 1\n", End::BadLine(1)),
+        },
+        Ok(Next::Over) => only(writer, b"R17 BadLine 1\n", End::BadLine(1)),
+        Ok(Next::Bad) => only(writer, b"R17 BadLine 1\n", End::BadLine(1)),
+        Err(_) => Err(ReplayError::Read),
+    }
+}
+
+/// Reads a trace, drives a floor of its own with it, and writes the report.
+///
+/// The floor's limit is 4,096 bytes, its region has 4,096 bytes for each chunk of the header. One reply is written for
+/// each request line as soon as it is read, so memory does not grow with the trace. Reading stops at the first bad
+/// line; nothing is written after a failed write. Where the floor or its region can't be made for want of memory the
+/// answer is `NoRoom`.
+#[tactic(auto, using(crate::proofs::Known::known))]
+pub fn replay<R: Source, W: Sink>(
+    alloc: Global,
+    reader: &mut R,
+    writer: &mut W,
+) -> Result<End, ReplayError>
+    requires reader_down { R.has_failed reader.old ≡ false }
+    requires writer_down { W.has_failed writer.old ≡ false }
+    // Where the reader's bytes are known, they are a trace with this end, and its report was written and nothing else.
+    ensures trace { IfOk result (λ end. IfSome (R.remaining reader.old) (λ bytes. ReportsTrace bytes (Appends (W.contents writer.old) (W.contents writer.new)) end)) }
+    // Whatever the reader, the same holds of the bytes that it gave.
+    ensures ended { IfOk result (λ end. Reports (R.remaining reader.old) (R.remaining reader.new) (Appends (W.contents writer.old) (W.contents writer.new)) end) }
+    ensures down { IfOk result (λ _. (R.has_failed reader.new ≡ false) × (W.has_failed writer.new ≡ false)) }
+    ensures failed { IfErr result (λ e. Fails (R.remaining reader.old) (R.remaining reader.new) (W.contents writer.old) (W.contents writer.new) e) }
+    ensures up { IfErr result (λ e. Failures (R.has_failed reader.new) (W.has_failed writer.new) e) }
+{
+    play(alloc, reader, writer)
+}

@@ -1,0 +1,68 @@
+//! One line of a trace.
+ghost use Rattle.std.specs.Prelude.{◌≡◌, ℕ, List, ◌++◌, false, IfOk, IfErr};
+ghost use Rattle.std.specs.Io.KnownBytes.{Consumes, IsAtEnd};
+ghost use Rattle.event_floor.specs.Floors.{desk_count};
+ghost use Rattle.trace_audit.specs.Machine.{Step};
+ghost use Rattle.trace_audit.specs.Replay.{Failures};
+ghost use Rattle.trace_audit.specs.Steps.{Turned, Broke};
+
+use super::ReplayError;
+use crate::grammar::read_request;
+use crate::lines::{Held, Next, next_line};
+use crate::report::line_of_answer;
+use crate::wire::{Sink, Source, write_all};
+use event_floor::{Floor, Refusal, Reply, Request};
+use std::alloc::Global;
+
+/// What one line came to.
+#[derive(Clone, Copy, Debug, PartialEq, Eq, Drop)]
+pub enum Turn {
+    /// It is a request, which was answered.
+    Answered,
+    /// There is none: the input is over.
+    Over,
+    /// It is bad.
+    Bad,
+}
+
+/// Hands the request to the floor.
+fn answer_of(alloc: Global, floor: &mut Floor<'_>, request: Request) -> Result<Reply, Refusal>
+    ensures step { Step floor.old request result floor.new }
+    ensures desks { desk_count floor.new ≡ desk_count floor.old }
+{
+    floor.apply(alloc, request)
+}
+
+/// Reads one line, and answers it where it is a request.
+pub fn one_line<R: Source, W: Sink>(
+    alloc: Global,
+    floor: &mut Floor<'_>,
+    held: &mut Held,
+    reader: &mut R,
+    writer: &mut W,
+) -> Result<Turn, ReplayError>
+    requires reader_down { R.has_failed reader.old ≡ false }
+    requires writer_down { W.has_failed writer.old ≡ false }
+    ensures turn { IfOk result (λ turn. (given : List ℕ) × Consumes (R.remaining reader.old) (R.remaining reader.new) given × Turned (held.old.items ++ given) held.new.items (IsAtEnd (R.remaining reader.new)) floor.old floor.new (W.contents writer.old) (W.contents writer.new) turn) }
+    ensures down { IfOk result (λ _. (R.has_failed reader.new ≡ false) × (W.has_failed writer.new ≡ false)) }
+    ensures broke { IfErr result (λ e. (given : List ℕ) × Consumes (R.remaining reader.old) (R.remaining reader.new) given × Broke (held.old.items ++ given) held.new.items floor.old floor.new (W.contents writer.old) (W.contents writer.new) e) }
+    ensures up { IfErr result (λ e. Failures (R.has_failed reader.new) (W.has_failed writer.new) e) }
+    ensures desks { desk_count floor.new ≡ desk_count floor.old }
+{
+    match next_line(held, reader) {
+        Ok(Next::Text(text)) => match read_request(text.as_slice()) {
+            Some(request) => {
+                let answer = answer_of(alloc, floor, request);
+                let line = line_of_answer(answer);
+                match write_all(writer, line.as_slice()) {
+                    Ok(()) => Ok(Turn::Answered),
+                    Err(_) => Err(ReplayError::Write),
+                }
+            }
+            None => Ok(Turn::Bad),
+        },
+        Ok(Next::Over) => Ok(Turn::Over),
+        Ok(Next::Bad) => Ok(Turn::Bad),
+        Err(_) => Err(ReplayError::Read),
+    }
+}

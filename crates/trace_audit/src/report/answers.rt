@@ -1,0 +1,77 @@
+//! The lines of answers, and that of a bad line.
+ghost use Rattle.std.specs.Prelude.{◌≡◌, ◌≤◌, ◌+◌, ◌++◌};
+ghost use Rattle.arrayvec.specs.ArrayVec.{array_vec_len};
+ghost use Rattle.region_cut.specs.Slots.{printed};
+ghost use Rattle.trace_audit.specs.Report.{answer_line, bad_line, reply_text, refusal_text};
+
+use super::text::{Line, push_number, push_text};
+use event_floor::{Refusal, Reply};
+use region_cut::Slot;
+
+fn push_slot(line: &mut Line, slot: Slot)
+    requires { array_vec_len line.old ≤ 10 }
+    ensures items { line.new.items ≡ line.old.items ++ printed slot }
+    ensures len { array_vec_len line.new ≤ 60 }
+{
+    push_number(line, u64::from(slot.chunk));
+    push_text(line, b".");
+    push_number(line, u64::from(slot.index));
+}
+
+fn push_reply(line: &mut Line, reply: Reply)
+    requires { array_vec_len line.old ≡ 0 }
+    ensures items { line.new.items ≡ line.old.items ++ reply_text reply }
+    ensures len { array_vec_len line.new ≤ 100 }
+{
+    match reply {
+        Reply::Done => push_text(line, b"ok"),
+        Reply::Chunk(chunk) => {
+            push_text(line, b"chunk ");
+            push_number(line, u64::from(chunk));
+        }
+        Reply::Slot(slot) => {
+            push_text(line, b"slot ");
+            push_slot(line, slot);
+        }
+        Reply::Home => push_text(line, b"home"),
+        Reply::Cached => push_text(line, b"cached"),
+        Reply::Due => push_text(line, b"due"),
+    }
+}
+
+/// Adds the number with two digits, a space and the name, as `R04 NeedChunk`.
+fn push_refusal(line: &mut Line, refusal: Refusal)
+    requires { array_vec_len line.old ≡ 0 }
+    ensures items { line.new.items ≡ line.old.items ++ refusal_text refusal }
+    ensures len { array_vec_len line.new ≤ 100 }
+{
+    let number = refusal.number();
+    push_text(line, if number < 10 { b"R0" } else { b"R" });
+    push_number(line, u64::from(number));
+    push_text(line, b" ");
+    push_text(line, refusal.name().as_bytes());
+}
+
+/// The line of an answer.
+pub fn line_of_answer(answer: Result<Reply, Refusal>) -> Line
+    ensures { result.items ≡ answer_line answer }
+{
+    let mut line = Line::new();
+    match answer {
+        Ok(reply) => push_reply(&mut line, reply),
+        Err(refusal) => push_refusal(&mut line, refusal),
+    }
+    push_text(&mut line, b"\n");
+    line
+}
+
+/// The line that names a bad line.
+pub fn line_of_bad(number: u32) -> Line
+    ensures { result.items ≡ bad_line number }
+{
+    let mut line = Line::new();
+    push_text(&mut line, b"R17 BadLine ");
+    push_number(&mut line, u64::from(number));
+    push_text(&mut line, b"\n");
+    line
+}

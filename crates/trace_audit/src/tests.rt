@@ -1,0 +1,7 @@
+//! Traces and their reports, byte for byte.
+
+mod bad_lines;
+mod failing;
+mod long;
+mod memory;
+mod rows;

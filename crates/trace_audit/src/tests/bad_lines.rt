@@ -1,0 +1,59 @@
+//! Lines that are near to good ones.
+use super::memory::replayed;
+use crate::End;
+use std::test::Fail;
+
+const FRONT: &[u8] = b"pool 1 1 2\nadopt 0 0\n";
+
+#[test]
+fn a_bad_line_ends_the_trace(rt: HostRuntime) -> Result<(), Fail> {
+    let lines: [&[u8]; 23] = [
+        b"",
+        b" alloc 0 1",
+        b"alloc  0 1",
+        b"alloc 0 1 ",
+        b"alloc 0 01",
+        b"alloc 0 +1",
+        b"alloc 0 4294967296",
+        b"Alloc 0 1",
+        b"alloc 0",
+        b"free 0 0",
+        b"free 0 0.",
+        b"free 0 0.00",
+        b"free 0 0.0.0",
+        b"pool 1 1 2",
+        b"adopt 0 0\r",
+        b"\xff",
+        b"aaaaaaaaaaaaaaaaaaaaaaaaaaaaaaaaaaaaaaaaaaaaaaaaaaaaaaaaaaaaaaaaa",
+        b"alloc 0 1                                                        ",
+        // The remaining verbs are not read so far.
+        b"retire 0",
+        b"send 0 0",
+        b"link 1",
+        b"take 0",
+        b"adopt 0 0 0",
+    ];
+    for line in lines {
+        let mut trace = Vec::from_slice(rt.alloc(), FRONT)?;
+        trace.extend_from_slice(line)?;
+        trace.extend_from_slice(b"\nadopt 0 0\n")?;
+        let (end, bytes) = replayed(rt.alloc(), trace.as_slice());
+        assert!(rt; end == Ok(End::BadLine(3)), "{line:?}");
+        let report =
+            b"ok\nR17 BadLine 3\nend chunks 0 lent 0 home 0 cached 0 queued 0\n".as_slice();
+        assert!(rt; bytes.as_slice() == report, "{line:?}");
+    }
+    Ok(())
+}
+
+#[test]
+fn a_number_out_of_range_is_no_bad_line(rt: HostRuntime) -> Result<(), Fail> {
+    let mut trace = Vec::from_slice(rt.alloc(), FRONT)?;
+    trace.extend_from_slice(b"free 0 4294967295.4294967295\nadopt 0 4294967295\n")?;
+    let (end, bytes) = replayed(rt.alloc(), trace.as_slice());
+    assert!(rt; end == Ok(End::Whole));
+    let report =
+        b"ok\nR07 NotLent\nR14 Held\nend chunks 0 lent 0 home 0 cached 0 queued 0\n".as_slice();
+    assert!(rt; bytes.as_slice() == report);
+    Ok(())
+}
