@@ -11,6 +11,8 @@ mod refusal;
 mod reply;
 mod request;
 mod seat;
+#[cfg(test)]
+mod tests;
 
 pub use floor::Floor;
 pub use refusal::Refusal;
