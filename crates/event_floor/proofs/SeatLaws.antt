@@ -9,6 +9,7 @@ use Rattle.std.proofs.lemmas.List.Sorted.{All-permutation}
 use Rattle.region_cut.specs.Classes.{size_of, slots_of}
 use Rattle.region_cut.specs.declared.part.Part.{Part}
 use Rattle.slot_chain.specs.Buffer.{Buffer}
+use Rattle.digit_route.specs.Digits.{Scheme}
 use Rattle.pool_desk.specs.Homes.{AtHome, Gives, unused_from, slot_at}
 use Rattle.pool_desk.specs.Homes.AtHome.{Kept, Fresh}
 use Rattle.pool_desk.specs.Desks.{DeskState}
@@ -57,33 +58,44 @@ same_slot : (s : AtHome) (b : Buffer) → Gives s b → b.slot ≡ slot_at s
 same_slot (Kept a) b g = ap (λ (z : Buffer). z.slot) g
 same_slot (Fresh u) b g = g.0
 
--- the desk is the same but for its slots at home
-numbered_home : (limit a : ℕ) (d d' : DeskState) → IsNumbered limit a (Held d) → d' ≡ record d { home = d'.home } → IsNumbered limit a (Held d')
-numbered_home limit a d d' n same =
-    (ap (λ (z : DeskState). z.number) same ∙ n.0, ap (λ (z : DeskState). z.limit) same ∙ n.1, ap (λ (z : DeskState). z.profile) same ∙ n.2)
+-- the desk keeps its number, its limit and its digits
+numbered_as : (digits : Scheme) (limit a : ℕ) (d d' : DeskState) → IsNumbered digits limit a (Held d)
+    → d'.number ≡ d.number → d'.limit ≡ d.limit → d'.digits ≡ d.digits → IsNumbered digits limit a (Held d')
+numbered_as digits limit a d d' n number bytes reads = (number ∙ n.0, bytes ∙ n.1, reads ∙ n.2)
 
-numbered_cached : (limit a : ℕ) (d d' : DeskState) → IsNumbered limit a (Held d) → d' ≡ record d { cached = d'.cached } → IsNumbered limit a (Held d')
-numbered_cached limit a d d' n same =
-    (ap (λ (z : DeskState). z.number) same ∙ n.0, ap (λ (z : DeskState). z.limit) same ∙ n.1, ap (λ (z : DeskState). z.profile) same ∙ n.2)
+numbered_drawn : (digits : Scheme) (limit a : ℕ) (d d' : DeskState) → IsNumbered digits limit a (Held d)
+    → d' ≡ record d { home = d'.home; drawn = d'.drawn } → IsNumbered digits limit a (Held d')
+numbered_drawn digits limit a d d' n same =
+    numbered_as digits limit a d d' n (ap (λ (z : DeskState). z.number) same) (ap (λ (z : DeskState). z.limit) same) (ap (λ (z : DeskState). z.digits) same)
 
--- a desk that keeps its number, its limit and its profile, with slots at home that have a place
-pub record StaysPlaced (limit chunks a : ℕ) (d : DeskState) : Type 0 where
-  pub numbered : IsNumbered limit a (Held d)
+numbered_home : (digits : Scheme) (limit a : ℕ) (d d' : DeskState) → IsNumbered digits limit a (Held d)
+    → d' ≡ record d { home = d'.home } → IsNumbered digits limit a (Held d')
+numbered_home digits limit a d d' n same =
+    numbered_as digits limit a d d' n (ap (λ (z : DeskState). z.number) same) (ap (λ (z : DeskState). z.limit) same) (ap (λ (z : DeskState). z.digits) same)
+
+numbered_cached : (digits : Scheme) (limit a : ℕ) (d d' : DeskState) → IsNumbered digits limit a (Held d)
+    → d' ≡ record d { cached = d'.cached } → IsNumbered digits limit a (Held d')
+numbered_cached digits limit a d d' n same =
+    numbered_as digits limit a d d' n (ap (λ (z : DeskState). z.number) same) (ap (λ (z : DeskState). z.limit) same) (ap (λ (z : DeskState). z.digits) same)
+
+-- a desk that keeps its number, its limit and its digits, with slots at home that have a place
+pub record StaysPlaced (digits : Scheme) (limit chunks a : ℕ) (d : DeskState) : Type 0 where
+  pub numbered : IsNumbered digits limit a (Held d)
   pub placed : All (HasPlace chunks) d.home
 
-pub claim_stays : (limit chunks a class : ℕ) (part : Part) (d d' : DeskState) → IsNumbered limit a (Held d) → All (HasPlace chunks) d.home
-    → class < class_limit → part.chunk < chunks → Claims d part class d' → StaysPlaced limit chunks a d'
-claim_stays limit chunks a class part d d' n h l m c = record {
-  numbered = numbered_home limit a d d' n c.same;
+pub claim_stays : (digits : Scheme) (limit chunks a class : ℕ) (part : Part) (d d' : DeskState) → IsNumbered digits limit a (Held d) → All (HasPlace chunks) d.home
+    → class < class_limit → part.chunk < chunks → Claims d part class d' → StaysPlaced digits limit chunks a d'
+claim_stays digits limit chunks a class part d d' n h l m c = record {
+  numbered = numbered_drawn digits limit a d d' n c.same;
   placed = All-permutation (HasPlace chunks) _ d'.home c.home
       (All-append (HasPlace chunks) (unused_from part.chunk class part.bytes.ghost_name (slots_of class) 0 part.bytes.now) d.home
       (unused_places chunks part.chunk class part.bytes.ghost_name (slots_of class) 0 part.bytes.now m (let m = few_slots class l in omega (arith, m))) h);
 }
 
-pub alloc_stays : (limit chunks a size : ℕ) (d d' : DeskState) (b : Buffer) → IsNumbered limit a (Held d) → All (HasPlace chunks) d.home
-    → Allocs d size (Ok b) d' → StaysPlaced limit chunks a d'
-alloc_stays limit chunks a size d d' b n h s = record {
-  numbered = numbered_home limit a d d' n s.2;
+pub alloc_stays : (digits : Scheme) (limit chunks a size : ℕ) (d d' : DeskState) (b : Buffer) → IsNumbered digits limit a (Held d) → All (HasPlace chunks) d.home
+    → Allocs d size (Ok b) d' → StaysPlaced digits limit chunks a d'
+alloc_stays digits limit chunks a size d d' b n h s = record {
+  numbered = numbered_drawn digits limit a d d' n s.2;
   placed = tail_of (HasPlace chunks) s.1.from d'.home (All-permutation (HasPlace chunks) d.home (s.1.from ∷ d'.home) s.1.others h);
 }
 
@@ -93,18 +105,18 @@ alloc_placed chunks size d d' b h s =
     rw (same_slot s.1.from b s.1.gives)
     (head_of (HasPlace chunks) s.1.from d'.home (All-permutation (HasPlace chunks) d.home (s.1.from ∷ d'.home) s.1.others h))
 
-caches_stays : (limit chunks a : ℕ) (d d' : DeskState) (b : Buffer) → IsNumbered limit a (Held d) → All (HasPlace chunks) d.home
-    → Caches d b d' → StaysPlaced limit chunks a d'
-caches_stays limit chunks a d d' b n h s = record {
-  numbered = numbered_cached limit a d d' n s.1;
+caches_stays : (digits : Scheme) (limit chunks a : ℕ) (d d' : DeskState) (b : Buffer) → IsNumbered digits limit a (Held d) → All (HasPlace chunks) d.home
+    → Caches d b d' → StaysPlaced digits limit chunks a d'
+caches_stays digits limit chunks a d d' b n h s = record {
+  numbered = numbered_cached digits limit a d d' n s.1;
   placed = subst (λ z. All (HasPlace chunks) z) (sym (ap (λ (z : DeskState). z.home) s.1)) h;
 }
 
-pub free_stays : (limit chunks a : ℕ) (d d' : DeskState) (b : Buffer) (f : Freed) → IsNumbered limit a (Held d) → All (HasPlace chunks) d.home
-    → (b.slot.chunk < chunks) × (b.slot.index < 256) → Frees d b f d' → StaysPlaced limit chunks a d'
-free_stays limit chunks a d d' b Home n h p s = record {
-  numbered = numbered_home limit a d d' n s.1;
+pub free_stays : (digits : Scheme) (limit chunks a : ℕ) (d d' : DeskState) (b : Buffer) (f : Freed) → IsNumbered digits limit a (Held d) → All (HasPlace chunks) d.home
+    → (b.slot.chunk < chunks) × (b.slot.index < 256) → Frees d b f d' → StaysPlaced digits limit chunks a d'
+free_stays digits limit chunks a d d' b Home n h p s = record {
+  numbered = numbered_home digits limit a d d' n s.1;
   placed = All-permutation (HasPlace chunks) (Kept (freed b) ∷ d.home) d'.home s.2 (All-cons (HasPlace chunks) (Kept (freed b)) d.home p h);
 }
-free_stays limit chunks a d d' b Cached n h p s = caches_stays limit chunks a d d' b n h s.0
-free_stays limit chunks a d d' b Due n h p s = caches_stays limit chunks a d d' b n h s.0
+free_stays digits limit chunks a d d' b Cached n h p s = caches_stays digits limit chunks a d d' b n h s.0
+free_stays digits limit chunks a d d' b Due n h p s = caches_stays digits limit chunks a d d' b n h s.0

@@ -1,12 +1,12 @@
 -- What a desk's answers are called on the floor.
 use Rattle.pool_desk.specs.declared.error.DeskError.{DeskError}
-use Rattle.pool_desk.specs.declared.error.DeskError.TheVariants.{TooLarge as DeskTooLarge, NeedChunk as DeskNeedChunk, NotNeeded as DeskNotNeeded, NoMemory as DeskNoMemory}
+use Rattle.pool_desk.specs.declared.error.DeskError.TheVariants.{TooLarge as DeskTooLarge, NeedChunk as DeskNeedChunk, NotNeeded as DeskNotNeeded, Unsettled as DeskUnsettled, NoMemory as DeskNoMemory}
 use Rattle.pool_desk.specs.declared.freed.Freed.{Freed}
 use Rattle.pool_desk.specs.declared.freed.Freed.TheVariants.{Home as FreedHome, Cached as FreedCached, Due as FreedDue}
 use Rattle.event_floor.specs.declared.reply.Reply.{Reply}
 use Rattle.event_floor.specs.declared.reply.Reply.TheVariants.{Home, Cached, Due}
 use Rattle.event_floor.specs.declared.refusal.Refusal.{Refusal}
-use Rattle.event_floor.specs.declared.refusal.Refusal.TheVariants.{TooLarge, NeedChunk, NotNeeded, NoMemory}
+use Rattle.event_floor.specs.declared.refusal.Refusal.TheVariants.{TooLarge, NeedChunk, NotNeeded, Unsettled, NoMemory}
 
 abbrev pub reply_of : Freed → Reply
 reply_of FreedHome = Home
@@ -17,4 +17,5 @@ abbrev pub refusal_of : DeskError → Refusal
 refusal_of DeskTooLarge = TooLarge
 refusal_of (DeskNeedChunk class) = NeedChunk
 refusal_of DeskNotNeeded = NotNeeded
+refusal_of DeskUnsettled = Unsettled
 refusal_of DeskNoMemory = NoMemory

@@ -1,24 +1,24 @@
 -- The desks of a floor.
 use Rattle.std.specs.Prelude.{ℕ, zero, suc, ◌≡◌, ◌<◌, List, [], ◌∷◌, ◌++◌}
-use Rattle.region_cut.specs.declared.profile.Profile.TheVariants.{Pool}
 use Rattle.slot_chain.specs.Buffer.{Buffer}
+use Rattle.digit_route.specs.Digits.{Scheme}
 use Rattle.pool_desk.specs.Homes.{AtHome, slot_at}
 use Rattle.pool_desk.specs.Desks.{IdleState, DeskState}
 use Rattle.event_floor.specs.declared.seat.Seat.{Seat}
 use Rattle.event_floor.specs.declared.seat.Seat.TheVariants.{Idle, Held}
 
 -- a desk with nothing at home
-abbrev pub new_desk : ℕ → ℕ → IdleState
-new_desk limit number = record { number = number; profile = Pool; limit = limit; home = [] }
+abbrev pub new_desk : Scheme → ℕ → ℕ → IdleState
+new_desk digits limit number = record { number = number; digits = digits; limit = limit; home = []; drawn = [] }
 
 -- n desks that no worker holds, with nothing at home
-unfoldable pub idle_seats : ℕ → ℕ → List Seat
-idle_seats limit zero = []
-idle_seats limit (suc n) = idle_seats limit n ++ Idle (new_desk limit n) ∷ []
+unfoldable pub idle_seats : Scheme → ℕ → ℕ → List Seat
+idle_seats digits limit zero = []
+idle_seats digits limit (suc n) = idle_seats digits limit n ++ Idle (new_desk digits limit n) ∷ []
 
 -- the desk in the hands of a worker, with nothing in its cache
 abbrev pub adopted : ℕ → IdleState → DeskState
-adopted worker d = record { number = d.number; profile = d.profile; limit = d.limit; worker = worker; home = d.home; cached = [] }
+adopted worker d = record { number = d.number; digits = d.digits; limit = d.limit; worker = worker; home = d.home; drawn = d.drawn; cached = [] }
 
 abbrev pub held_by : ℕ → Seat → Seat
 held_by worker (Idle d) = Held (adopted worker d)
@@ -28,10 +28,10 @@ abbrev pub home_of : Seat → List AtHome
 home_of (Idle d) = d.home
 home_of (Held d) = d.home
 
--- the desk has this number and limit, and its profile is `Pool`
-abbrev pub IsNumbered : ℕ → ℕ → Seat → Type 0
-IsNumbered limit number (Idle d) = (d.number ≡ number) × (d.limit ≡ limit) × (d.profile ≡ Pool)
-IsNumbered limit number (Held d) = (d.number ≡ number) × (d.limit ≡ limit) × (d.profile ≡ Pool)
+-- the desk has this number and limit, and reads the numbers of desks so
+abbrev pub IsNumbered : Scheme → ℕ → ℕ → Seat → Type 0
+IsNumbered digits limit number (Idle d) = (d.number ≡ number) × (d.limit ≡ limit) × (d.digits ≡ digits)
+IsNumbered digits limit number (Held d) = (d.number ≡ number) × (d.limit ≡ limit) × (d.digits ≡ digits)
 
 -- the slot has a place in a table for so many chunks
 abbrev pub HasPlace : ℕ → AtHome → Type 0

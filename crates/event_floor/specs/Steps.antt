@@ -1,9 +1,9 @@
 -- What a request does to a floor, and why it is refused.
-use Rattle.std.specs.Prelude.{ℕ, ◌≡◌, ◌<◌, ◌≤◌, ◌∷◌, ◌++◌, [], Any, length, slice_set, Some, None, Ok}
+use Rattle.std.specs.Prelude.{ℕ, ◌≡◌, ◌<◌, ◌≤◌, ◌∷◌, ◌++◌, [], length, slice_set, Some, None, Ok}
 use Rattle.region_cut.specs.declared.part.Part.{Part}
 use Rattle.region_cut.specs.declared.slot.Slot.{Slot}
 use Rattle.slot_chain.specs.Buffer.{Buffer}
-use Rattle.pool_desk.specs.Homes.{AtHome, class_at}
+use Rattle.pool_desk.specs.ByClass.{HasClass}
 use Rattle.pool_desk.specs.Desks.{IdleState, DeskState}
 use Rattle.pool_desk.specs.Steps.{Claims, Allocs, AllocFault, Frees}
 use Rattle.pool_desk.specs.declared.error.DeskError.TheVariants.{NeedChunk as DeskNeedChunk, NoMemory as DeskNoMemory}
@@ -29,7 +29,7 @@ MeetsHeld v a = (d : DeskState) × IsHeld v a d
 
 -- a slot of the class is at home
 abbrev pub HasHome : DeskState → ℕ → Type 0
-HasHome d class = Any (λ (s : AtHome). class_at s ≡ class) d.home
+HasHome d class = HasClass class d.home
 
 -- for the classes that a claim may name
 abbrev pub class_limit : ℕ

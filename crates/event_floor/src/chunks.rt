@@ -5,7 +5,8 @@ ghost use Rattle.event_floor.specs.Chunks.{AreNumbered, class_drawn};
 ghost use Rattle.region_cut.specs.declared.part.Part.{Part};
 
 use region_cut::{Class, Part};
-use std::alloc::{AllocError, Global};
+use slot_chain::NoMemory;
+use std::alloc::Global;
 use std::marker::Model;
 
 /// A drawn chunk: the desk that drew it, and the class that it was drawn for.
@@ -38,7 +39,7 @@ impl<'r> Model for Chunks<'r> {
 
 impl<'r> Chunks<'r> {
     /// The chunks of these parts, none of them drawn.
-    pub(crate) fn new(alloc: Global, parts: Vec<Part<'r>>) -> Result<Chunks<'r>, AllocError>
+    pub(crate) fn new(alloc: Global, parts: Vec<Part<'r>>) -> Result<Chunks<'r>, NoMemory>
         requires { AreNumbered parts.items }
         ensures { IfOk result (λ c. c ≡ record { count = length parts.entry.items; drawn = [] }) }
     {

@@ -12,13 +12,16 @@ use crate::chunks::Chunks;
 use crate::lent::Lent;
 use crate::seat::{Seat, empty_seats, hold};
 use crate::{Refusal, Reply, Request};
+use digit_route::Digits;
 use region_cut::{Class, Part, Profile};
-use std::alloc::{AllocError, Global};
+use slot_chain::NoMemory;
+use std::alloc::Global;
 use std::marker::Model;
 
 /// All desks of a pool, the chunks that none of them drew, and the lent buffers.
 #[derive(Drop)]
 pub struct Floor<'r> {
+    digits: Digits,
     limit: u64,
     desks: Vec<Seat<'r>>,
     chunks: Chunks<'r>,
@@ -30,9 +33,9 @@ impl<'r> Model for Floor<'r> {
 
     ghost Value = { FloorSeen };
 
-    ghost view = { λ f. record { limit = f.limit; chunks = f.chunks.count; drawn = f.chunks.drawn; desks = f.desks.items; lent = f.lent } };
+    ghost view = { λ f. record { digits = f.digits; limit = f.limit; chunks = f.chunks.count; drawn = f.chunks.drawn; desks = f.desks.items; lent = f.lent } };
 
-    ghost invariant = { λ f. IsFloor f.limit f.chunks.count f.desks.items f.lent };
+    ghost invariant = { λ f. IsFloor f.digits f.limit f.chunks.count f.desks.items f.lent };
 }
 
 /// The class of a claim: one of those that the profile `Pool` uses.
@@ -47,24 +50,27 @@ fn class_of_pool(number: u32) -> Option<Class>
 }
 
 impl<'r> Floor<'r> {
-    /// A floor of so many desks, 1 to 64, all idle, over the parts that a cut gave of one region. A desk's cache is due where
-    /// it has more than `limit` bytes. After a want of memory the parts are given up.
+    /// A floor of so many desks, 1 to 64, all idle, over the parts that a cut gave of one region. The numbers of desks have 6 bits,
+    /// and are read by `digits`. A desk's cache is due where it has more than `limit` bytes. After a want of memory the parts are given up.
     pub fn new(
         alloc: Global,
         parts: Vec<Part<'r>>,
         desks: u32,
+        digits: Digits,
         limit: u64,
-    ) -> Result<Floor<'r>, AllocError>
+    ) -> Result<Floor<'r>, NoMemory>
         requires some { 1 ≤ desks }
         requires few { desks ≤ 64 }
+        requires bits { digits.bits ≡ 6 }
         requires limit { limit ≤ 1048576 }
         requires parts { AreNumbered parts.items }
-        ensures { IfOk result (λ f. f ≡ opening desks (length parts.entry.items) limit) }
+        ensures { IfOk result (λ f. f ≡ opening desks (length parts.entry.items) digits limit) }
     {
         let lent = Lent::new(alloc, parts.len())?;
         let chunks = Chunks::new(alloc, parts)?;
-        let desks = empty_seats(alloc, desks, limit)?;
+        let desks = empty_seats(alloc, desks, digits, limit)?;
         Ok(Floor {
+            digits,
             limit,
             desks,
             chunks,
@@ -100,7 +106,7 @@ impl<'r> Floor<'r> {
         if let Seat::Held(_) = &self.desks[place] {
             return Err(Refusal::Held);
         }
-        hold(&mut self.desks[place], worker);
+        hold(&mut self.desks[place], self.digits, worker);
         Ok(Reply::Done)
     }
 
@@ -180,7 +186,7 @@ impl<'r> Floor<'r> {
         ensures queued { result.2 ≡ 0 }
     {
         match &self.desks[a as usize] {
-            Seat::Idle(desk) => (desk.home_count(), 0, 0),
+            Seat::Idle(desk) => (desk.counts().0, 0, 0),
             Seat::Held(desk) => {
                 let (home, cached) = desk.counts();
                 (home, cached, 0)
@@ -207,6 +213,13 @@ impl<'r> Floor<'r> {
         ensures { result ≡ class_drawn self.now.drawn chunk }
     {
         self.chunks.class_of(chunk)
+    }
+
+    /// How the numbers of its desks are read.
+    pub fn digits(&self) -> Digits
+        ensures { result ≡ self.now.digits }
+    {
+        self.digits
     }
 
     /// The bytes above which a desk's cache is due.

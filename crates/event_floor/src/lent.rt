@@ -3,8 +3,8 @@ ghost use Rattle.std.specs.Prelude.{◌≡◌, ◌<◌, ◌≤◌, ◌*◌, ◌+
 ghost use Rattle.std.specs.Prelude.{count_by};
 ghost use Rattle.event_floor.specs.Lent.{lent_at, place_of};
 
-use slot_chain::Buf;
-use std::alloc::{AllocError, Global};
+use slot_chain::{Buf, NoMemory};
+use std::alloc::Global;
 use std::marker::Model;
 
 /// How many places a chunk has in the table: the most slots that a chunk can have.
@@ -31,7 +31,7 @@ impl<'r> Model for Lent<'r> {
 
 impl<'r> Lent<'r> {
     /// A table for so many chunks, with no buffer.
-    pub(crate) fn new(alloc: Global, chunks: usize) -> Result<Lent<'r>, AllocError>
+    pub(crate) fn new(alloc: Global, chunks: usize) -> Result<Lent<'r>, NoMemory>
         requires { chunks ≤ 1024 }
         ensures { IfOk result (λ l. l ≡ replicate (256 * chunks) None) }
     {

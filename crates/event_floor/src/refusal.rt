@@ -30,6 +30,9 @@ pub enum Refusal {
     /// R07: the slot isn't lent, or there is no such slot.
     #[error("R07 NotLent")]
     NotLent,
+    /// R13: the desk's cache isn't empty, so it can't be retired. No request asks for that yet.
+    #[error("R13 Unsettled")]
+    Unsettled,
     /// R14: a worker holds the desk.
     #[error("R14 Held")]
     Held,
@@ -54,6 +57,7 @@ impl Refusal {
             Refusal::NotNeeded => 5,
             Refusal::NoChunk => 6,
             Refusal::NotLent => 7,
+            Refusal::Unsettled => 13,
             Refusal::Held => 14,
             Refusal::NoMemory => 15,
             Refusal::BadClass => 16,
@@ -72,6 +76,7 @@ impl Refusal {
             Refusal::NotNeeded => "NotNeeded",
             Refusal::NoChunk => "NoChunk",
             Refusal::NotLent => "NotLent",
+            Refusal::Unsettled => "Unsettled",
             Refusal::Held => "Held",
             Refusal::NoMemory => "NoMemory",
             Refusal::BadClass => "BadClass",
@@ -87,6 +92,7 @@ impl From<DeskError> for Refusal {
             DeskError::TooLarge => Refusal::TooLarge,
             DeskError::NeedChunk(_) => Refusal::NeedChunk,
             DeskError::NotNeeded => Refusal::NotNeeded,
+            DeskError::Unsettled => Refusal::Unsettled,
             DeskError::NoMemory => Refusal::NoMemory,
         }
     }

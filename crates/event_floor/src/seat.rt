@@ -1,10 +1,11 @@
 //! A desk's place on the floor.
-ghost use Rattle.std.specs.Prelude.{◌≡◌, ◌≤◌, IfOk};
+ghost use Rattle.std.specs.Prelude.{◌≡◌, ◌<◌, ◌≤◌, ◌^◌, IfOk};
 ghost use Rattle.event_floor.specs.Seats.{idle_seats, held_by};
 
+use digit_route::Digits;
 use pool_desk::{Desk, IdleDesk};
-use region_cut::Profile;
-use std::alloc::{AllocError, Global};
+use slot_chain::NoMemory;
+use std::alloc::Global;
 use std::mem;
 
 /// A desk, idle or in the hands of a worker.
@@ -19,26 +20,29 @@ pub(crate) enum Seat<'r> {
 pub(crate) fn empty_seats<'r>(
     alloc: Global,
     count: u32,
+    digits: Digits,
     limit: u64,
-) -> Result<Vec<Seat<'r>>, AllocError>
-    requires count { count ≤ 64 }
+) -> Result<Vec<Seat<'r>>, NoMemory>
+    requires few { count ≤ 64 }
+    requires numbers { count ≤ 2 ^ digits.bits }
     requires limit { limit ≤ 1048576 }
-    ensures { IfOk result (λ seats. seats.items ≡ idle_seats limit count) }
+    ensures { IfOk result (λ seats. seats.items ≡ idle_seats digits limit count) }
 {
     let mut seats = Vec::with_capacity(alloc, count as usize)?;
     for number in 0..count {
-        let desk = IdleDesk::new(number as u16, Profile::Pool, limit);
+        let desk = IdleDesk::new(number as u16, digits, limit);
         seats.push_reserved(Seat::Idle(desk));
     }
     Ok(seats)
 }
 
 /// Gives an idle desk to a worker. A held one stays as it is.
-pub(crate) fn hold(seat: &mut Seat<'_>, worker: u32)
+pub(crate) fn hold(seat: &mut Seat<'_>, digits: Digits, worker: u32)
+    requires { 0 < 2 ^ digits.bits }
     ensures { seat.new ≡ held_by worker seat.old }
 {
     // the desk moves by value, and an empty one keeps its place for that time
-    let empty = IdleDesk::new(0, Profile::Pool, 0);
+    let empty = IdleDesk::new(0, digits, 0);
     match mem::replace(seat, Seat::Idle(empty)) {
         Seat::Idle(desk) => drop(mem::replace(seat, Seat::Held(desk.adopt(worker)))),
         Seat::Held(desk) => drop(mem::replace(seat, Seat::Held(desk))),

@@ -3,6 +3,7 @@
 ghost use Rattle.std.specs.Prelude.{◌≤◌};
 
 use crate::{Floor, Refusal, Reply, Request};
+use digit_route::Digits;
 use region_cut::{Slot, cut};
 use std::alloc::Global;
 use std::process::Abort;
@@ -25,7 +26,10 @@ fn floor_of<'r>(alloc: Global, region: &'r mut [u8], desks: u32) -> Option<Floor
     let Ok(parts) = cut(alloc, region) else {
         return None;
     };
-    let Ok(floor) = Floor::new(alloc, parts, desks, 4096) else {
+    let Some(digits) = Digits::new(2) else {
+        return None;
+    };
+    let Ok(floor) = Floor::new(alloc, parts, desks, digits, 4096) else {
         return None;
     };
     Some(floor)
@@ -229,11 +233,15 @@ fn counts_and_classes(rt: HostRuntime) {
     let Ok(parts) = cut(alloc, &mut region) else {
         return;
     };
-    let Ok(mut floor) = Floor::new(alloc, parts, 2, 4096) else {
+    let Some(digits) = Digits::new(1) else {
+        return;
+    };
+    let Ok(mut floor) = Floor::new(alloc, parts, 2, digits, 4096) else {
         return;
     };
     assert!(rt; floor.class_of(0).is_none());
     assert_eq!(rt; floor.limit(), 4096);
+    assert!(rt; floor.digits() == digits);
     let adopted = floor.apply(alloc, Request::Adopt(1, 3));
     assert_eq!(rt; adopted, Ok(Reply::Done));
     let drawn = floor.apply(alloc, Request::Claim(1, 2));
@@ -254,6 +262,7 @@ fn refusals_have_numbers_and_names(rt: HostRuntime) {
         (Refusal::NotNeeded, 5, "NotNeeded"),
         (Refusal::NoChunk, 6, "NoChunk"),
         (Refusal::NotLent, 7, "NotLent"),
+        (Refusal::Unsettled, 13, "Unsettled"),
         (Refusal::Held, 14, "Held"),
         (Refusal::NoMemory, 15, "NoMemory"),
         (Refusal::BadClass, 16, "BadClass"),

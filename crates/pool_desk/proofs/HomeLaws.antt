@@ -11,7 +11,8 @@ use Rattle.region_cut.specs.declared.part.Bump.{Bump}
 use Rattle.region_cut.specs.Bumps.{left_of, part_of, HoldsPart, GivesNext}
 use Rattle.region_cut.specs.Classes.{slots_of, size_of}
 use Rattle.slot_chain.specs.Buffer.{Buffer}
-use Rattle.pool_desk.specs.Homes.{AtHome, IsAtHome, unused_from, unused_of, IsUnused, GivesOne}
+use Rattle.pool_desk.specs.Homes.{AtHome, IsAtHome, unused_from, unused_of, IsUnused, GivesOne, Draws, taken_next}
+use Rattle.region_cut.specs.Carved.{Carved, carved_of}
 use Rattle.pool_desk.specs.Homes.AtHome.{Kept, Fresh}
 
 pub unused_length : (chunk class : ℕ) (part : GName) (n i : ℕ) (bs : List ℕ) → length (unused_from chunk class part n i bs) ≡ n
@@ -97,20 +98,45 @@ kept_pop bs b us = IsPermutation-sym _ _ (kept_push bs b us)
 pub All-end : {X : Type 0} (P : X → Type 0) (xs : List X) (x : X) → All P (xs ++ x ∷ []) → P x
 All-end P xs x h = All-contains P (xs ++ x ∷ []) x h (Contains-push xs x)
 
-pub gives_kept : (owner class : ℕ) (list rest : List Buffer) (b : Buffer) (us : List AtHome)
+-- a buffer that came home is given out
+pub gives_kept : (owner class : ℕ) (list rest : List Buffer) (b : Buffer) (us : List AtHome) (drawn : List Carved)
     → All (λ (b : Buffer). (b.owner ≡ owner) × (b.class ≡ class)) list → list ≡ rest ++ b ∷ []
-    → GivesOne owner class (map {A = Buffer} {B = AtHome} (λ x. Kept x) list ++ us) b (map {A = Buffer} {B = AtHome} (λ x. Kept x) rest ++ us)
-gives_kept owner class list rest b us all is =
+    → GivesOne owner class (map {A = Buffer} {B = AtHome} (λ x. Kept x) list ++ us) b (map {A = Buffer} {B = AtHome} (λ x. Kept x) rest ++ us) drawn drawn
+gives_kept owner class list rest b us drawn all is =
     let one = All-end (λ (b : Buffer). (b.owner ≡ owner) × (b.class ≡ class)) rest b (rw is at all) in
-    record { owner_is = one.0; class_is = one.1; from = Kept b; gives = refl; others = rw is (kept_pop rest b us) }
+    record { owner_is = one.0; class_is = one.1; from = Kept b; gives = refl; others = rw is (kept_pop rest b us); names = refl }
 
-pub gives_fresh : (owner : ℕ) (class : ℕ) (x : Buffer) (b b' : Bump) (p : Piece) → GivesNext b b' p → b.class ≡ class
+-- the chunk of a cursor that gave a slot
+pub carved_next : (b b' : Bump) (p : Piece) → GivesNext b b' p → carved_of b' ≡ taken_next (carved_of b) p.bytes.ghost_name b'.front.tie.rest
+carved_next b b' p g = rw (g.same_chunk, g.same_class, g.same_part, g.joined_then) refl
+
+-- a slot is given out that never was
+pub gives_fresh : (owner : ℕ) (class : ℕ) (x : Buffer) (b b' : Bump) (p : Piece) (drawn : List Carved) → GivesNext b b' p → b.class ≡ class
     → x.owner ≡ owner → x.class ≡ class → x.slot ≡ p.slot → x.forwards ≡ 0 → x.bytes ≡ p.bytes
-    → GivesOne owner class (unused_of b) x (unused_of b')
-gives_fresh owner class x b b' p g c o k s f m = record {
+    → GivesOne owner class (unused_of b) x (unused_of b') (carved_of b ∷ drawn) (carved_of b' ∷ drawn)
+gives_fresh owner class x b b' p drawn g c o k s f m = record {
   owner_is = o;
   class_is = k;
   from = Fresh (record { slot = p.slot; class = b.class; part = part_of b; bytes = p.bytes.now });
   gives = (s, k ∙ sym c, f, ap (λ (z : MutBor (List ℕ)). z.now) m);
   others = rw (unused_next b b' p g) (IsPermutation-refl _);
+  names = record {
+    from = carved_of b;
+    rest = b'.front.tie.rest;
+    others = drawn;
+    chunk = sym g.slot_chunk;
+    class_is = refl;
+    part = refl;
+    place = b.counted ∙ sym g.slot_index;
+    before = IsPermutation-refl _;
+    after = rw (carved_next b b' p g, m) (IsPermutation-refl _);
+  };
+}
+
+-- a new cursor over a part
+pub draws_new : (p : Part) (class : ℕ) (b : Bump) (old : List Carved) → HoldsPart p class b → Draws p class old (carved_of b ∷ old)
+draws_new p class b old h = record {
+  drawn = carved_of b;
+  uncut = record { chunk = h.chunk; class_is = h.class_is; whole = h.same_part; none_taken = h.no_pieces };
+  added = IsPermutation-refl _;
 }

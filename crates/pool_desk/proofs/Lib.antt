@@ -1,3 +1,5 @@
-pub mod CachedLaws
+pub mod ByClassLaws
 pub mod DeskLaws
+pub mod HandleLaws
 pub mod HomeLaws
+pub mod ListedLaws

@@ -1,4 +1,7 @@
+pub mod ByClass
 pub mod Desks
+pub mod Handling
 pub mod Homes
+pub mod Listed
 pub mod Refusals
 pub mod Steps

@@ -1,47 +1,58 @@
 //! A desk that a worker holds.
-ghost use Rattle.std.specs.Prelude.{◌≡◌, ◌↔◌, length, Any, IsTrue, MatchResult};
+ghost use Rattle.std.specs.Prelude.{◌≡◌, ◌≢◌, ◌<◌, ◌^◌, ◌↔◌, [], ◌++◌, length, IsTrue, IsPermutation, Some, None, MatchBool, MatchOption, MatchResult, OnOk, OnErr};
+ghost use Rattle.region_cut.specs.Classes.{classes_of};
 ghost use Rattle.slot_chain.specs.Counts.{capped};
-ghost use Rattle.pool_desk.specs.Homes.{AtHome, class_at};
-ghost use Rattle.pool_desk.specs.Steps.{Claims, NotNeededFor, Allocs, Frees};
+ghost use Rattle.digit_route.specs.Route.{RouteFault};
+ghost use Rattle.digit_route.specs.States.{Gives};
+ghost use Rattle.pool_desk.specs.ByClass.{HasClass};
+ghost use Rattle.pool_desk.specs.Desks.{profile_at};
+ghost use Rattle.pool_desk.specs.Listed.{Adds, slots_in};
+ghost use Rattle.pool_desk.specs.Steps.{Claims, NotNeededFor, Allocs, Frees, Handles, Counted};
+ghost use Rattle.pool_desk.specs.Handling.{IsPassed, GoesHome, GoesOn};
 
-use crate::cached::Cached;
-use crate::homes::{Homes, alloc_at, claim_at, count_all, has_at, keep_at};
-use crate::{DeskError, Freed};
-use region_cut::{Class, Part, Profile};
-use slot_chain::Buf;
+use crate::homes::Homes;
+use crate::{Counts, DeskError, DeskPosting, Freed, IdleDesk};
+use digit_route::{Batch, Cache, Digits, RouteError};
+use region_cut::{Class, Part, Slot};
+use slot_chain::{Buf, NoMemory};
 use std::alloc::Global;
 use std::marker::Model;
 
-/// An allocator that a worker holds.
+/// An allocator that a worker holds: its slots at home, and a cache of others' buffers that were freed here.
+///
+/// Nothing of it is shared, so no call waits. Only [`Desk::alloc`] of a slot that was never handed out takes memory, and `list_slots`.
 #[derive(Drop)]
 pub struct Desk<'r> {
-    pub(crate) number: u16,
-    pub(crate) profile: Profile,
-    pub(crate) limit: u64,
     pub(crate) worker: u32,
     pub(crate) homes: Homes<'r>,
-    pub(crate) cached: Cached<'r>,
+    pub(crate) cache: Cache<'r>,
 }
 
 impl<'r> Model for Desk<'r> {
-    ghost use Rattle.std.specs.Prelude.{◌<◌, ◌≤◌, ◌^◌};
-    ghost use Rattle.std.specs.List.{flat_map};
-    ghost use Rattle.region_cut.specs.Classes.{bits_of};
-    ghost use Rattle.pool_desk.specs.Desks.{DeskState, AreHomes, slots_at};
+    ghost use Rattle.std.specs.Prelude.{◌≡◌};
+    ghost use Rattle.pool_desk.specs.Desks.{DeskState};
 
     ghost Value = { DeskState };
 
-    ghost view = { λ d. record { number = d.number; profile = d.profile; limit = d.limit; worker = d.worker; home = flat_map slots_at d.homes.items; cached = d.cached } };
+    ghost view = { λ d. record { number = d.cache.number; digits = d.cache.digits; limit = d.cache.limit; worker = d.worker; home = d.homes.slots; drawn = d.homes.drawn; cached = d.cache.items } };
 
-    ghost invariant = { λ d. (d.number < 2 ^ bits_of d.profile) × (d.limit ≤ 1048576) × AreHomes d.number d.homes.items };
+    ghost invariant = { λ d. d.homes.owner ≡ d.cache.number };
 }
 
 impl<'r> Desk<'r> {
     /// Its number, by which its buffers name their owner.
     pub fn number(&self) -> u16
-        ensures { result ≡ self.now.number }
+        ensures value { result ≡ self.now.number }
+        ensures in_range { self.now.number < 2 ^ self.now.digits.bits }
     {
-        self.number
+        self.cache.number()
+    }
+
+    /// How the numbers of desks are read. Its profile says which classes the desk uses.
+    pub fn digits(&self) -> Digits
+        ensures { result ≡ self.now.digits }
+    {
+        self.cache.digits()
     }
 
     /// The worker that holds it.
@@ -53,14 +64,15 @@ impl<'r> Desk<'r> {
 
     /// Whether a slot of the class is at home. Takes constant time.
     pub fn has_home(&self, class: Class) -> bool
-        ensures { IsTrue result ↔ Any (λ (s : AtHome). class_at s ≡ class) self.now.home }
+        ensures { IsTrue result ↔ HasClass class self.now.home }
     {
-        has_at(&self.homes, class.number() as usize)
+        self.homes.has(class)
     }
 
-    /// Takes a part for a class that has no slot at home, and hands it back where there is one.
-    /// The chunk keeps its class and its owner until the region's borrow ends.
+    /// Takes a part for a class that has no slot at home, and hands it back with [`DeskError::NotNeeded`] where there is one.
+    /// The chunk keeps its class and its owner until the region's borrow ends. Takes constant time and no memory.
     pub fn claim(&mut self, part: Part<'r>, class: Class) -> Result<(), (Part<'r>, DeskError)>
+        requires { class < classes_of (profile_at self.old) }
         ensures { MatchResult result
             (λ _. Claims self.old part.entry class self.new)
             (λ e. (e.0 ≡ part.entry) × NotNeededFor self.old class e.1 × (self.new ≡ self.old)) }
@@ -68,45 +80,171 @@ impl<'r> Desk<'r> {
         if self.has_home(class) {
             return Err((part, DeskError::NotNeeded));
         }
-        claim_at(&mut self.homes, class.number() as usize, part);
+        self.homes.claim(part, class);
         Ok(())
     }
 
-    /// Gives out a slot at home of the least class that holds `size` bytes: the one that came home last, else the next that
-    /// was never handed out. Only the latter takes memory, for the buffer's node. Takes constant time.
+    /// Gives out a slot at home of the least class that holds `size` bytes: the one that came home last, else the next that was never handed out.
+    /// Only the latter takes memory, for the box of the buffer, which is made first; so a refusal changes nothing. No byte of a slot is written.
+    /// Takes constant time.
     pub fn alloc(&mut self, alloc: Global, size: usize) -> Result<Buf<'r>, DeskError>
         ensures { Allocs self.old size result self.new }
     {
-        let Some(class) = self.profile.class_for(size) else {
+        let Some(class) = self.cache.digits().profile().class_for(size) else {
             return Err(DeskError::TooLarge);
         };
-        alloc_at(&mut self.homes, class.number() as usize, alloc)
+        self.homes.alloc(alloc, class)
     }
 
-    /// Takes an own buffer home, and another into the cache. Takes no memory and constant time.
+    /// Takes an own buffer home, and another into the cache. Always succeeds. Takes constant time and no memory.
+    ///
+    /// The owner's number is one of the desk's profile.
     pub fn free(&mut self, buf: Buf<'r>) -> Freed
+        requires { buf.owner < 2 ^ self.old.digits.bits }
         ensures { Frees self.old buf.entry result self.new }
     {
         let mut buf = buf;
         buf.set_forwards(0);
-        if buf.owner() == self.number {
-            let k = buf.class().number() as usize;
-            keep_at(&mut self.homes, k, buf);
+        if buf.owner() == self.cache.number() {
+            self.homes.keep(buf);
             return Freed::Home;
         }
-        self.cached.put(buf);
-        if self.cached.is_above(self.limit) {
+        self.cache.put(buf);
+        if self.cache.is_due() {
             Freed::Due
         } else {
             Freed::Cached
         }
     }
 
-    /// The number of slots at home, and of buffers in the cache. Takes time in their number.
+    // Takes an own buffer of a batch home, and puts another into the cache with one more forward.
+    fn handle_one(&mut self, buf: Buf<'r>) -> bool
+        requires { buf.owner ≢ self.old.number → IsPassed self.old.digits self.old.number buf }
+        ensures { MatchBool result (GoesHome self.old buf.entry self.new) (GoesOn self.old buf.entry self.new) }
+    {
+        let number = self.cache.number();
+        if buf.owner() == number {
+            self.homes.keep(buf);
+            return true;
+        }
+        let _most = self.cache.digits().count();
+        let mut buf = buf;
+        let forwards = buf.forwards();
+        buf.set_forwards(forwards + 1);
+        self.cache.put(buf);
+        false
+    }
+
+    /// Takes the own buffers of a batch home, and puts the others into the cache with one more forward, to be sent on. Takes no memory.
+    pub fn handle(&mut self, batch: Batch<'r>) -> Counts
+        requires address { batch.address ≡ self.old.number }
+        requires digits { batch.digits ≡ self.old.digits }
+        ensures parts { Handles self.old batch.entry.items self.new }
+        ensures counts { Counted self.old.number batch.entry.items result }
+    {
+        let mut chain = batch.into_chain();
+        let mut home = 0u64;
+        let mut on = 0u64;
+        while let Some(buf) = chain.pop() {
+            if self.handle_one(buf) {
+                home = home.saturating_add(1);
+            } else {
+                on = on.saturating_add(1);
+            }
+        }
+        Counts { home, on }
+    }
+
+    /// Why [`Desk::batch_for`] would refuse, or `None` where it would give a batch.
+    pub fn fault_for(&self, t: u16) -> Option<RouteError>
+        ensures { RouteFault self.now.digits self.now.number t self.now.cached result }
+    {
+        self.cache.fault_for(t)
+    }
+
+    /// Takes out of the cache all that goes to `t`: the buffers whose owners share more digits with `t` than this desk does. Takes no memory.
+    pub fn batch_for(&mut self, t: u16) -> Result<Batch<'r>, RouteError>
+        ensures same { self.new ≡ record self.old { cached = self.new.cached } }
+        ensures value { MatchResult result
+            (λ b. RouteFault self.old.digits self.old.number t self.old.cached None × (b.address ≡ t)
+                × Gives self.old.digits self.old.number self.old.cached b self.new.cached)
+            (λ e. RouteFault self.old.digits self.old.number t self.old.cached (Some e) × (self.new ≡ self.old)) }
+    {
+        self.cache.take_bucket_for(t)
+    }
+
+    /// Takes out of the cache all that goes to some owner of a buffer in it, or says that it is empty. Takes no memory.
+    /// To post all of the cache, [`Desk::posting`] takes fewer steps.
+    pub fn next_batch(&mut self) -> Option<Batch<'r>>
+        ensures same { self.new ≡ record self.old { cached = self.new.cached } }
+        ensures value { MatchOption result ((self.old.cached ≡ []) × (self.new.cached ≡ []))
+            (λ b. Gives self.old.digits self.old.number self.old.cached b self.new.cached) }
+    {
+        self.cache.next_batch()
+    }
+
+    /// Takes back into the cache a batch of this desk that could not be posted. Takes no memory.
+    pub fn refused(&mut self, batch: Batch<'r>)
+        requires sender { batch.sender ≡ self.old.number }
+        requires digits { batch.digits ≡ self.old.digits }
+        ensures same { self.new ≡ record self.old { cached = self.new.cached } }
+        ensures items { IsPermutation (self.old.cached ++ batch.entry.items) self.new.cached }
+    {
+        self.cache.put_back(batch);
+    }
+
+    /// The desk without its worker, where its cache is empty. Where it isn't, the desk is handed back as it was: it is unsettled.
+    pub fn retire(self) -> Result<IdleDesk<'r>, Desk<'r>>
+        ensures { let s = self.entry in MatchResult result
+            (λ d. (s.cached ≡ []) × (d ≡ record { number = s.number; digits = s.digits; limit = s.limit; home = s.home; drawn = s.drawn }))
+            (λ d. (s.cached ≢ []) × (d ≡ s)) }
+    {
+        if !self.cache.is_empty() {
+            return Err(self);
+        }
+        let Desk {
+            worker: _,
+            homes,
+            cache,
+        } = self;
+        Ok(IdleDesk { homes, cache })
+    }
+
+    /// Begins to post the cache, round by round. Takes no memory.
+    pub fn posting(self) -> DeskPosting<'r>
+        ensures { let d = self.entry in result ≡ record { worker = d.worker; home = d.home; drawn = d.drawn;
+            posting = record { number = d.number; digits = d.digits; limit = d.limit; round = 0; moves = 0; items = d.cached } } }
+    {
+        let Desk {
+            worker,
+            homes,
+            cache,
+        } = self;
+        DeskPosting {
+            worker,
+            homes,
+            posting: cache.posting(),
+        }
+    }
+
+    /// The number of slots at home, and of buffers in the cache, each at most the greatest `u64`. Takes a walk over them.
     pub fn counts(&self) -> (u64, u64)
         ensures home { result.0 ≡ capped (length self.now.home) }
         ensures cached { result.1 ≡ capped (length self.now.cached) }
     {
-        (count_all(self.homes.as_slice()), self.cached.len())
+        (self.homes.count(), self.cache.len())
+    }
+
+    /// Adds the slots at home and in the cache to the end of `slots`, each as often as it is there, in no order. Where memory for that is refused, `slots` is as before.
+    pub fn list_slots(&self, slots: &mut Vec<Slot>) -> Result<(), NoMemory>
+        ensures ok { OnOk result (Adds (slots_in self.now.home self.now.cached) slots.old.items slots.new.items) }
+        ensures err { OnErr result (slots.new.items ≡ slots.old.items) }
+    {
+        let start = slots.len();
+        if self.homes.add_slots(slots).is_ok() && self.cache.list_slots(slots).is_ok() {
+            return Ok(());
+        }
+        slots.truncate(start);
+        Err(NoMemory)
     }
 }

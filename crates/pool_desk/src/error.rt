@@ -17,13 +17,16 @@ pub enum DeskError {
     /// A slot of the class is at home, so a further chunk isn't needed.
     #[error("not needed")]
     NotNeeded,
-    /// The node of a buffer could not be made.
+    /// The desk's cache isn't empty, so it can't be retired. `Desk::retire` hands the desk back in place of this.
+    #[error("the cache is not empty")]
+    Unsettled,
+    /// The allocator refused the box of a buffer that was never handed out before.
     #[error("no memory")]
     NoMemory,
 }
 
 impl DeskError {
-    /// Its number. (The number 4 is kept for a desk that can't be retired.)
+    /// Its number, from 1.
     pub fn number(self) -> u32
         ensures { result ≡ number_of self }
     {
@@ -31,6 +34,7 @@ impl DeskError {
             DeskError::TooLarge => 1,
             DeskError::NeedChunk(_) => 2,
             DeskError::NotNeeded => 3,
+            DeskError::Unsettled => 4,
             DeskError::NoMemory => 5,
         }
     }

@@ -1,13 +1,15 @@
 //! The slots at home of one class.
 ghost use Rattle.std.specs.Prelude.{◌≡◌, ◌≢◌, ℕ, ◌<◌, ◌≤◌, ◌↔◌, [], ◌∷◌, ◌++◌, All, IsTrue, IsPermutation, MatchResult, OnOk, OnErr, length, min, ◌^◌, ◌-◌, map};
 ghost use Rattle.slot_chain.specs.Buffer.{Buffer};
-ghost use Rattle.pool_desk.specs.Homes.{AtHome, IsAtHome, GivesOne, IsRefused, unused_from};
+ghost use Rattle.pool_desk.specs.Homes.{AtHome, IsAtHome, GivesOne, IsRefused, Draws, slot_at, unused_from};
 ghost use Rattle.pool_desk.specs.Homes.AtHome.{Kept};
 ghost use Rattle.region_cut.specs.Classes.{slots_of};
+ghost use Rattle.pool_desk.specs.Listed.{AddsOn};
 
 use crate::DeskError;
-use region_cut::{Bump, Class, Part};
-use slot_chain::{Buf, Chain, Room};
+use crate::listing::{add_chain, add_unused};
+use region_cut::{Bump, Class, Part, Slot, Ties};
+use slot_chain::{Buf, Chain, NoMemory, Room};
 use std::alloc::Global;
 use std::marker::Model;
 
@@ -18,24 +20,25 @@ pub(crate) struct Home<'r> {
     class: Class,
     list: Chain<'r>,
     bump: Option<Bump<'r>>,
+    ties: Ties,
 }
 
 impl<'r> Model for Home<'r> {
     ghost use Rattle.std.specs.Prelude.{◌≡◌, ◌++◌, ◌<◌, map, All, IfSome};
     ghost use Rattle.slot_chain.specs.Buffer.{Buffer};
     ghost use Rattle.region_cut.specs.declared.part.Bump.{Bump};
-    ghost use Rattle.pool_desk.specs.Homes.{HomeState, AtHome, IsAtHome, unused};
+    ghost use Rattle.pool_desk.specs.Homes.{HomeState, AtHome, IsAtHome, unused, open_chunk};
     ghost use Rattle.pool_desk.specs.Homes.AtHome.{Kept};
 
     ghost Value = { HomeState };
 
-    ghost view = { λ h. record { owner = h.owner; class = h.class; slots = map Kept h.list ++ unused h.bump } };
+    ghost view = { λ h. record { owner = h.owner; class = h.class; slots = map Kept h.list ++ unused h.bump; drawn = open_chunk h.bump ++ h.ties.all } };
 
     ghost invariant = { λ h. (h.owner < 4096) × All (λ (b : Buffer). (b.owner ≡ h.owner) × (b.class ≡ h.class)) h.list × IfSome h.bump (λ (b : Bump). b.class ≡ h.class) };
 }
 
 impl Default for Home<'_> {
-    ghost use Rattle.pool_desk.specs.Desks.{no_home};
+    ghost use Rattle.pool_desk.specs.ByClass.{no_home};
 
     ghost is_default = { λ h. h ≡ no_home };
 
@@ -47,13 +50,14 @@ impl Default for Home<'_> {
 impl<'r> Home<'r> {
     pub(crate) fn new(owner: u16, class: Class) -> Home<'r>
         requires { owner < 4096 }
-        ensures { result ≡ record { owner = owner; class = class; slots = [] } }
+        ensures { result ≡ record { owner = owner; class = class; slots = []; drawn = [] } }
     {
         Home {
             owner,
             class,
             list: Chain::new(),
             bump: None,
+            ties: Ties::new(),
         }
     }
 
@@ -73,16 +77,20 @@ impl<'r> Home<'r> {
     /// Takes a part for the class, where no slot is there.
     pub(crate) fn claim(&mut self, part: Part<'r>)
         requires { self.old.slots ≡ [] }
-        ensures { self.new ≡ record self.old { slots = unused_from part.entry.chunk self.old.class part.entry.bytes.ghost_name (slots_of self.old.class) 0 part.entry.bytes.now } }
+        ensures same { self.new ≡ record self.old { slots = unused_from part.entry.chunk self.old.class part.entry.bytes.ghost_name (slots_of self.old.class) 0 part.entry.bytes.now; drawn = self.new.drawn } }
+        ensures drawn { Draws part.entry self.old.class self.old.drawn self.new.drawn }
     {
-        self.bump = Some(part.bump(self.class));
+        match &mut self.bump {
+            Some(bump) => bump.renew(part, &mut self.ties),
+            None => self.bump = Some(part.bump(self.class)),
+        }
     }
 
     /// Gives out a slot.
     pub(crate) fn alloc(&mut self, alloc: Global) -> Result<Buf<'r>, DeskError>
-        ensures same { self.new ≡ record self.old { slots = self.new.slots } }
+        ensures same { self.new ≡ record self.old { slots = self.new.slots; drawn = self.new.drawn } }
         ensures value { MatchResult result
-            (λ b. GivesOne self.old.owner self.old.class self.old.slots b self.new.slots)
+            (λ b. GivesOne self.old.owner self.old.class self.old.slots b self.new.slots self.old.drawn self.new.drawn)
             (λ e. IsRefused self.old.class self.old.slots e × (self.new ≡ self.old)) }
     {
         if let Some(buf) = self.list.pop() {
@@ -121,5 +129,16 @@ impl<'r> Home<'r> {
             Some(bump) => bump.left() as u64,
         };
         self.list.len().saturating_add(left)
+    }
+
+    /// Adds the slots. Where memory is refused some of them are added.
+    pub(crate) fn add_slots(&self, slots: &mut Vec<Slot>) -> Result<(), NoMemory>
+        ensures { AddsOn result (map slot_at self.now.slots) slots.old.items slots.new.items }
+    {
+        add_chain(&self.list, slots)?;
+        match &self.bump {
+            None => Ok(()),
+            Some(bump) => add_unused(bump, slots),
+        }
     }
 }

@@ -1,89 +1,98 @@
-//! The homes of a desk, one for each class.
-ghost use Rattle.std.specs.Prelude.{◌≡◌, ◌≢◌, ℕ, ◌<◌, ◌≤◌, ◌↔◌, [], ◌∷◌, ◌++◌, All, IsTrue, IsPermutation, MatchResult, length, slice_index_or, slice_set};
-ghost use Rattle.arrayvec.specs.ArrayVec.{array_vec_len};
-ghost use Rattle.slot_chain.specs.Buffer.{Buffer};
-ghost use Rattle.region_cut.specs.Classes.{class_count, slots_of};
-ghost use Rattle.pool_desk.specs.Homes.{AtHome, HomeState, IsAtHome, GivesOne, IsRefused, unused_from};
-ghost use Rattle.pool_desk.specs.Homes.AtHome.{Kept};
-ghost use Rattle.pool_desk.specs.Desks.{empties, home_at, slots_at};
-ghost use Rattle.std.specs.List.{flat_map};
+//! All slots at home of one owner.
+ghost use Rattle.std.specs.Prelude.{◌≡◌, ◌≢◌, ◌<◌, ◌↔◌, [], ◌∷◌, ◌++◌, IsTrue, IsPermutation, MatchResult, length, map};
+ghost use Rattle.region_cut.specs.Classes.{slots_of};
 ghost use Rattle.slot_chain.specs.Counts.{capped};
+ghost use Rattle.pool_desk.specs.Homes.{Draws, GivesOne, slot_at, unused_from};
+ghost use Rattle.pool_desk.specs.Homes.AtHome.{Kept};
+ghost use Rattle.pool_desk.specs.Listed.{AddsOn};
+ghost use Rattle.pool_desk.specs.ByClass.{HasClass, LacksClass, IsWanting};
 
 use crate::DeskError;
-use crate::home::Home;
-use arrayvec::ArrayVec;
-use region_cut::{Class, Part};
-use slot_chain::Buf;
+use crate::by_class::{ByClass, add_all, alloc_at, claim_at, count_all, empty_homes, has_at, keep_at};
+use region_cut::{Class, Part, Slot};
+use slot_chain::{Buf, NoMemory};
 use std::alloc::Global;
+use std::marker::Model;
 
-pub(crate) type Homes<'r> = ArrayVec<Home<'r>, 20>;
+/// The slots at home of all classes, and what is known of all chunks that were claimed. There is a home for each of the 20 classes, also for those that the profile doesn't use.
+#[derive(Drop)]
+pub(crate) struct Homes<'r> {
+    owner: u16,
+    by_class: ByClass<'r>,
+}
 
-/// Empty homes of all classes.
-#[tactic(auto, using(crate::proofs::DeskLaws::empties_length), unfolding(crate::specs::Desks::empties))]
-pub(crate) fn empty_homes<'r>(owner: u16) -> Homes<'r>
-    requires { owner < 4096 }
-    ensures { result.items ≡ empties owner class_count }
-{
-    let mut homes = ArrayVec::new();
-    for k in 0..20u32 {
-        let Some(class) = Class::new(k) else {
-            unreachable!();
-        };
-        homes.push(Home::new(owner, class));
+impl<'r> Model for Homes<'r> {
+    ghost use Rattle.std.specs.List.{flat_map};
+    ghost use Rattle.pool_desk.specs.ByClass.{HomesState, AreHomes, slots_at, drawn_at};
+
+    ghost Value = { HomesState };
+
+    ghost view = { λ h. record { owner = h.owner; slots = flat_map slots_at h.by_class.items; drawn = flat_map drawn_at h.by_class.items } };
+
+    ghost invariant = { λ h. AreHomes h.owner h.by_class.items };
+}
+
+impl<'r> Homes<'r> {
+    /// Nothing is at home.
+    pub(crate) fn new(owner: u16) -> Homes<'r>
+        requires { owner < 4096 }
+        ensures { result ≡ record { owner = owner; slots = []; drawn = [] } }
+    {
+        Homes {
+            owner,
+            by_class: empty_homes(owner),
+        }
     }
-    homes
-}
 
-/// Whether a slot of the class `k` is there.
-pub(crate) fn has_at(homes: &Homes<'_>, k: usize) -> bool
-    requires { k < array_vec_len homes.now }
-    ensures { IsTrue result ↔ ((home_at homes.now.items k).slots ≢ []) }
-{
-    homes[k].has()
-}
-
-/// Takes a part for the class `k`.
-pub(crate) fn claim_at<'r>(homes: &mut Homes<'r>, k: usize, part: Part<'r>)
-    requires len { k < array_vec_len homes.old }
-    requires none { (home_at homes.old.items k).slots ≡ [] }
-    ensures { let h = home_at homes.old.items k in homes.new.items ≡ slice_set homes.old.items k
-        (record h { slots = unused_from part.entry.chunk h.class part.entry.bytes.ghost_name (slots_of h.class) 0 part.entry.bytes.now }) }
-{
-    homes[k].claim(part);
-}
-
-/// Takes a buffer home.
-pub(crate) fn keep_at<'r>(homes: &mut Homes<'r>, k: usize, buf: Buf<'r>)
-    requires len { k < array_vec_len homes.old }
-    requires own { IsAtHome (home_at homes.old.items k).owner (home_at homes.old.items k).class (Kept buf) }
-    ensures same { homes.new.items ≡ slice_set homes.old.items k (record (home_at homes.old.items k) { slots = (home_at homes.new.items k).slots }) }
-    ensures slots { IsPermutation (Kept buf.entry ∷ (home_at homes.old.items k).slots) (home_at homes.new.items k).slots }
-{
-    homes[k].keep(buf);
-}
-
-/// Gives out a slot of the class `k`.
-pub(crate) fn alloc_at<'r>(
-    homes: &mut Homes<'r>,
-    k: usize,
-    alloc: Global,
-) -> Result<Buf<'r>, DeskError>
-    requires { k < array_vec_len homes.old }
-    ensures same { homes.new.items ≡ slice_set homes.old.items k (record (home_at homes.old.items k) { slots = (home_at homes.new.items k).slots }) }
-    ensures value { let h = home_at homes.old.items k in MatchResult result
-        (λ b. GivesOne h.owner h.class h.slots b (home_at homes.new.items k).slots)
-        (λ e. IsRefused h.class h.slots e × (homes.new.items ≡ homes.old.items)) }
-{
-    homes[k].alloc(alloc)
-}
-
-/// The number of slots, or the greatest u64.
-pub(crate) fn count_all(homes: &[Home<'_>]) -> u64
-    ensures { result ≡ capped (length (flat_map slots_at homes.now)) }
-{
-    let mut total = 0u64;
-    for home in homes {
-        total = total.saturating_add(home.count());
+    /// Whether a slot of the class is there.
+    pub(crate) fn has(&self, class: Class) -> bool
+        ensures { IsTrue result ↔ HasClass class self.now.slots }
+    {
+        has_at(&self.by_class, class.number() as usize)
     }
-    total
+
+    /// Takes a part for a class of which no slot is there.
+    pub(crate) fn claim(&mut self, part: Part<'r>, class: Class)
+        requires { HasClass class self.old.slots → ⊥ }
+        ensures same { self.new ≡ record self.old { slots = self.new.slots; drawn = self.new.drawn } }
+        ensures needed { LacksClass class self.old.slots }
+        ensures slots { IsPermutation (unused_from part.entry.chunk class part.entry.bytes.ghost_name (slots_of class) 0 part.entry.bytes.now ++ self.old.slots) self.new.slots }
+        ensures drawn { Draws part.entry class self.old.drawn self.new.drawn }
+    {
+        claim_at(&mut self.by_class, class.number() as usize, part);
+    }
+
+    /// Gives out a slot of the class: the one that came last, else the next that was never handed out.
+    pub(crate) fn alloc(&mut self, alloc: Global, class: Class) -> Result<Buf<'r>, DeskError>
+        ensures same { self.new ≡ record self.old { slots = self.new.slots; drawn = self.new.drawn } }
+        ensures value { MatchResult result
+            (λ b. GivesOne self.old.owner class self.old.slots b self.new.slots self.old.drawn self.new.drawn)
+            (λ e. IsWanting class self.old.slots e × (self.new ≡ self.old)) }
+    {
+        alloc_at(&mut self.by_class, class.number() as usize, alloc)
+    }
+
+    /// Takes an own buffer home.
+    pub(crate) fn keep(&mut self, buf: Buf<'r>)
+        requires { buf.owner ≡ self.old.owner }
+        ensures same { self.new ≡ record self.old { slots = self.new.slots } }
+        ensures slots { IsPermutation (Kept buf.entry ∷ self.old.slots) self.new.slots }
+    {
+        let class = buf.class();
+        keep_at(&mut self.by_class, class.number() as usize, buf);
+    }
+
+    /// The number of slots, or the greatest `u64` where that is less.
+    pub(crate) fn count(&self) -> u64
+        ensures { result ≡ capped (length self.now.slots) }
+    {
+        count_all(self.by_class.as_slice())
+    }
+
+    /// Adds the slots. Where memory is refused some of them are added.
+    pub(crate) fn add_slots(&self, slots: &mut Vec<Slot>) -> Result<(), NoMemory>
+        ensures { AddsOn result (map slot_at self.now.slots) slots.old.items slots.new.items }
+    {
+        add_all(self.by_class.as_slice(), slots)
+    }
 }

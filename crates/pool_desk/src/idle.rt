@@ -1,48 +1,46 @@
 //! A desk that no worker holds.
-ghost use Rattle.std.specs.Prelude.{◌≡◌, ◌<◌, ◌≤◌, ◌^◌, [], length};
-ghost use Rattle.region_cut.specs.Classes.{bits_of};
+ghost use Rattle.std.specs.Prelude.{◌≡◌, ◌<◌, ◌≤◌, ◌^◌, [], length, OnOk, OnErr};
+ghost use Rattle.digit_route.specs.Digits.{Scheme};
 ghost use Rattle.slot_chain.specs.Counts.{capped};
+ghost use Rattle.pool_desk.specs.Listed.{Adds, slots_in};
 
-use crate::cached::Cached;
 use crate::desk::Desk;
-use crate::homes::{Homes, count_all, empty_homes};
-use region_cut::Profile;
+use crate::homes::Homes;
+use digit_route::{Cache, Digits};
+use region_cut::Slot;
+use slot_chain::NoMemory;
 use std::marker::Model;
 
-/// An allocator that no worker holds. Nothing is in its cache.
+/// An allocator that no worker holds. Nothing is in its cache; its slots at home stay, for the worker that adopts it.
 #[derive(Drop)]
 pub struct IdleDesk<'r> {
-    number: u16,
-    profile: Profile,
-    limit: u64,
-    homes: Homes<'r>,
+    pub(crate) homes: Homes<'r>,
+    pub(crate) cache: Cache<'r>,
 }
 
 impl<'r> Model for IdleDesk<'r> {
-    ghost use Rattle.std.specs.Prelude.{◌<◌, ◌≤◌, ◌^◌};
-    ghost use Rattle.std.specs.List.{flat_map};
-    ghost use Rattle.region_cut.specs.Classes.{bits_of};
-    ghost use Rattle.pool_desk.specs.Desks.{IdleState, AreHomes, slots_at};
+    ghost use Rattle.std.specs.Prelude.{◌≡◌, []};
+    ghost use Rattle.pool_desk.specs.Desks.{IdleState};
 
     ghost Value = { IdleState };
 
-    ghost view = { λ d. record { number = d.number; profile = d.profile; limit = d.limit; home = flat_map slots_at d.homes.items } };
+    ghost view = { λ d. record { number = d.cache.number; digits = d.cache.digits; limit = d.cache.limit; home = d.homes.slots; drawn = d.homes.drawn } };
 
-    ghost invariant = { λ d. (d.number < 2 ^ bits_of d.profile) × (d.limit ≤ 1048576) × AreHomes d.number d.homes.items };
+    ghost invariant = { λ d. (d.homes.owner ≡ d.cache.number) × (d.cache.items ≡ []) };
 }
 
 impl<'r> IdleDesk<'r> {
-    /// A desk of this number with nothing at home. Its cache is due where it has more than `limit` bytes, at most a mebibyte.
-    pub fn new(number: u16, profile: Profile, limit: u64) -> IdleDesk<'r>
-        requires number { number < 2 ^ bits_of profile }
+    /// A desk of this number with nothing at home. Owner numbers are read by `digits`, whose profile says which numbers and classes there are.
+    /// Its cache is due where it has more than `limit` bytes, at most a mebibyte.
+    pub fn new(number: u16, digits: Digits, limit: u64) -> IdleDesk<'r>
+        requires number { number < 2 ^ digits.bits }
         requires limit { limit ≤ 1048576 }
-        ensures { result ≡ record { number = number; profile = profile; limit = limit; home = [] } }
+        ensures { result ≡ record { number = number; digits = digits; limit = limit; home = []; drawn = [] } }
     {
+        let _profile = digits.profile();
         IdleDesk {
-            number,
-            profile,
-            limit,
-            homes: empty_homes(number),
+            homes: Homes::new(number),
+            cache: Cache::new(number, digits, limit),
         }
     }
 
@@ -50,33 +48,39 @@ impl<'r> IdleDesk<'r> {
     pub fn number(&self) -> u16
         ensures { result ≡ self.now.number }
     {
-        self.number
+        self.cache.number()
     }
 
-    /// The desk in the hands of a worker.
+    /// The desk in the hands of a worker, whose number is kept and not looked at. All else stays.
     pub fn adopt(self, worker: u32) -> Desk<'r>
-        ensures { let d = self.entry in result ≡ record { number = d.number; profile = d.profile; limit = d.limit; worker = worker; home = d.home; cached = [] } }
+        ensures { let d = self.entry in result ≡ record { number = d.number; digits = d.digits; limit = d.limit; worker = worker; home = d.home; drawn = d.drawn; cached = [] } }
     {
-        let IdleDesk {
-            number,
-            profile,
-            limit,
-            homes,
-        } = self;
+        let IdleDesk { homes, cache } = self;
         Desk {
-            number,
-            profile,
-            limit,
             worker,
             homes,
-            cached: Cached::new(),
+            cache,
         }
     }
 
-    /// The number of slots at home. Takes time in their number.
-    pub fn home_count(&self) -> u64
-        ensures { result ≡ capped (length self.now.home) }
+    /// The number of slots at home, and of buffers in the cache, which are none; each at most the greatest `u64`. Takes a walk over them.
+    pub fn counts(&self) -> (u64, u64)
+        ensures home { result.0 ≡ capped (length self.now.home) }
+        ensures cached { result.1 ≡ 0 }
     {
-        count_all(self.homes.as_slice())
+        (self.homes.count(), 0)
+    }
+
+    /// Adds the slots at home to the end of `slots`, each as often as it is there, in no order. Where memory for that is refused, `slots` is as before.
+    pub fn list_slots(&self, slots: &mut Vec<Slot>) -> Result<(), NoMemory>
+        ensures ok { OnOk result (Adds (slots_in self.now.home []) slots.old.items slots.new.items) }
+        ensures err { OnErr result (slots.new.items ≡ slots.old.items) }
+    {
+        let start = slots.len();
+        if self.homes.add_slots(slots).is_ok() {
+            return Ok(());
+        }
+        slots.truncate(start);
+        Err(NoMemory)
     }
 }

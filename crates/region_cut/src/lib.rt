@@ -21,6 +21,7 @@ mod profile;
 mod region;
 mod slot;
 mod tie;
+mod ties;
 
 pub use class::{Class, SIZES};
 pub use error::CutError;
@@ -29,6 +30,7 @@ pub use profile::{Profile, class_for};
 pub use region::{cut, cut_with_front};
 pub use slot::Slot;
 pub use tie::Front;
+pub use ties::Ties;
 
 /// The bytes of a chunk.
 pub const CHUNK: usize = 4096;

@@ -9,4 +9,4 @@ new-requires c = let few = numbered_few c.args.parts.items c.requires.parts in s
 pub invariant_of-result : goal.invariant_of-result
 invariant_of-result c =
     let parts : c.len.result ≡ length c.args.parts.items = omega (arith, c.len.ensures, c.args.parts.ok) in
-    rw (c.in_ok-lent.ensures, c.in_ok-chunks.ensures, c.in_ok-desks.ensures, parts) (opening_is_floor _ _ _)
+    rw (c.in_ok-lent.ensures, c.in_ok-chunks.ensures, c.in_ok-desks.ensures, parts) (opening_is_floor _ _ _ _ c.requires.bits c.requires.few)

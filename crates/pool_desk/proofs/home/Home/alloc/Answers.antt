@@ -5,7 +5,7 @@ use Rattle.pool_desk.proofs.home.Home.alloc.Goals as goal
 
 pub returns-in-Some-clause-value : goal.returns-in-Some-clause-value
 returns-in-Some-clause-value c =
-    rw (← c.self.view_is) (gives_kept c.self.inside.owner c.self.inside.class c.self.inside.list c.pop.new.self c.in-Some.buf (unused c.self.inside.bump) c.self.invariant.1 c.in-Some.ensures)
+    rw (← c.self.view_is) (gives_kept c.self.inside.owner c.self.inside.class c.self.inside.list c.pop.new.self c.in-Some.buf (unused c.self.inside.bump) _ c.self.invariant.1 c.in-Some.ensures)
 
 pub returns-in_default-new-clause-value : goal.returns-in_default-new-clause-value
 returns-in_default-new-clause-value c =
@@ -22,5 +22,5 @@ returns-clause-value c =
     let bump : c.self.inside.bump ≡ Some c.in-Some-bump.bump = c.in-Some-bump.is in
     let class = rw bump at c.self.invariant.2 in
     rw (← c.self.view_is, empty, after, bump)
-    (gives_fresh c.self.inside.owner c.self.inside.class c.fill.result c.in-Some-bump.bump c.next.new.self c.in-Some-next.piece c.in-Some-next.ensures class
+    (gives_fresh c.self.inside.owner c.self.inside.class c.fill.result c.in-Some-bump.bump c.next.new.self c.in-Some-next.piece _ c.in-Some-next.ensures class
     c.fill.ensures.owner c.fill.ensures.class c.fill.ensures.slot c.fill.ensures.forwards c.fill.ensures.bytes)

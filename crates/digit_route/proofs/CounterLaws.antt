@@ -1,0 +1,30 @@
+-- The count of bytes beside a row.
+use Rattle.std.proofs.Common.{◌≡◌, ℕ, ◌+◌, List, [], ◌∷◌, ◌++◌, IsPermutation, arith}
+use Rattle.std.proofs.lemmas.List.Sums.{sum_by-append}
+use Rattle.std.proofs.lemmas.List.Sorted.{sum_by-IsPermutation}
+use Rattle.slot_chain.specs.Buffer.{Buffer}
+use Rattle.slot_chain.specs.Counts.{capped, buffer_size, sizes}
+
+-- buffers were added
+pub counted_more : (old more new : List Buffer) (before size after : ℕ) → before ≡ capped (sizes old) → size ≡ capped (sizes more)
+    → IsPermutation (old ++ more) new → after ≡ capped (before + size) → after ≡ capped (sizes new)
+counted_more old more new before size after b s p a =
+    let sum = sum_by-IsPermutation buffer_size (old ++ more) new p in
+    let parts = sum_by-append buffer_size old more in
+    omega arith
+
+-- one buffer was added
+pub counted_one : (old new : List Buffer) (b : Buffer) (before size after : ℕ) → before ≡ capped (sizes old) → size ≡ buffer_size b
+    → IsPermutation (old ++ b ∷ []) new → after ≡ capped (before + size) → after ≡ capped (sizes new)
+counted_one old new b before size after h s p a =
+    let sum = sum_by-IsPermutation buffer_size (old ++ b ∷ []) new p in
+    let parts = sum_by-append buffer_size old (b ∷ []) in
+    omega arith
+
+-- buffers were taken out
+pub counted_left : (old taken new : List Buffer) (before size : ℕ) → before ≡ capped (sizes old) → size ≡ capped (sizes taken)
+    → IsPermutation old (taken ++ new) → (gone : ℕ) × (size ≡ capped gone) × (before ≡ capped (gone + sizes new))
+counted_left old taken new before size h s p =
+    let sum = sum_by-IsPermutation buffer_size old (taken ++ new) p in
+    let parts = sum_by-append buffer_size taken new in
+    (sizes taken, s, omega arith)

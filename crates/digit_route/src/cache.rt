@@ -1,0 +1,236 @@
+//! The cache of a desk.
+ghost use Rattle.std.specs.Prelude.{◌≡◌, ◌-◌, ◌*◌, ◌^◌, ◌<◌, ◌≤◌, ◌↔◌, ◌⊎◌, [], ◌∷◌, ◌++◌, length, All, Some, None, MatchOption, MatchResult, IsTrue, IsPermutation, OnOk, OnErr};
+ghost use Rattle.slot_chain.specs.Counts.{capped, sizes};
+ghost use Rattle.digit_route.specs.Digits.{Scheme, IsScheme, count};
+ghost use Rattle.digit_route.specs.Posts.{Posts, shared};
+ghost use Rattle.digit_route.specs.Route.{IsCached, RouteFault};
+ghost use Rattle.digit_route.specs.Slots.{AddsSlots};
+ghost use Rattle.digit_route.specs.States.{BatchState, Gives};
+
+use crate::counter::bytes_left;
+use crate::row::Row;
+use crate::{Batch, BatchSink, Digits, Posting, RouteError};
+use region_cut::Slot;
+use slot_chain::{Buf, NoMemory};
+use std::marker::Model;
+use std::mem;
+
+/// The remote cache of a desk: freed buffers of other desks that wait to be posted.
+///
+/// It is a row of at most 64 chains, one for each value of the owner's first digit, as snmalloc keeps its remote
+/// deallocations (ISMM 2019). Each owner in it isn't the desk itself, is below 2 to the power of the profile's bits,
+/// and shares at least as many digits with the desk as its buffer was passed on.
+///
+/// No call but `list_slots` takes memory. The order of the buffers is open.
+#[derive(Drop)]
+pub struct Cache<'r> {
+    row: Row<'r>,
+    limit: u64,
+    bytes: u64,
+}
+
+impl<'r> Model for Cache<'r> {
+    ghost use Rattle.std.specs.Prelude.{◌≡◌, ◌≤◌};
+    ghost use Rattle.slot_chain.specs.Counts.{capped, sizes};
+    ghost use Rattle.digit_route.specs.States.{CacheState};
+
+    ghost Value = { CacheState };
+
+    ghost view = { λ c. record { number = c.row.number; digits = c.row.digits; limit = c.limit; items = c.row.items } };
+
+    ghost invariant = { λ c. (c.row.round ≡ 0) × (c.limit ≤ 1048576) × (c.bytes ≡ capped (sizes c.row.items)) };
+}
+
+impl<'r> Cache<'r> {
+    /// An empty cache for the desk `number`. It is due once it has more than `limit` bytes.
+    pub fn new(number: u16, digits: Digits, limit: u64) -> Cache<'r>
+        requires number { number < 2 ^ digits.bits }
+        requires limit { limit ≤ 1048576 }
+        ensures { result ≡ record { number = number; digits = digits; limit = limit; items = [] } }
+    {
+        Cache {
+            row: Row::new(number, digits),
+            limit,
+            bytes: 0,
+        }
+    }
+
+    pub(crate) fn from_row(row: Row<'r>, limit: u64) -> Cache<'r>
+        requires { limit ≤ 1048576 }
+        ensures same { result ≡ record { number = row.entry.number; digits = row.entry.digits; limit = limit; items = result.items } }
+        ensures items { IsPermutation row.entry.items result.items }
+    {
+        let row = row.restart();
+        let bytes = row.bytes();
+        Cache { row, limit, bytes }
+    }
+
+    /// The desk whose cache it is.
+    ///
+    /// Its contract also tells what the type keeps of every cache.
+    pub fn number(&self) -> u16
+        ensures value { result ≡ self.now.number }
+        ensures scheme { IsScheme self.now.digits }
+        ensures in_range { self.now.number < 2 ^ self.now.digits.bits }
+        ensures limit { self.now.limit ≤ 1048576 }
+        ensures cached { All (IsCached self.now.digits self.now.number) self.now.items }
+    {
+        let _known = &self.limit;
+        self.row.number()
+    }
+
+    /// How the numbers of desks are read.
+    pub fn digits(&self) -> Digits
+        ensures { result ≡ self.now.digits }
+    {
+        self.row.digits()
+    }
+
+    /// Whether there is no buffer.
+    pub fn is_empty(&self) -> bool
+        ensures { IsTrue result ↔ (self.now.items ≡ []) }
+    {
+        self.row.is_empty()
+    }
+
+    /// How many buffers there are, or the greatest `u64` where that is less. It takes a walk over them.
+    pub fn len(&self) -> u64
+        ensures { result ≡ capped (length self.now.items) }
+    {
+        self.row.len()
+    }
+
+    /// The sum of the sizes in bytes, or the greatest `u64` where that is less, in constant time.
+    pub fn bytes(&self) -> u64
+        ensures { result ≡ capped (sizes self.now.items) }
+    {
+        self.bytes
+    }
+
+    /// Whether the sum of the sizes is greater than the limit, in constant time.
+    pub fn is_due(&self) -> bool
+        ensures { IsTrue result ↔ (self.now.limit < sizes self.now.items) }
+    {
+        self.bytes > self.limit
+    }
+
+    /// Adds the slot of each buffer to the end of `slots`, each as often as it is there.
+    ///
+    /// An error says that `slots` could not grow. It then has what it had before.
+    pub fn list_slots(&self, slots: &mut Vec<Slot>) -> Result<(), NoMemory>
+        ensures ok { OnOk result (AddsSlots self.now.items slots.old.items slots.new.items) }
+        ensures err { OnErr result (slots.new.items ≡ slots.old.items) }
+    {
+        self.row.list_slots(slots)
+    }
+
+    /// Adds a buffer, in constant time.
+    pub fn put(&mut self, item: Buf<'r>)
+        requires { IsCached self.old.digits self.old.number item }
+        ensures same { self.new ≡ record self.old { items = self.new.items } }
+        ensures items { IsPermutation (self.old.items ++ item.entry ∷ []) self.new.items }
+    {
+        let size = item.class().size() as u64;
+        self.row.push(item);
+        self.bytes = self.bytes.saturating_add(size);
+    }
+
+    /// Adds the buffers of a batch that this desk would have sent.
+    pub fn put_back(&mut self, batch: Batch<'r>)
+        requires sender { batch.sender ≡ self.old.number }
+        requires digits { batch.digits ≡ self.old.digits }
+        ensures same { self.new ≡ record self.old { items = self.new.items } }
+        ensures items { IsPermutation (self.old.items ++ batch.entry.items) self.new.items }
+    {
+        let size = batch.bytes();
+        self.row.push_all(batch.into_chain());
+        self.bytes = self.bytes.saturating_add(size);
+    }
+
+    /// Why `take_bucket_for` would refuse, or `None` where it would give a batch.
+    pub fn fault_for(&self, t: u16) -> Option<RouteError>
+        ensures { RouteFault self.now.digits self.now.number t self.now.items result }
+    {
+        let _known = &self.limit;
+        self.row.fault_for(t)
+    }
+
+    /// Takes out the bucket for `t`: all buffers whose owners share more digits with `t` than this desk does.
+    ///
+    /// `RouteError` says when there is no such batch. The cache is then as before.
+    pub fn take_bucket_for(&mut self, t: u16) -> Result<Batch<'r>, RouteError>
+        ensures same { self.new ≡ record self.old { items = self.new.items } }
+        ensures value { MatchResult result
+            (λ b. RouteFault self.old.digits self.old.number t self.old.items None × (b.address ≡ t)
+            × Gives self.old.digits self.old.number self.old.items b self.new.items)
+            (λ e. RouteFault self.old.digits self.old.number t self.old.items (Some e) × (self.new ≡ self.old)) }
+    {
+        match self.fault_for(t) {
+            Some(fault) => Err(fault),
+            None => {
+                let chain = self.row.take_for(t);
+                self.bytes = bytes_left(self.bytes, chain.bytes_total(), &self.row);
+                Ok(Batch::new(self.row.number(), t, self.row.digits(), chain))
+            }
+        }
+    }
+
+    /// Takes out the bucket for some owner of a buffer in it, or says that the cache is empty.
+    ///
+    /// It is one turn of a posting. To post all of a cache, `posting` takes fewer steps.
+    pub fn next_batch(&mut self) -> Option<Batch<'r>>
+        ensures same { self.new ≡ record self.old { items = self.new.items } }
+        ensures value { MatchOption result ((self.old.items ≡ []) × (self.new.items ≡ []))
+            (λ b. Gives self.old.digits self.old.number self.old.items b self.new.items) }
+    {
+        let empty = Row::new(self.row.number(), self.row.digits());
+        let row = mem::replace(&mut self.row, empty);
+        let mut posting = Posting::new(row, self.limit);
+        let batch = posting.next_batch();
+        let row = posting.into_row();
+        let bytes = match &batch {
+            None => 0,
+            Some(batch) => bytes_left(self.bytes, batch.bytes(), &row),
+        };
+        let _empty = mem::replace(&mut self.row, row);
+        self.bytes = bytes;
+        batch
+    }
+
+    /// Begins to post the cache, round by round.
+    pub fn posting(self) -> Posting<'r>
+        ensures { result ≡ record { number = self.entry.number; digits = self.entry.digits; limit = self.entry.limit; round = 0; moves = 0; items = self.entry.items } }
+    {
+        let Cache {
+            row,
+            limit,
+            bytes: _,
+        } = self;
+        Posting::new(row, limit)
+    }
+
+    /// Posts the cache until it is empty or `sink` refuses a batch. Gives the cache of what is left, and how often a
+    /// buffer was moved from one round's row into the next, or the greatest `u64` where that is less.
+    ///
+    /// Each buffer is moved once for each digit that its owner shares with the desk, so less often than a number has
+    /// digits.
+    pub fn post_all<S: BatchSink<'r>>(self, sink: &mut S) -> (Cache<'r>, u64)
+        ensures same { result.0 ≡ record self.entry { items = result.0.items } }
+        ensures posts { Posts self.entry.digits self.entry.number self.entry.items (S.given sink.old) (S.given sink.new) result.0.items }
+        ensures stops { (result.0.items ≡ []) ⊎ (b : BatchState) × S.refuses sink.new b }
+        ensures moves { result.0.items ≡ [] → shared self.entry.digits self.entry.number self.entry.items < 2 ^ 64
+            → result.1 ≡ shared self.entry.digits self.entry.number self.entry.items }
+        ensures few { result.1 ≤ (count self.entry.digits - 1) * length self.entry.items }
+    {
+        let _known = self.number();
+        let mut posting = self.posting();
+        while let Some(batch) = posting.next_batch() {
+            if let Err(refused) = sink.give(batch) {
+                let moves = posting.moves();
+                return (posting.put_back(refused), moves);
+            }
+        }
+        let moves = posting.moves();
+        (posting.end(), moves)
+    }
+}

@@ -1,0 +1,226 @@
+//! The row that a cache and a posting stand on.
+ghost use Rattle.std.specs.Prelude.{◌≡◌, ◌≢◌, ℕ, ◌+◌, ◌^◌, ◌<◌, ◌≤◌, ◌↔◌, [], ◌∷◌, ◌++◌, length, MatchOption, All, Any, IsPermutation, IsTrue, OnOk, OnErr};
+ghost use Rattle.slot_chain.specs.Buffer.{Buffer};
+ghost use Rattle.slot_chain.specs.Counts.{capped, sizes};
+ghost use Rattle.digit_route.specs.Digits.{digit};
+ghost use Rattle.digit_route.specs.Route.{RouteFault, TakesBucket};
+ghost use Rattle.digit_route.specs.Rows.{IsLeft, Keeps};
+ghost use Rattle.digit_route.specs.Slots.{AddsSlots};
+
+use crate::chains::{
+    Chains, all_empty, bytes, empty_chains, find_other, len, list_slots, push_at, set_at, take_at,
+};
+use crate::moves::{scatter, scatter_all, split};
+use crate::walks::fault_in;
+use crate::{Digits, RouteError};
+use region_cut::Slot;
+use slot_chain::{Buf, Chain, NoMemory};
+use std::marker::Model;
+
+/// Buffers of other desks that share the digits below `round` with the desk `number`, each in the chain of its
+/// owner's digit `round`.
+#[derive(Drop)]
+pub struct Row<'r> {
+    number: u16,
+    digits: Digits,
+    round: u32,
+    chains: Chains<'r>,
+}
+
+impl<'r> Model for Row<'r> {
+    ghost use Rattle.std.specs.List.{flat_map};
+    ghost use Rattle.digit_route.specs.Rows.{Row as Shown, IsRow};
+
+    ghost Value = { Shown };
+
+    ghost view = { λ r. record { number = r.number; digits = r.digits; round = r.round; items = flat_map (λ x. x) r.chains.items } };
+
+    ghost invariant = { λ r. IsRow r.digits r.number r.round r.chains.items };
+}
+
+impl<'r> Row<'r> {
+    /// An empty row, by the first digit.
+    pub fn new(number: u16, digits: Digits) -> Row<'r>
+        requires { number < 2 ^ digits.bits }
+        ensures { result ≡ record { number = number; digits = digits; round = 0; items = [] } }
+    {
+        let _known = digits.count();
+        let chains = empty_chains(digits.values());
+        Row {
+            number,
+            digits,
+            round: 0,
+            chains,
+        }
+    }
+
+    /// The desk.
+    pub fn number(&self) -> u16
+        ensures value { result ≡ self.now.number }
+        ensures keeps { Keeps self.now }
+    {
+        self.number
+    }
+
+    pub fn digits(&self) -> Digits
+        ensures value { result ≡ self.now.digits }
+        ensures keeps { Keeps self.now }
+    {
+        self.digits
+    }
+
+    pub fn round(&self) -> u32
+        ensures value { result ≡ self.now.round }
+        ensures keeps { Keeps self.now }
+    {
+        self.round
+    }
+
+    /// Whether no buffer is left.
+    pub fn is_empty(&self) -> bool
+        ensures { IsTrue result ↔ (self.now.items ≡ []) }
+    {
+        all_empty(self.chains.as_slice())
+    }
+
+    /// How many buffers there are, or the greatest `u64`, found by a walk.
+    pub fn len(&self) -> u64
+        ensures { result ≡ capped (length self.now.items) }
+    {
+        len(self.chains.as_slice())
+    }
+
+    /// The sum of the sizes in bytes, or the greatest `u64`, found by a walk.
+    pub fn bytes(&self) -> u64
+        ensures { result ≡ capped (sizes self.now.items) }
+    {
+        bytes(self.chains.as_slice())
+    }
+
+    /// Adds the slots of all buffers, or none.
+    pub fn list_slots(&self, slots: &mut Vec<Slot>) -> Result<(), NoMemory>
+        ensures ok { OnOk result (AddsSlots self.now.items slots.old.items slots.new.items) }
+        ensures err { OnErr result (slots.new.items ≡ slots.old.items) }
+    {
+        list_slots(self.chains.as_slice(), slots)
+    }
+
+    /// Adds a buffer.
+    pub fn push(&mut self, item: Buf<'r>)
+        requires { IsLeft self.old.digits self.old.number self.old.round item }
+        ensures same { self.new ≡ record self.old { items = self.new.items } }
+        ensures items { IsPermutation (self.old.items ++ item.entry ∷ []) self.new.items }
+    {
+        let k = self.digits.digit(item.owner(), self.round);
+        push_at(&mut self.chains, k as usize, item);
+    }
+
+    /// Adds the buffers of a chain.
+    pub fn push_all(&mut self, chain: Chain<'r>)
+        requires { All (IsLeft self.old.digits self.old.number self.old.round) chain }
+        ensures same { self.new ≡ record self.old { items = self.new.items } }
+        ensures items { IsPermutation (self.old.items ++ chain.entry) self.new.items }
+    {
+        let _moved = scatter(&mut self.chains, self.digits, self.round, chain);
+    }
+
+    /// Why no bucket for `t` is taken.
+    pub fn fault_for(&self, t: u16) -> Option<RouteError>
+        requires { self.now.round ≡ 0 }
+        ensures { RouteFault self.now.digits self.now.number t self.now.items result }
+    {
+        if t == self.number {
+            return Some(RouteError::ToSelf);
+        }
+        let k = self.digits.digit(t, 0);
+        fault_in(
+            &self.chains.as_slice()[k as usize],
+            self.digits,
+            self.number,
+            t,
+        )
+    }
+
+    /// Takes out the bucket for `t`.
+    pub fn take_for(&mut self, t: u16) -> Chain<'r>
+        requires { self.old.round ≡ 0 }
+        ensures same { self.new ≡ record self.old { items = self.new.items } }
+        ensures taken { TakesBucket self.old.digits self.old.number t self.old.items result self.new.items }
+        ensures left { All (IsLeft self.old.digits self.old.number self.old.round) self.old.items }
+    {
+        let near = self.digits.common(self.number, t);
+        let k = self.digits.digit(t, 0) as usize;
+        let whole = take_at(&mut self.chains, k);
+        let (nearer, others) = split(whole, self.digits, near, t);
+        set_at(&mut self.chains, k, others);
+        nearer
+    }
+
+    /// A digit other than the desk's own that some owner has.
+    pub fn find_other(&self) -> Option<u16>
+        ensures keeps { Keeps self.now }
+        ensures value { let own = digit self.now.digits self.now.number self.now.round in
+            MatchOption result
+            (All (λ (b : Buffer). digit self.now.digits b.owner self.now.round ≡ own) self.now.items)
+            (λ k. (k < 2 ^ self.now.digits.width) × (k ≢ own)
+            × Any (λ (b : Buffer). digit self.now.digits b.owner self.now.round ≡ k) self.now.items) }
+    {
+        let own = self.digits.digit(self.number, self.round);
+        match find_other(self.chains.as_slice(), own as usize) {
+            None => None,
+            Some(k) => Some(k as u16),
+        }
+    }
+
+    /// Takes out all buffers whose owners have the digit `k`.
+    pub fn take(&mut self, k: u16) -> Chain<'r>
+        requires { k < 2 ^ self.old.digits.width }
+        ensures same { self.new ≡ record self.old { items = self.new.items } }
+        ensures items { IsPermutation self.old.items (result ++ self.new.items) }
+        ensures only { All (λ (b : Buffer). digit self.old.digits b.owner self.old.round ≡ k) result }
+        ensures all { All (λ (b : Buffer). digit self.old.digits b.owner self.old.round ≢ k) self.new.items }
+        ensures left { All (IsLeft self.old.digits self.old.number self.old.round) self.old.items }
+    {
+        take_at(&mut self.chains, k as usize)
+    }
+
+    /// Goes on to the next digit, where all owners that are left have the desk's own, and counts the buffers moved.
+    pub fn advance(&mut self) -> u64
+        requires own { All (λ (b : Buffer). digit self.old.digits b.owner self.old.round
+            ≡ digit self.old.digits self.old.number self.old.round) self.old.items }
+        requires some { self.old.items ≢ [] }
+        ensures same { self.new ≡ record self.old { round = self.old.round + 1; items = self.new.items } }
+        ensures items { IsPermutation self.old.items self.new.items }
+        ensures count { result ≡ capped (length self.old.items) }
+        ensures keeps { Keeps self.new }
+    {
+        let own = self.digits.digit(self.number, self.round);
+        let chain = take_at(&mut self.chains, own as usize);
+        self.round += 1;
+        scatter(&mut self.chains, self.digits, self.round, chain)
+    }
+
+    /// The same buffers by the first digit.
+    pub fn restart(self) -> Row<'r>
+        ensures same { result ≡ record self.entry { round = 0; items = result.items } }
+        ensures items { IsPermutation self.entry.items result.items }
+    {
+        if self.round == 0 {
+            return self;
+        }
+        let Row {
+            number,
+            digits,
+            round: _,
+            chains,
+        } = self;
+        let mut fresh = empty_chains(digits.values());
+        scatter_all(&mut fresh, digits, 0, chains);
+        Row {
+            number,
+            digits,
+            round: 0,
+            chains: fresh,
+        }
+    }
+}

@@ -1,0 +1,58 @@
+//! What is found by a walk along one chain.
+ghost use Rattle.std.specs.Prelude.{◌≡◌, ◌≢◌, [], ◌++◌, Any, OnOk, OnErr, map, reverse};
+ghost use Rattle.slot_chain.specs.Buffer.{Buffer};
+ghost use Rattle.digit_route.specs.Digits.{Scheme};
+ghost use Rattle.digit_route.specs.Route.{RouteFault};
+ghost use Rattle.digit_route.specs.Slots.{slot_of};
+
+use crate::{Digits, RouteError};
+use region_cut::Slot;
+use slot_chain::{Chain, NoMemory};
+
+/// The owner of some buffer of the chain.
+pub fn some_owner(chain: &Chain<'_>) -> u16
+    requires { chain.now ≢ [] }
+    ensures { Any (λ (b : Buffer). b.owner ≡ result) chain.now }
+{
+    match chain.walk().next() {
+        Some(tag) => tag.owner,
+        None => unreachable!(),
+    }
+}
+
+/// Why desk `a` takes no bucket for `t` out of this chain.
+pub fn fault_in(chain: &Chain<'_>, digits: Digits, a: u16, t: u16) -> Option<RouteError>
+    requires { t ≢ a }
+    ensures { RouteFault digits a t chain.now result }
+{
+    let near = digits.common(a, t);
+    let mut found = false;
+    for tag in chain.walk() {
+        if digits.common(tag.owner, t) > near {
+            if tag.owner == t {
+                return None;
+            }
+            found = true;
+        }
+    }
+    if found {
+        Some(RouteError::NotAnOwner)
+    } else {
+        Some(RouteError::NothingFor)
+    }
+}
+
+/// Adds the slots of the chain, the last buffer's first, or none.
+pub fn list_slots(chain: &Chain<'_>, slots: &mut Vec<Slot>) -> Result<(), NoMemory>
+    ensures ok { OnOk result (slots.new.items ≡ slots.old.items ++ reverse (map slot_of chain.now)) }
+    ensures err { OnErr result (slots.new.items ≡ slots.old.items) }
+{
+    let start = slots.len();
+    for tag in chain.walk() {
+        if slots.push(tag.slot).is_err() {
+            slots.truncate(start);
+            return Err(NoMemory);
+        }
+    }
+    Ok(())
+}

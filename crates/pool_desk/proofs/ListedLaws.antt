@@ -1,0 +1,116 @@
+-- Slots that are added to a list one by one.
+use Rattle.std.proofs.Common.{◌≡◌, ℕ, zero, suc, ◌+◌, ◌≤◌, List, [], ◌∷◌, ◌++◌, refl, sym, ap, ◌∙◌, subst, arith, append_assoc, append-nil, IsPermutation, map, take, length, get_or, ◌<◌, true}
+use Rattle.std.specs.Prelude.{Result, Ok, Err, OnOk, is_ok}
+use Rattle.std.specs.Borrow.{GName}
+use Rattle.std.specs.List.{flat_map}
+use Rattle.std.proofs.lemmas.List.Sorted.{IsPermutation-refl, IsPermutation-sym, IsPermutation-trans, IsPermutation-append}
+use Rattle.std.proofs.lemmas.List.{map-append, take_more}
+use Rattle.std.proofs.lemmas.Grind.{flat_map-append}
+use Rattle.digit_route.specs.Slots.{AddsSlots}
+use Rattle.pool_desk.specs.ByClass.{slots_at}
+use Rattle.std.proofs.Math.Seq.{take-append_seam}
+use Rattle.region_cut.specs.declared.slot.Slot.{Slot}
+use Rattle.region_cut.specs.Classes.{size_of}
+use Rattle.slot_chain.specs.Buffer.{Buffer}
+use Rattle.pool_desk.specs.Homes.{AtHome, HomeState, slot_at, unused_from}
+use Rattle.pool_desk.specs.Homes.AtHome.{Kept, Fresh}
+use Rattle.pool_desk.specs.Listed.{Adds, AddsOn, places, slot_of}
+
+-- of the slots whole those before rest were added
+pub record Adding (whole rest old new : List Slot) : Type 0 where
+  pub added : List Slot
+  pub so_far : new ≡ old ++ added
+  pub all : whole ≡ added ++ rest
+
+pub Adding-none : (whole old : List Slot) → Adding whole whole old old
+Adding-none whole old = record { added = []; so_far = sym (append-nil old); all = refl }
+
+pub Adding-next : (whole : List Slot) (s : Slot) (rest old new : List Slot) → Adding whole (s ∷ rest) old new → Adding whole rest old (new ++ s ∷ [])
+Adding-next whole s rest old new a = record {
+  added = a.added ++ s ∷ [];
+  so_far = ap (λ (z : List Slot). z ++ s ∷ []) a.so_far ∙ append_assoc old a.added (s ∷ []);
+  all = a.all ∙ sym (append_assoc a.added (s ∷ []) rest);
+}
+
+pub Adding-done : {T E : Type 0} (r : Result T E) (slots whole old new : List Slot) → IsPermutation slots whole → Adding whole [] old new → AddsOn r slots old new
+Adding-done (Ok t) slots whole old new p a = record { added = a.added; appended = a.so_far; each = subst (IsPermutation slots) (a.all ∙ append-nil a.added) p }
+Adding-done (Err e) slots whole old new p a = record { added = a.added; appended = a.so_far; each = tt }
+
+pub Adding-stop : {T E : Type 0} (e : E) (slots whole rest old new : List Slot) → Adding whole rest old new → AddsOn {T = T} (Err e) slots old new
+Adding-stop e slots whole rest old new a = record { added = a.added; appended = a.so_far; each = tt }
+
+-- nothing was added
+pub Adds-none : (old : List Slot) → Adds [] old old
+Adds-none old = record { added = []; appended = sym (append-nil old); each = IsPermutation-refl [] }
+
+pub Adds-ok : {T E : Type 0} (t : T) (slots old new : List Slot) → AddsOn {T = T} {E = E} (Ok t) slots old new → Adds slots old new
+Adds-ok t slots old new a = record { added = a.added; appended = a.appended; each = a.each }
+
+-- more slots after those that were added
+pub AddsOn-more : {T E : Type 0} (r : Result T E) (xs ys old mid new : List Slot) → Adds xs old mid → AddsOn r ys mid new → AddsOn r (xs ++ ys) old new
+AddsOn-more (Ok t) xs ys old mid new a b = record {
+  added = a.added ++ b.added;
+  appended = b.appended ∙ (ap (λ (z : List Slot). z ++ b.added) a.appended ∙ append_assoc old a.added b.added);
+  each = IsPermutation-append _ _ _ _ a.each b.each;
+}
+AddsOn-more (Err e) xs ys old mid new a b = record {
+  added = a.added ++ b.added;
+  appended = b.appended ∙ (ap (λ (z : List Slot). z ++ b.added) a.appended ∙ append_assoc old a.added b.added);
+  each = tt;
+}
+
+-- where some were added, none are again once the list is cut to its length
+pub cut_back : {T E : Type 0} (r : Result T E) (slots old new : List Slot) → AddsOn r slots old new → take (length old) new ≡ old
+cut_back r slots old new a = ap (take (length old)) a.appended ∙ take-append_seam old a.added
+
+-- the slots that a cursor has still to give
+pub unused_places : (chunk class : ℕ) (part : GName) (n i : ℕ) (bs : List ℕ) → map slot_at (unused_from chunk class part n i bs) ≡ places chunk n i
+unused_places chunk class part zero i bs = refl
+unused_places chunk class part (suc n) i bs = ap (λ (z : List Slot). record { chunk = chunk; index = i } ∷ z) (unused_places chunk class part n (i + 1) _)
+
+pub kept_slots : (bs : List Buffer) → map slot_at (map {A = Buffer} {B = AtHome} (λ x. Kept x) bs) ≡ map slot_of bs
+kept_slots [] = refl
+kept_slots (b ∷ bs) = ap (λ (z : List Slot). b.slot ∷ z) (kept_slots bs)
+
+-- the slots of a home: those of its list, and those that its cursor has still to give
+home_slots : (bs : List Buffer) (us : List AtHome) → map slot_at (map {A = Buffer} {B = AtHome} (λ x. Kept x) bs ++ us) ≡ map slot_of bs ++ map slot_at us
+home_slots bs us = map-append slot_at (map {A = Buffer} {B = AtHome} (λ x. Kept x) bs) us ∙ ap (λ (z : List Slot). z ++ map slot_at us) (kept_slots bs)
+
+pub home_listed : {T E : Type 0} (r : Result T E) (t : T) (bs : List Buffer) (us : List AtHome) (old mid new : List Slot)
+    → AddsOn {T = T} {E = E} (Ok t) (map slot_of bs) old mid → AddsOn r (map slot_at us) mid new
+    → AddsOn r (map slot_at (map {A = Buffer} {B = AtHome} (λ x. Kept x) bs ++ us)) old new
+home_listed r t bs us old mid new a b =
+    subst (λ z. AddsOn r z old new) (sym (home_slots bs us)) (AddsOn-more r (map slot_of bs) (map slot_at us) old mid new (Adds-ok t _ _ _ a) b)
+
+pub none_listed : {T E : Type 0} (t : T) (old : List Slot) → AddsOn {T = T} {E = E} (Ok t) [] old old
+none_listed t old = record { added = []; appended = sym (append-nil old); each = IsPermutation-refl [] }
+
+-- one home more
+pub homes_listed : {T E : Type 0} (t : T) (hs : List HomeState) (i : ℕ) (h : HomeState) (old mid new : List Slot) → i < length hs → h ≡ get_or hs i h
+    → Adds (map slot_at (flat_map slots_at (take i hs))) old mid → AddsOn {T = T} {E = E} (Ok t) (map slot_at h.slots) mid new
+    → Adds (map slot_at (flat_map slots_at (take (i + 1) hs))) old new
+homes_listed {T = T} {E = E} t hs i h old mid new l is a b =
+    let front : take (i + 1) hs ≡ take i hs ++ h ∷ [] = take_more hs i h l ∙ ap (λ (z : HomeState). take i hs ++ z ∷ []) (sym is) in
+    let slots : map slot_at (flat_map slots_at (take (i + 1) hs)) ≡ map slot_at (flat_map slots_at (take i hs)) ++ map slot_at h.slots
+    = ap (λ (z : List HomeState). map slot_at (flat_map slots_at z)) front
+    ∙ (ap (map slot_at) (flat_map-append slots_at (take i hs) (h ∷ []))
+    ∙ (map-append slot_at (flat_map slots_at (take i hs)) (h.slots ++ [])
+    ∙ ap (λ (z : List AtHome). map slot_at (flat_map slots_at (take i hs)) ++ map slot_at z) (append-nil h.slots))) in
+    let r : Result T E = Ok t in
+    subst (λ z. Adds z old new) (sym slots) (Adds-ok t _ _ _ (AddsOn-more r _ _ old mid new a b))
+
+pub Adds-true : {T E : Type 0} (r : Result T E) (slots old new : List Slot) → is_ok r ≡ true → AddsOn r slots old new → Adds slots old new
+Adds-true (Ok t) slots old new e a = Adds-ok t slots old new a
+Adds-true (Err x) slots old new e a = absurd (cc)
+
+pub OnOk-true : {T E : Type 0} (r : Result T E) (P : Type 0) → is_ok r ≡ true → OnOk r P → P
+OnOk-true (Ok t) P e h = h
+OnOk-true (Err x) P e h = absurd (cc)
+
+-- the slots of a cache after others
+pub cache_listed : (xs : List Slot) (cached : List Buffer) (old mid new : List Slot) → Adds xs old mid → AddsSlots cached mid new → Adds (xs ++ map slot_of cached) old new
+cache_listed xs cached old mid new a b = record {
+  added = a.added ++ b.added;
+  appended = b.appended ∙ (ap (λ (z : List Slot). z ++ b.added) a.appended ∙ append_assoc old a.added b.added);
+  each = IsPermutation-append _ _ _ _ a.each b.slots;
+}

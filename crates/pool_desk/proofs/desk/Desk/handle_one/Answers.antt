@@ -1,0 +1,26 @@
+use Rattle.std.proofs.Common.{rules, arith, ◌≡◌, ◌≢◌, ◌≤◌, ◌+◌, sym, ap, ◌∙◌}
+use Rattle.digit_route.specs.Digits.{count}
+use Rattle.digit_route.proofs.DigitLaws.{common-le}
+use Rattle.pool_desk.specs.Desks.{DeskState}
+use Rattle.pool_desk.specs.Handling.{IsPassed}
+use Rattle.pool_desk.proofs.DeskLaws.{goes_on}
+use Rattle.pool_desk.proofs.desk.Desk.handle_one.Goals as goal
+
+pub overflow_add-forwards : goal.overflow_add-forwards
+overflow_add-forwards c =
+    let other : c.args.buf.owner ≢ c.args.self.now.number = λ e. c.if-owner-number.false (c.owner.ensures.value ∙ (e ∙ sym (c.number-number.ensures.value ∙ ap (λ (d : DeskState). d.number) c.self.view_is))) in
+    let one : IsPassed c.args.self.now.digits c.args.self.now.number c.args.buf = c.requires other in
+    let below = one.forwards in
+    let within = common-le c.args.self.now.digits c.args.buf.owner c.args.self.now.number in
+    let digits : c.digits.result ≡ c.args.self.now.digits = c.digits.ensures ∙ ap (λ (d : DeskState). d.digits) c.self.view_is in
+    let most : c.count-most.result ≡ count c.args.self.now.digits = c.count-most.ensures.value ∙ ap count digits in
+    let high = c.count-most.ensures.high in
+    let is = c.forwards-forwards.ensures in
+    let small : c.forwards-forwards.result + 1 ≤ 16 = omega arith in
+    search (rules, small)
+
+pub returns : goal.returns
+returns c =
+    let other : c.args.buf.owner ≢ c.self.inside.cache.number = λ e. c.if-owner-number.false (c.owner.ensures.value ∙ (e ∙ sym c.number-number.ensures.value)) in
+    let put = rw (c.set_forwards.ensures, c.forwards-forwards.ensures) at c.put.ensures.items in
+    rw (← c.self.view_is) (goes_on _ c.args.buf c.put.new.self other c.put.ensures.same put)

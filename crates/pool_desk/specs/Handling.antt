@@ -1,0 +1,24 @@
+-- One buffer of a batch after the other is handled.
+use Rattle.std.specs.Prelude.{◌≡◌, ◌≢◌, ℕ, ◌^◌, ◌<◌, List, ◌∷◌, ◌++◌, All, IsPermutation}
+use Rattle.slot_chain.specs.Buffer.{Buffer}
+use Rattle.digit_route.specs.Digits.{Scheme, common}
+use Rattle.pool_desk.specs.Homes.AtHome.{Kept}
+use Rattle.pool_desk.specs.Desks.{DeskState}
+use Rattle.pool_desk.specs.Steps.{passed_on}
+
+-- a buffer of a batch to a may go into a's cache, with one more forward
+pub record IsPassed (s : Scheme) (a : ℕ) (b : Buffer) : Type 0 where
+  pub in_range : b.owner < 2 ^ s.bits
+  pub forwards : b.forwards < common s b.owner a
+
+-- an own buffer goes home
+pub record GoesHome (old : DeskState) (b : Buffer) (new : DeskState) : Type 0 where
+  pub own : b.owner ≡ old.number
+  pub same : new ≡ record old { home = new.home }
+  pub home : IsPermutation (Kept b ∷ old.home) new.home
+
+-- another goes into the cache, with one more forward
+pub record GoesOn (old : DeskState) (b : Buffer) (new : DeskState) : Type 0 where
+  pub other : b.owner ≢ old.number
+  pub same : new ≡ record old { cached = new.cached }
+  pub cached : IsPermutation (passed_on b ∷ old.cached) new.cached

@@ -1,0 +1,7 @@
+//! Rows that were worked out by hand.
+mod desks;
+mod listing;
+mod numbers;
+mod rounds;
+mod samples;
+mod sinks;

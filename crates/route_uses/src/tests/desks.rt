@@ -1,0 +1,102 @@
+//! How buffers of 7, 11 and 27 travel from desk 0, in digits of 2 bits.
+use crate::offering::offer;
+use crate::tests::samples::{bump, empty, filled};
+use digit_route::{Batch, Cache, Digits, RouteError};
+use std::process::Abort;
+
+// What came home, and what was passed on into the cache.
+fn receive<'r>(rt: &impl Abort, cache: &mut Cache<'r>, batch: Batch<'r>) -> (u64, u64) {
+    assert_eq!(rt; batch.address(), cache.number());
+    let (mut home, mut on) = (0u64, 0u64);
+    let mut chain = batch.into_chain();
+    while let Some(mut buf) = chain.pop() {
+        if buf.owner() == cache.number() {
+            home = home.saturating_add(1);
+        } else {
+            buf.set_forwards(buf.forwards().saturating_add(1));
+            assert!(rt; offer(cache, buf).is_none());
+            on = on.saturating_add(1);
+        }
+    }
+    (home, on)
+}
+
+#[test]
+fn passes_buffers_on(rt: HostRuntime) {
+    let alloc = rt.alloc();
+    let mut region = Vec::from_elem(alloc, 0u8, 4096).expect(&rt, "memory");
+    let mut bump = bump(&rt, alloc, &mut region, 15);
+    let mut at_0 = filled(&rt, alloc, &mut bump, 2, 0, &[7, 11, 27]);
+    let batch = at_0.take_bucket_for(7).expect(&rt, "a batch");
+    assert!(rt; at_0.is_empty());
+    assert_eq!(rt; batch.len(), 3);
+
+    let mut at_7 = empty(&rt, 2, 7);
+    assert_eq!(rt; receive(&rt, &mut at_7, batch), (1, 2));
+    let batch = at_7.take_bucket_for(11).expect(&rt, "a batch");
+    assert_eq!(rt; batch.len(), 2);
+
+    let mut at_11 = empty(&rt, 2, 11);
+    assert_eq!(rt; receive(&rt, &mut at_11, batch), (1, 1));
+    let batch = at_11.take_bucket_for(27).expect(&rt, "a batch");
+    assert_eq!(rt; batch.len(), 1);
+    let mut chain = batch.into_chain();
+    let buf = chain.pop().expect(&rt, "the buffer of 27");
+    assert_eq!(rt; buf.owner(), 27);
+    assert_eq!(rt; buf.forwards(), 2);
+}
+
+#[test]
+fn refuses_in_order(rt: HostRuntime) {
+    let alloc = rt.alloc();
+    let mut region = Vec::from_elem(alloc, 0u8, 4096).expect(&rt, "memory");
+    let mut bump = bump(&rt, alloc, &mut region, 15);
+    let mut cache = filled(&rt, alloc, &mut bump, 2, 0, &[27]);
+    for (t, want) in [
+        (3, RouteError::NotAnOwner),
+        (2, RouteError::NothingFor),
+        (0, RouteError::ToSelf),
+    ] {
+        assert_eq!(rt; cache.fault_for(t), Some(want), "at {t}");
+        assert_eq!(rt; cache.take_bucket_for(t).err(), Some(want), "at {t}");
+        assert_eq!(rt; cache.len(), 1);
+    }
+    assert!(rt; cache.fault_for(27).is_none());
+    assert_eq!(rt; cache.take_bucket_for(27).expect(&rt, "a batch").len(), 1);
+    assert_eq!(rt; cache.fault_for(27), Some(RouteError::NothingFor));
+}
+
+#[test]
+fn is_due_above_the_limit(rt: HostRuntime) {
+    let alloc = rt.alloc();
+    let mut region = Vec::from_elem(alloc, 0u8, 4096).expect(&rt, "memory");
+    let mut bump = bump(&rt, alloc, &mut region, 15);
+    let mut cache = filled(&rt, alloc, &mut bump, 2, 0, &[7, 1]);
+    assert_eq!(rt; cache.bytes(), 1024);
+    assert!(rt; !cache.is_due());
+    let mut cache = filled(&rt, alloc, &mut bump, 2, 0, &[7, 1, 2]);
+    assert_eq!(rt; cache.bytes(), 1536);
+    assert!(rt; cache.is_due());
+    let batch = cache.next_batch().expect(&rt, "a batch");
+    assert_eq!(rt; cache.bytes(), 1024);
+    assert!(rt; !cache.is_due());
+    cache.put_back(batch);
+    assert_eq!(rt; cache.bytes(), 1536);
+    assert!(rt; cache.is_due());
+}
+
+#[test]
+fn reads_twelve_bits(rt: HostRuntime) {
+    let alloc = rt.alloc();
+    let mut region = Vec::from_elem(alloc, 0u8, 4096).expect(&rt, "memory");
+    let mut bump = bump(&rt, alloc, &mut region, 19);
+    let digits = Digits::new2(6).expect(&rt, "a width of 1 to 6");
+    let mut at_0 = Cache::new(0, digits, 4096);
+    let taken = crate::filling::fill(alloc, &mut bump, &[65, 129], &mut at_0).expect(&rt, "memory");
+    assert_eq!(rt; taken, 2);
+    let batch = at_0.take_bucket_for(65).expect(&rt, "a batch");
+    assert_eq!(rt; batch.len(), 2);
+    let mut at_65 = Cache::new(65, digits, 4096);
+    assert_eq!(rt; receive(&rt, &mut at_65, batch), (1, 1));
+    assert_eq!(rt; at_65.take_bucket_for(129).expect(&rt, "a batch").len(), 1);
+}

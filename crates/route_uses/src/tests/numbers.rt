@@ -1,0 +1,119 @@
+//! Digits of numbers, and how many two numbers share.
+use digit_route::{Digits, laws};
+use region_cut::Profile;
+use std::process::Abort;
+
+// The digits, least first, of the desk and of the owner, and how many they share.
+#[derive(Drop)]
+struct Row {
+    digits: Option<Digits>,
+    numbers: (u16, u16),
+    desk: &'static [u16],
+    owner: &'static [u16],
+    common: u32,
+}
+
+fn check(rt: &impl Abort, row: &Row) {
+    let digits = row.digits.expect(rt, "a width of 1 to 6");
+    let (desk, owner) = row.numbers;
+    assert_eq!(rt; digits.count() as usize, row.desk.len());
+    for (j, (a, o)) in row.desk.iter().zip(row.owner).enumerate() {
+        assert_eq!(rt; digits.digit(desk, j as u32), *a, "digit {j} of {desk}");
+        assert_eq!(rt; digits.digit(owner, j as u32), *o, "digit {j} of {owner}");
+    }
+    assert_eq!(rt;
+        digits.common(desk, owner),
+        row.common,
+        "{desk} and {owner}"
+    );
+    assert_eq!(rt; digits.digit(owner, u32::MAX), 0);
+    laws::symmetric(digits, desk, owner);
+}
+
+#[test]
+fn reads_digits(rt: HostRuntime) {
+    let rows = [
+        Row {
+            digits: Digits::new(2),
+            numbers: (0, 27),
+            desk: &[0, 0, 0],
+            owner: &[3, 2, 1],
+            common: 0,
+        },
+        Row {
+            digits: Digits::new(2),
+            numbers: (7, 27),
+            desk: &[3, 1, 0],
+            owner: &[3, 2, 1],
+            common: 1,
+        },
+        Row {
+            digits: Digits::new(6),
+            numbers: (5, 5),
+            desk: &[5],
+            owner: &[5],
+            common: 1,
+        },
+        Row {
+            digits: Digits::new(4),
+            numbers: (17, 33),
+            desk: &[1, 1],
+            owner: &[1, 2],
+            common: 1,
+        },
+        Row {
+            digits: Digits::new(1),
+            numbers: (0, 32),
+            desk: &[0, 0, 0, 0, 0, 0],
+            owner: &[0, 0, 0, 0, 0, 1],
+            common: 5,
+        },
+        Row {
+            digits: Digits::new(5),
+            numbers: (63, 31),
+            desk: &[31, 1],
+            owner: &[31, 0],
+            common: 1,
+        },
+        Row {
+            digits: Digits::new2(5),
+            numbers: (0, 4095),
+            desk: &[0, 0, 0],
+            owner: &[31, 31, 3],
+            common: 0,
+        },
+        Row {
+            digits: Digits::new2(6),
+            numbers: (65, 129),
+            desk: &[1, 1],
+            owner: &[1, 2],
+            common: 1,
+        },
+    ];
+    for row in &rows {
+        check(&rt, row);
+    }
+}
+
+#[test]
+fn counts_digits(rt: HostRuntime) {
+    for (width, pool, pool2) in [
+        (1, 6, 12),
+        (2, 3, 6),
+        (3, 2, 4),
+        (4, 2, 3),
+        (5, 2, 3),
+        (6, 1, 2),
+    ] {
+        let digits = Digits::new(width).expect(&rt, "a width of 1 to 6");
+        assert_eq!(rt; digits.count(), pool, "6 bits by {width}");
+        assert_eq!(rt; digits.profile(), Profile::Pool);
+        let digits = Digits::new2(width).expect(&rt, "a width of 1 to 6");
+        assert_eq!(rt; digits.count(), pool2, "12 bits by {width}");
+        assert_eq!(rt; digits.profile(), Profile::Pool2);
+    }
+    for width in [0, 7, u32::MAX] {
+        assert!(rt; Digits::new(width).is_none());
+        assert!(rt; Digits::new2(width).is_none());
+    }
+}

@@ -1,0 +1,83 @@
+//! Postings in rounds.
+use crate::tests::samples::{bump, filled};
+use digit_route::Posting;
+use std::alloc::Global;
+use std::process::Abort;
+
+// A batch that has to come: its round, its address and how many buffers it has.
+type Want = (u32, u16, u64);
+
+fn wanted(rt: &impl Abort, posting: &Posting<'_>, address: u16, want: &[Want]) -> u64 {
+    let (round, _, count) = want
+        .iter()
+        .find(|row| row.1 == address)
+        .expect(rt, "an owner as address");
+    assert_eq!(rt; posting.round(), *round, "the round of {address}");
+    *count
+}
+
+fn check(rt: &impl Abort, alloc: Global, width: u32, owners: &[u16], want: &[Want], moves: u64) {
+    let mut region = Vec::from_elem(alloc, 0u8, 4096).expect(rt, "memory");
+    let mut bump = bump(rt, alloc, &mut region, 0);
+    let mut posting = filled(rt, alloc, &mut bump, width, 0, owners).posting();
+    assert_eq!(rt; posting.round(), 0);
+    assert_eq!(rt; posting.moves(), 0);
+    let mut round = 0;
+    for _ in want {
+        let batch = posting.next_batch().expect(rt, "a batch");
+        assert!(rt; round <= posting.round());
+        round = posting.round();
+        let count = wanted(rt, &posting, batch.address(), want);
+        assert_eq!(rt; batch.sender(), 0);
+        assert_eq!(rt; batch.len(), count, "the batch to {}", batch.address());
+    }
+    assert!(rt; posting.next_batch().is_none());
+    assert_eq!(rt; posting.moves(), moves);
+}
+
+#[test]
+fn one_bit(rt: HostRuntime) {
+    check(
+        &rt,
+        rt.alloc(),
+        1,
+        &[32, 32, 1, 2],
+        &[(0, 1, 1), (1, 2, 1), (5, 32, 2)],
+        11,
+    );
+}
+
+#[test]
+fn two_bits(rt: HostRuntime) {
+    let want = [(0, 1, 1), (0, 2, 1), (0, 3, 1), (2, 16, 1), (2, 32, 1)];
+    check(&rt, rt.alloc(), 2, &[1, 2, 3, 16, 32], &want, 4);
+}
+
+#[test]
+fn six_bits(rt: HostRuntime) {
+    check(
+        &rt,
+        rt.alloc(),
+        6,
+        &[7, 11, 27],
+        &[(0, 7, 1), (0, 11, 1), (0, 27, 1)],
+        0,
+    );
+}
+
+#[test]
+fn is_put_back(rt: HostRuntime) {
+    let alloc = rt.alloc();
+    let mut region = Vec::from_elem(alloc, 0u8, 4096).expect(&rt, "memory");
+    let mut bump = bump(&rt, alloc, &mut region, 0);
+    let mut posting = filled(&rt, alloc, &mut bump, 1, 0, &[32, 32, 1, 2]).posting();
+    drop(posting.next_batch());
+    drop(posting.next_batch());
+    let batch = posting.next_batch().expect(&rt, "the batch to 32");
+    let mut cache = posting.put_back(batch);
+    assert_eq!(rt; cache.len(), 2);
+    assert_eq!(rt; cache.bytes(), 32);
+    let batch = cache.take_bucket_for(32).expect(&rt, "the batch to 32");
+    assert_eq!(rt; batch.len(), 2);
+    assert!(rt; cache.posting().end().is_empty());
+}
