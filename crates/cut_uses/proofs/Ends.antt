@@ -1,9 +1,10 @@
--- What a chunk ends as, of which two slots were given back, and a region of one chunk.
-use Rattle.std.proofs.Common.{◌≡◌, ℕ, ◌<◌, ◌≤◌, ◌/◌, List, [], ◌∷◌, ◌++◌, length, take, drop, map, slice_set, sym, ap, ◌∙◌, append_assoc, arith}
-use Rattle.std.proofs.lemmas.List.{set-append_left, set-append_right, length-take-le, take-append-drop, length-map}
+-- What a chunk ends as, of which two slots were given back, and a region whose first chunk is written.
+use Rattle.std.proofs.Common.{◌≡◌, ℕ, ◌+◌, ◌<◌, ◌≤◌, List, [], ◌∷◌, ◌++◌, length, take, drop, remove, slice_set, slice_index_or, sym, ap, ◌∙◌, append_assoc, arith}
+use Rattle.std.specs.List.{flat_map}
+use Rattle.std.proofs.lemmas.List.{set-append_left, set-append_right, length-take-le, take-append-drop, length-append}
 use Rattle.region_cut.specs.declared.TheConstants.{CHUNK}
 use Rattle.region_cut.specs.declared.part.Part.{Part}
-use Rattle.region_cut.specs.Parts.{ArePartsOf, bytes_of, chunks}
+use Rattle.region_cut.specs.Parts.{bytes_of}
 
 -- two parts are settled, the one after the other
 pub settled_two : (s₀ s₁ s₂ a₀ a b₀ b : List ℕ) → s₁ ≡ s₀ ++ (a₀ ++ a) → s₂ ≡ s₁ ++ (b₀ ++ b) → s₀ ≡ [] → a₀ ≡ [] → b₀ ≡ [] → s₂ ≡ a ++ b
@@ -25,21 +26,26 @@ write_second p f h s t x whole rest first second =
     ∙ sym (set-append_right f h 64 64 x first (omega arith))
     ∙ ap (λ z. slice_set z 64 x) (sym whole)
 
-pub write_front : (bytes : List ℕ) (x : ℕ) → length bytes / CHUNK ≡ 1 → slice_set (take CHUNK bytes) 64 x ++ drop CHUNK bytes ≡ slice_set bytes 64 x
-write_front bytes x one =
-    let long : CHUNK ≤ length bytes = omega (arith, one) in
+-- the byte is written in the first chunk
+pub write_front : (bytes : List ℕ) (x : ℕ) → CHUNK ≤ length bytes → slice_set (take CHUNK bytes) 64 x ++ drop CHUNK bytes ≡ slice_set bytes 64 x
+write_front bytes x long =
     let size : length (take CHUNK bytes) ≡ CHUNK = length-take-le CHUNK bytes long in
     let inside : 64 < length (take CHUNK bytes) = omega (arith, size) in
     sym (set-append_left (take CHUNK bytes) (drop CHUNK bytes) 64 x inside) ∙ ap (λ z. slice_set z 64 x) (take-append-drop CHUNK bytes)
 
--- a list of one part ends with that part
-last_one : (b : List ℕ) (qs : List Part) (p : Part) → map bytes_of (qs ++ p ∷ []) ≡ b ∷ [] → bytes_of p ≡ b
-last_one b [] p e = cc
-last_one b (q ∷ []) p e = cc
-last_one b (q ∷ r ∷ qs) p e = cc
+pub removed_first : (ps qs : List Part) (p : Part) → 0 < length ps → p ≡ slice_index_or ps 0 p → qs ≡ remove ps 0 → ps ≡ p ∷ qs
+removed_first [] qs p some value items = absurd (omega (arith, some))
+removed_first (y ∷ ys) qs p some value items = ap (λ z. z ∷ ys) (sym value) ∙ ap (λ zs. p ∷ zs) (sym items)
 
-pub last_bytes : (bytes : List ℕ) (ps qs : List Part) (p : Part) → length bytes / CHUNK ≡ 1 → ArePartsOf bytes ps → ps ≡ qs ++ p ∷ [] → bytes_of p ≡ take CHUNK bytes
-last_bytes bytes ps qs p one cut e = last_one (take CHUNK bytes) qs p (sym (ap (λ z. map bytes_of z) e) ∙ cut.bytes ∙ ap (λ n. chunks n bytes) one)
-
-pub one_part : (bytes : List ℕ) (ps : List Part) → length bytes / CHUNK ≡ 1 → ArePartsOf bytes ps → length ps ≡ 1
-one_part bytes ps one cut = sym (length-map ps bytes_of) ∙ ap (λ z. length z) (cut.bytes ∙ ap (λ n. chunks n bytes) one)
+pub write_part : (bytes : List ℕ) (ps qs : List Part) (p : Part) (s r t : List ℕ) (x : ℕ) → ps ≡ p ∷ qs → flat_map bytes_of ps ++ t ≡ bytes
+    → s ≡ slice_set (bytes_of p) 64 x ++ flat_map bytes_of qs → r ≡ t → s ++ r ≡ slice_set bytes 64 x
+write_part bytes ps qs p s r t x first whole settled rest =
+    let f : List ℕ = bytes_of p in let g : List ℕ = flat_map bytes_of qs in
+    let size : length f ≡ CHUNK = p.is_whole in
+    let inside : 64 < length f = omega (arith, size) in
+    let long : length (f ++ g) ≡ length f + length g = length-append f g in
+    let within : 64 < length (f ++ g) = omega (arith, size, long) in
+    ap (λ z. z ++ r) settled ∙ ap (λ z. (slice_set f 64 x ++ g) ++ z) rest
+    ∙ ap (λ z. z ++ t) (sym (set-append_left f g 64 x inside))
+    ∙ sym (set-append_left (f ++ g) t 64 x within)
+    ∙ ap (λ z. slice_set z 64 x) (ap (λ l. flat_map bytes_of l ++ t) (sym first) ∙ whole)

@@ -1,9 +1,11 @@
 //! A caller that learns what its region holds, once all that was cut off it is given back.
-ghost use Rattle.std.specs.Prelude.{◌≡◌, ◌++◌, ◌/◌, [], length, slice_set, None};
+ghost use Rattle.std.specs.Prelude.{◌≡◌, ◌≤◌, ◌++◌, [], length, map, slice_set, None};
+ghost use Rattle.std.specs.List.{flat_map};
 ghost use Rattle.std.specs.Borrow.{sem, LendsBothIf, Array, u8};
-ghost use Rattle.region_cut.specs.Fronts.{whole_of, lent_of, end_of};
+ghost use Rattle.region_cut.specs.Fronts.{whole_of, settled_of, lent_of, rest_of, end_of};
 ghost use Rattle.region_cut.specs.Parts.{name_of, bytes_of};
 
+use region_cut::laws::parts_make_the_whole;
 use region_cut::{CHUNK, Class, Front, Part, cut_with_front};
 use std::alloc::Global;
 
@@ -30,19 +32,33 @@ fn mark_part<'r>(part: Part<'r>, x: u8) -> Front<'r>
     chunk
 }
 
-// Cuts the region and marks its chunk. Where there is no memory for the list of the parts, the region is whole, and the byte is written there.
+// Gives back parts of which nothing was lent, in their order.
+fn settle_all<'r>(mut front: Front<'r>, parts: Vec<Part<'r>>) -> Front<'r>
+    requires { lent_of front ≡ map name_of parts.items }
+    ensures whole { whole_of result ≡ whole_of front.entry }
+    ensures lent { lent_of result ≡ [] }
+    ensures settled { settled_of result ≡ settled_of front.entry ++ flat_map bytes_of parts.entry.items }
+    ensures rest { rest_of result ≡ rest_of front.entry }
+{
+    for part in parts {
+        front.settle(part.into_front());
+    }
+    front
+}
+
+// Cuts the region, marks its first chunk and gives back all parts. Where there is no memory for the list of the parts, the region is whole, and the byte is written there.
 fn marked<'r>(region: &'r mut [u8], alloc: Global, x: u8) -> Front<'r>
-    requires { length region.old / CHUNK ≡ 1 }
+    requires { CHUNK ≤ length region.old }
     ensures whole { whole_of result ≡ region.entry.ghost_name }
     ensures lent { lent_of result ≡ [] }
     ensures end { end_of result ≡ slice_set region.old 64 x }
 {
     let (parts, mut front) = cut_with_front(alloc, region);
     if let Ok(mut parts) = parts {
-        if let Some(part) = parts.pop() {
-            front.settle(mark_part(part, x));
-        }
-        return front;
+        parts_make_the_whole();
+        let first = parts.remove(0);
+        front.settle(mark_part(first, x));
+        return settle_all(front, parts);
     }
     let whole = front.take(CHUNK);
     whole[64] = x;
@@ -51,7 +67,7 @@ fn marked<'r>(region: &'r mut [u8], alloc: Global, x: u8) -> Front<'r>
 }
 
 fn ended<'r>(region: &'r mut [u8], alloc: Global, x: u8) -> Option<(&'r mut [u8], &'r mut [u8])>
-    requires { length region.old / CHUNK ≡ 1 }
+    requires { CHUNK ≤ length region.old }
     ensures* writes_back { sem 𝓛 (LendsBothIf (Array u8 0) (Array u8 0) (Array u8 0) region.entry result ◌++◌ (slice_set region.old 64 x)) }
     ensures none { result ≡ None }
 {
@@ -59,10 +75,10 @@ fn ended<'r>(region: &'r mut [u8], alloc: Global, x: u8) -> Option<(&'r mut [u8]
     None
 }
 
-/// Cuts a region of one chunk into slots of 64 bytes and writes `x` into the first byte of slot
-/// 0.1. The region then holds `x` at 64, and what it held elsewhere.
+/// Cuts a region of at least one chunk, cuts the first chunk into slots of 64 bytes and writes `x`
+/// into the first byte of slot 0.1. The region then holds `x` at 64, and what it held elsewhere.
 pub fn mark(alloc: Global, region: &mut [u8], x: u8)
-    requires { length region.old / CHUNK ≡ 1 }
+    requires { CHUNK ≤ length region.old }
     ensures { region.new ≡ slice_set region.old 64 x }
 {
     match ended(region, alloc, x) {

@@ -155,7 +155,7 @@ fn a_region_without_a_chunk_takes_no_memory(rt: HostRuntime) {
 
 #[test]
 fn a_mark_changes_one_byte(rt: HostRuntime) {
-    let mut region = [7u8; 5000];
+    let mut region = [7u8; 10000];
     mark(rt.alloc(), &mut region, 9);
     for (at, byte) in region.iter().copied().enumerate() {
         assert_eq!(rt; byte, if at == 64 { 9 } else { 7 }, "byte {at}");
