@@ -3,8 +3,8 @@ ghost use Rattle.std.specs.Prelude.{◌≡◌, ◌↔◌, false, true};
 
 use crate::classes::write_classes;
 use crate::outcome::{Outcome, replayed};
+use crate::route::write_route;
 use crate::words::{self, Asked, Unread};
-use region_cut::Profile;
 use std::alloc::Global;
 use trace_audit::{Sink, Source, replay};
 
@@ -24,7 +24,12 @@ pub fn command<R: Source, W: Sink>(
     ensures write { (W.has_failed sink.new ≡ true) ↔ (result ≡ Outcome.WriteFailed) }
 {
     match words::read(alloc, words) {
-        Ok(Asked::Classes) => write_classes(alloc, Profile::Pool, sink),
+        Ok(Asked::Classes(profile)) => write_classes(alloc, profile, sink),
+        Ok(Asked::Route {
+            digits,
+            from,
+            owner,
+        }) => write_route(alloc, digits, from, owner, sink),
         Ok(Asked::Replay) => replayed(replay(alloc, source, sink)),
         Err(Unread::Memory) => Outcome::NoMemory,
         Err(Unread::Refused(text)) => Outcome::Refused(text),

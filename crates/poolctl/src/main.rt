@@ -1,9 +1,10 @@
-//! The command line over the buffer pool: `poolctl replay` and `poolctl classes`.
+//! The command line over the buffer pool: traces replayed, the size classes, and routes.
 #![tactic(auto)]
 
 mod classes;
 mod commands;
 mod outcome;
+mod route;
 mod streams;
 #[cfg(test)]
 mod tests;

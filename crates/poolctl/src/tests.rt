@@ -2,6 +2,7 @@
 
 mod classes;
 mod replay;
+mod route;
 mod streams;
 mod usage;
 

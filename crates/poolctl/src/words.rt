@@ -1,14 +1,22 @@
 //! The words of the command line, read with `clap`.
 
 use clap::error::ErrorKind;
-use clap::{ArgMatches, Command, Error};
+use clap::{Arg, ArgAction, ArgMatches, Command, Error, value_parser};
+use digit_route::Digits;
+use region_cut::Profile;
 use std::alloc::{AllocError, Global};
 
 /// What the words ask for.
 #[derive(Clone, Copy, Debug, PartialEq, Eq, Drop)]
 pub enum Asked {
-    /// The table of the size classes.
-    Classes,
+    /// The table of the size classes that a profile uses.
+    Classes(Profile),
+    /// How two numbers read in digits.
+    Route {
+        digits: Digits,
+        from: u16,
+        owner: u16,
+    },
     /// The report of a trace.
     Replay,
 }
@@ -22,24 +30,63 @@ pub enum Unread {
     Refused(String),
 }
 
+/// A number that has to be given, from `low` to `high`.
+fn number<'a>(alloc: Global, name: &'a str, low: i64, high: i64, help: &'a str) -> Arg<'a> {
+    Arg::new(alloc, name)
+        .required(true)
+        .action(ArgAction::Set)
+        .value_parser(value_parser!(u32).range(low..=high))
+        .help(help)
+}
+
+fn classes<'a>(alloc: Global, name: &'a str, about: &'a str) -> Command<'a> {
+    Command::new(alloc, name).about(about)
+}
+
+fn route<'a>(alloc: Global, name: &'a str, about: &'a str, greatest: i64) -> Result<Command<'a>, AllocError> {
+    Command::new(alloc, name)
+        .about(about)
+        .arg(number(alloc, "WIDTH", 1, 6, "Bits of a digit"))?
+        .arg(number(alloc, "FROM", 0, greatest, "Number of the desk that has the buffer"))?
+        .arg(number(alloc, "OWNER", 0, greatest, "Number of the desk that owns it"))
+}
+
 fn commands<'a>(alloc: Global) -> Result<Command<'a>, AllocError> {
-    let classes = Command::new(alloc, "classes").about(
-        "Print the size classes, one line each: number, slot size, slots of a chunk, bytes left over",
-    );
-    let replay = Command::new(alloc, "replay").about(
-        "Replay a trace from standard input and print the report",
-    );
+    let replay = Command::new(alloc, "replay").about("Replay a trace from standard input and print the report");
     Command::new(alloc, "poolctl")
         .about("A message-passing buffer pool after snmalloc, driven from the command line")
         .subcommand_required(true)
-        .subcommand(classes)?
+        .subcommand(classes(alloc, "classes", "Print the size classes, one line each: number, slot size, slots of a chunk, bytes left over"))?
+        .subcommand(classes(alloc, "classes2", "The same for the profile of 4,096 desks"))?
+        .subcommand(route(alloc, "route", "Print how two of 64 desks' numbers read in digits, and how many they share", 63)?)?
+        .subcommand(route(alloc, "route2", "The same for two of 4,096 desks", 4095)?)?
         .subcommand(replay)
 }
 
+fn number_of(matches: &ArgMatches<'_>, name: &str) -> Option<u32> {
+    matches.get_one::<u32>(name).copied()
+}
+
+fn route_of(matches: &ArgMatches<'_>, profile: Profile) -> Option<Asked> {
+    let width = number_of(matches, "WIDTH")?;
+    let digits = match profile {
+        Profile::Pool => Digits::new(width)?,
+        Profile::Pool2 => Digits::new2(width)?,
+    };
+    Some(Asked::Route {
+        digits,
+        from: u16::try_from(number_of(matches, "FROM")?).ok()?,
+        owner: u16::try_from(number_of(matches, "OWNER")?).ok()?,
+    })
+}
+
 fn asked_of(matches: &ArgMatches<'_>) -> Option<Asked> {
-    let (name, _) = matches.subcommand()?;
+    let (name, words) = matches.subcommand()?;
     match name {
-        "classes" => Some(Asked::Classes),
+        "classes" => Some(Asked::Classes(Profile::Pool)),
+        "classes2" => Some(Asked::Classes(Profile::Pool2)),
+        "route" => route_of(words, Profile::Pool),
+        "route2" => route_of(words, Profile::Pool2),
         "replay" => Some(Asked::Replay),
         _ => None,
     }

@@ -28,3 +28,13 @@ fn the_table_of_the_classes(rt: HostRuntime) -> Result<(), Fail> {
     assert!(rt; outcome.status() == 0 && outcome.words() == "");
     Ok(())
 }
+
+#[test]
+fn the_table_of_all_classes(rt: HostRuntime) -> Result<(), Fail> {
+    let (outcome, written) = outcome_of(rt.alloc(), ["classes2"].as_slice(), b"")?;
+    assert!(rt; outcome == Outcome::Done);
+    let mut table = String::from_str(rt.alloc(), TABLE)?;
+    table.push_str("16 640 6 256\n17 768 5 256\n18 896 4 512\n19 1024 4 0\n")?;
+    assert!(rt; written.as_slice() == table.as_str().as_bytes());
+    Ok(())
+}

@@ -7,7 +7,7 @@ fn no_subcommand_is_refused(rt: HostRuntime) -> Result<(), Fail> {
     let (outcome, written) = outcome_of(rt.alloc(), [].as_slice(), b"")?;
     assert!(rt; outcome.status() == 2, "{outcome:?}");
     let text = "error: 'poolctl' requires a subcommand but one was not provided\n  \
-        [subcommands: classes, replay, help]\n\nUsage: poolctl <COMMAND>\n\n\
+        [subcommands: classes, classes2, route, route2, replay, help]\n\nUsage: poolctl <COMMAND>\n\n\
         For more information, try '--help'.\n";
     assert!(rt; outcome.words() == text, "{outcome:?}");
     assert!(rt; written.is_empty());
@@ -51,11 +51,11 @@ fn help_gives_status_2(rt: HostRuntime) -> Result<(), Fail> {
         "{text}"
     );
     assert!(rt;
-        text.as_str().contains("  classes  Print the size classes"),
+        text.as_str().contains("  classes   Print the size classes"),
         "{text}"
     );
     assert!(rt;
-        text.as_str().contains("  replay   Replay a trace"),
+        text.as_str().contains("  replay    Replay a trace"),
         "{text}"
     );
     Ok(())

@@ -1,0 +1,63 @@
+//! The subcommands `route` and `route2`.
+ghost use Rattle.std.specs.Prelude.{◌≡◌, ◌++◌, ◌↔◌, ◌⊎◌, false, true, IfOk, string_bytes};
+ghost use Rattle.std.specs.Io.KnownBytes.{Appends};
+ghost use Rattle.poolctl.specs.Routes.{digits_line, number_line, route_text};
+
+use crate::outcome::Outcome;
+use digit_route::Digits;
+use std::alloc::{AllocError, Global};
+use trace_audit::{Sink, write_all};
+
+/// Adds the digits of a number, the least first, behind a word.
+fn push_digits(text: &mut String, word: &str, digits: Digits, number: u16) -> Result<(), AllocError>
+    ensures { IfOk result (λ _. string_bytes text.new ≡ string_bytes text.old ++ digits_line word.now digits number) }
+{
+    text.push_str(word)?;
+    for place in 0..digits.count() {
+        let digit = digits.digit(number, place);
+        write!(text, " {digit}")?;
+    }
+    text.push_str("\n")
+}
+
+/// Adds a number behind a word.
+fn push_number(text: &mut String, word: &str, number: u32) -> Result<(), AllocError>
+    ensures { IfOk result (λ _. string_bytes text.new ≡ string_bytes text.old ++ number_line word.now number) }
+{
+    text.push_str(word)?;
+    write!(text, " {number}\n")
+}
+
+/// How many digits a number has, the digits of the two numbers, the least first, and how many of them the two share.
+fn route_text(alloc: Global, digits: Digits, from: u16, owner: u16) -> Result<String, AllocError>
+    ensures { IfOk result (λ text. string_bytes text ≡ route_text digits from owner) }
+{
+    let mut text = String::new(alloc);
+    push_number(&mut text, "digits", digits.count())?;
+    push_digits(&mut text, "from", digits, from)?;
+    push_digits(&mut text, "owner", digits, owner)?;
+    push_number(&mut text, "common", digits.common(from, owner))?;
+    Ok(text)
+}
+
+/// Writes how a desk and the owner of a buffer read in digits, which decides which way the buffer goes home.
+pub fn write_route<W: Sink>(
+    alloc: Global,
+    digits: Digits,
+    from: u16,
+    owner: u16,
+    sink: &mut W,
+) -> Outcome
+    requires { W.has_failed sink.old ≡ false }
+    ensures done { result ≡ Outcome.Done → Appends (W.contents sink.old) (W.contents sink.new) (route_text digits from owner) }
+    ensures known { (result ≡ Outcome.Done) ⊎ (result ≡ Outcome.NoMemory) ⊎ (result ≡ Outcome.WriteFailed) }
+    ensures write { (W.has_failed sink.new ≡ true) ↔ (result ≡ Outcome.WriteFailed) }
+{
+    let Ok(text) = route_text(alloc, digits, from, owner) else {
+        return Outcome::NoMemory;
+    };
+    match write_all(sink, text.as_str().as_bytes()) {
+        Ok(()) => Outcome::Done,
+        Err(_) => Outcome::WriteFailed,
+    }
+}
