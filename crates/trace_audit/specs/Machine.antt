@@ -1,5 +1,5 @@
 -- The floor that a trace drives: how it opens, what it answers, and what is told of it at the end.
-use Rattle.std.specs.Prelude.{ℕ, ◌≡◌, List, [], ◌∷◌, length, map, count_by, is_some, Result, Ok, Err}
+use Rattle.std.specs.Prelude.{◌≡◌, List, [], ◌∷◌, length, map, count_by, is_some, Result, Ok, Err}
 use Rattle.slot_chain.specs.Counts.{capped}
 use Rattle.digit_route.specs.Digits.{Scheme}
 use Rattle.event_floor.specs.Floors.{FloorSeen, opening}
