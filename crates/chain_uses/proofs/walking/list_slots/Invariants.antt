@@ -1,5 +1,4 @@
 use Rattle.std.proofs.Common.{◌≡◌, ◌++◌, map, reverse}
-use Rattle.slot_chain.specs.Buffer.{Buffer}
 use Rattle.chain_uses.proofs.walking.list_slots.Given as goal
 
 abbrev pub invariant-loop-tag : goal.invariant-loop-tag
