@@ -73,10 +73,11 @@ impl<'r> IdleDesk<'r> {
         }
     }
 
-    /// The number of slots at home. Takes time in their number.
-    pub fn home_count(&self) -> u64
-        ensures { result ≡ capped (length self.now.home) }
+    /// The number of slots at home, and of buffers in the cache: none. Takes time in the number of the slots.
+    pub fn counts(&self) -> (u64, u64)
+        ensures home { result.0 ≡ capped (length self.now.home) }
+        ensures cached { result.1 ≡ 0 }
     {
-        count_all(self.homes.as_slice())
+        (count_all(self.homes.as_slice()), 0)
     }
 }
