@@ -186,7 +186,10 @@ impl<'r> Floor<'r> {
         ensures queued { result.2 ≡ 0 }
     {
         match &self.desks[a as usize] {
-            Seat::Idle(desk) => (desk.counts().0, 0, 0),
+            Seat::Idle(desk) => {
+                let (home, cached) = desk.counts();
+                (home, cached, 0)
+            }
             Seat::Held(desk) => {
                 let (home, cached) = desk.counts();
                 (home, cached, 0)

@@ -1,6 +1,7 @@
 -- The floor that a trace drives: how it opens, what it answers, and what is told of it at the end.
-use Rattle.std.specs.Prelude.{ℕ, ◌≡◌, List, [], ◌∷◌, length, map, count_by, is_some, Result, Ok, Err}
+use Rattle.std.specs.Prelude.{◌≡◌, List, [], ◌∷◌, length, map, count_by, is_some, Result, Ok, Err}
 use Rattle.slot_chain.specs.Counts.{capped}
+use Rattle.digit_route.specs.Digits.{Scheme}
 use Rattle.event_floor.specs.Floors.{FloorSeen, opening}
 use Rattle.event_floor.specs.Seats.{home_of, cached_of}
 use Rattle.event_floor.specs.Steps.{Does, Refuses}
@@ -15,9 +16,13 @@ use Rattle.trace_audit.specs.declared.report.closing.Tally.{Tally}
 abbrev pub Answer : Type 0
 Answer = Result Reply Refusal
 
+-- the numbers of desks have 6 bits, and digits of the header's width
+abbrev pub digits_of : Header → Scheme
+digits_of h = record { width = h.width; bits = 6 }
+
 -- the floor as it is behind its header: its limit is 4,096 bytes
 abbrev pub Opens : Header → FloorSeen → Type 0
-Opens h start = start ≡ opening h.desks h.chunks 4096
+Opens h start = start ≡ opening h.desks h.chunks (digits_of h) 4096
 
 -- from old, the floor may give this answer to the request and go on to new
 unfoldable pub Step : FloorSeen → Request → Answer → FloorSeen → Type 0

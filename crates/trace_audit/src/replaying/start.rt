@@ -13,8 +13,10 @@ use super::{End, ReplayError};
 use crate::grammar::{Header, read_header};
 use crate::lines::{Held, Next, next_line};
 use crate::wire::{Sink, Source};
+use digit_route::Digits;
 use event_floor::Floor;
 use region_cut::{CHUNK, cut};
+use slot_chain::NoMemory;
 use std::alloc::{AllocError, Global};
 
 /// The limit of each desk's cache in bytes.
@@ -33,15 +35,18 @@ fn floor_over<'r>(
     alloc: Global,
     region: &'r mut [u8],
     header: Header,
-) -> Result<Floor<'r>, AllocError>
+) -> Result<Floor<'r>, NoMemory>
     requires header { IsHeader header }
     requires region { length region.old ≡ header.chunks * 4096 }
     ensures opens { IfOk result (λ floor. Opens header floor) }
     ensures desks { IfOk result (λ floor. desk_count floor ≡ header.desks) }
 {
+    let Some(digits) = Digits::new(header.width) else {
+        unreachable!()
+    };
     match cut(alloc, region) {
-        Ok(parts) => Floor::new(alloc, parts, header.desks, LIMIT),
-        Err(_) => Err(AllocError),
+        Ok(parts) => Floor::new(alloc, parts, header.desks, digits, LIMIT),
+        Err(_) => Err(NoMemory),
     }
 }
 
