@@ -25,11 +25,7 @@ pub fn command<R: Source, W: Sink>(
 {
     match words::read(alloc, words) {
         Ok(Asked::Classes(profile)) => write_classes(alloc, profile, sink),
-        Ok(Asked::Route {
-            digits,
-            from,
-            owner,
-        }) => write_route(alloc, digits, from, owner, sink),
+        Ok(Asked::Route(route)) => write_route(alloc, route, sink),
         Ok(Asked::Replay) => replayed(replay(alloc, source, sink)),
         Err(Unread::Memory) => Outcome::NoMemory,
         Err(Unread::Refused(text)) => Outcome::Refused(text),

@@ -1,8 +1,8 @@
 //! The words of the command line, read with `clap`.
 
+use crate::route::Route;
 use clap::error::ErrorKind;
 use clap::{Arg, ArgAction, ArgMatches, Command, Error, value_parser};
-use digit_route::Digits;
 use region_cut::Profile;
 use std::alloc::{AllocError, Global};
 
@@ -12,11 +12,7 @@ pub enum Asked {
     /// The table of the size classes that a profile uses.
     Classes(Profile),
     /// How two numbers read in digits.
-    Route {
-        digits: Digits,
-        from: u16,
-        owner: u16,
-    },
+    Route(Route),
     /// The report of a trace.
     Replay,
 }
@@ -39,45 +35,73 @@ fn number<'a>(alloc: Global, name: &'a str, low: i64, high: i64, help: &'a str) 
         .help(help)
 }
 
-fn classes<'a>(alloc: Global, name: &'a str, about: &'a str) -> Command<'a> {
+fn classes_command<'a>(alloc: Global, name: &'a str, about: &'a str) -> Command<'a> {
     Command::new(alloc, name).about(about)
 }
 
-fn route<'a>(alloc: Global, name: &'a str, about: &'a str, greatest: i64) -> Result<Command<'a>, AllocError> {
+fn route_command<'a>(
+    alloc: Global,
+    name: &'a str,
+    about: &'a str,
+    greatest: i64,
+) -> Result<Command<'a>, AllocError> {
     Command::new(alloc, name)
         .about(about)
         .arg(number(alloc, "WIDTH", 1, 6, "Bits of a digit"))?
-        .arg(number(alloc, "FROM", 0, greatest, "Number of the desk that has the buffer"))?
-        .arg(number(alloc, "OWNER", 0, greatest, "Number of the desk that owns it"))
+        .arg(number(
+            alloc,
+            "FROM",
+            0,
+            greatest,
+            "Number of the desk that has the buffer",
+        ))?
+        .arg(number(
+            alloc,
+            "OWNER",
+            0,
+            greatest,
+            "Number of the desk that owns it",
+        ))
 }
 
 fn commands<'a>(alloc: Global) -> Result<Command<'a>, AllocError> {
-    let replay = Command::new(alloc, "replay").about("Replay a trace from standard input and print the report");
+    let replay = Command::new(alloc, "replay").about(
+        "Replay a trace from standard input and print the report",
+    );
     Command::new(alloc, "poolctl")
         .about("A message-passing buffer pool after snmalloc, driven from the command line")
         .subcommand_required(true)
-        .subcommand(classes(alloc, "classes", "Print the size classes, one line each: number, slot size, slots of a chunk, bytes left over"))?
-        .subcommand(classes(alloc, "classes2", "The same for the profile of 4,096 desks"))?
-        .subcommand(route(alloc, "route", "Print how two of 64 desks' numbers read in digits, and how many they share", 63)?)?
-        .subcommand(route(alloc, "route2", "The same for two of 4,096 desks", 4095)?)?
+        .subcommand(classes_command(
+            alloc,
+            "classes",
+            "Print the size classes, one line each: number, slot size, slots of a chunk, bytes left over",
+        ))?
+        .subcommand(classes_command(alloc, "classes2", "The same for the profile of 4,096 desks"))?
+        .subcommand(route_command(
+            alloc,
+            "route",
+            "Print how two of 64 desks' numbers read in digits, and how many they share",
+            63,
+        )?)?
+        .subcommand(route_command(alloc, "route2", "The same for two of 4,096 desks", 4095)?)?
         .subcommand(replay)
 }
 
 fn number_of(matches: &ArgMatches<'_>, name: &str) -> Option<u32> {
-    matches.get_one::<u32>(name).copied()
+    matches.get_one::<u32>(name)
 }
 
 fn route_of(matches: &ArgMatches<'_>, profile: Profile) -> Option<Asked> {
     let width = number_of(matches, "WIDTH")?;
-    let digits = match profile {
-        Profile::Pool => Digits::new(width)?,
-        Profile::Pool2 => Digits::new2(width)?,
-    };
-    Some(Asked::Route {
-        digits,
+    if width < 1 || width > 6 {
+        return None;
+    }
+    Some(Asked::Route(Route {
+        profile,
+        width,
         from: u16::try_from(number_of(matches, "FROM")?).ok()?,
         owner: u16::try_from(number_of(matches, "OWNER")?).ok()?,
-    })
+    }))
 }
 
 fn asked_of(matches: &ArgMatches<'_>) -> Option<Asked> {
