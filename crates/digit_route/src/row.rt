@@ -62,6 +62,7 @@ impl<'r> Row<'r> {
         self.number
     }
 
+    /// How numbers are read.
     pub fn digits(&self) -> Digits
         ensures value { result ≡ self.now.digits }
         ensures keeps { Keeps self.now }
@@ -69,6 +70,7 @@ impl<'r> Row<'r> {
         self.digits
     }
 
+    /// The digit that the row stands by.
     pub fn round(&self) -> u32
         ensures value { result ≡ self.now.round }
         ensures keeps { Keeps self.now }
