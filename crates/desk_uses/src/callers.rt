@@ -6,7 +6,11 @@ use pool_desk::{Desk, DeskError, Freed};
 use std::alloc::Global;
 
 /// What a desk gave goes home when it is freed there.
-pub fn lend_and_take_back(alloc: Global, desk: &mut Desk<'_>, size: usize) -> Result<Freed, DeskError>
+pub fn lend_and_take_back(
+    alloc: Global,
+    desk: &mut Desk<'_>,
+    size: usize,
+) -> Result<Freed, DeskError>
     ensures home { IfOk result (λ freed. freed ≡ Home) }
     ensures cached { OnOk result (desk.new.cached ≡ desk.old.cached) }
 {

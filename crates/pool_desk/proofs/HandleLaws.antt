@@ -52,7 +52,7 @@ Handles-own old mid new done b h g =
     record {
       same = g.same ∙ (ap (λ (d : DeskState). record d { home = new.home }) h.same ∙ ap (λ c. record old { home = new.home; cached = c }) (sym cached));
       home = rw test (more (Kept b) _ old.home mid.home new.home h.home g.home);
-      cached = rw (test, cached) h.cached
+      cached = rw (test, cached) h.cached;
     }
 
 pub Handles-other : (old mid new : DeskState) (done : List Buffer) (b : Buffer) → Handles old done mid → GoesOn mid b new → Handles old (b ∷ done) new
@@ -63,7 +63,7 @@ Handles-other old mid new done b h g =
     record {
       same = g.same ∙ (ap (λ (d : DeskState). record d { cached = new.cached }) h.same ∙ ap (λ c. record old { home = c; cached = new.cached }) (sym home));
       home = rw (test, home) h.home;
-      cached = rw test (more (passed_on b) _ old.cached mid.cached new.cached h.cached g.cached)
+      cached = rw test (more (passed_on b) _ old.cached mid.cached new.cached h.cached g.cached);
     }
 
 pub capped_more : (n : ℕ) → min (capped n + 1) (2 ^ 64 - 1) ≡ capped (suc n)

@@ -167,7 +167,7 @@ impl<'r> Desk<'r> {
         ensures same { self.new ≡ record self.old { cached = self.new.cached } }
         ensures value { MatchResult result
             (λ b. RouteFault self.old.digits self.old.number t self.old.cached None × (b.address ≡ t)
-                × Gives self.old.digits self.old.number self.old.cached b self.new.cached)
+            × Gives self.old.digits self.old.number self.old.cached b self.new.cached)
             (λ e. RouteFault self.old.digits self.old.number t self.old.cached (Some e) × (self.new ≡ self.old)) }
     {
         self.cache.take_bucket_for(t)
@@ -212,8 +212,12 @@ impl<'r> Desk<'r> {
 
     /// Begins to post the cache, round by round. Takes no memory.
     pub fn posting(self) -> DeskPosting<'r>
-        ensures { let d = self.entry in result ≡ record { worker = d.worker; home = d.home; drawn = d.drawn;
-            posting = record { number = d.number; digits = d.digits; limit = d.limit; round = 0; moves = 0; items = d.cached } } }
+        ensures { let d = self.entry in result ≡ record {
+          worker = d.worker;
+          home = d.home;
+          drawn = d.drawn;
+          posting = record { number = d.number; digits = d.digits; limit = d.limit; round = 0; moves = 0; items = d.cached };
+        } }
     {
         let Desk {
             worker,

@@ -8,7 +8,9 @@ ghost use Rattle.pool_desk.specs.Listed.{AddsOn};
 ghost use Rattle.pool_desk.specs.ByClass.{HasClass, LacksClass, IsWanting};
 
 use crate::DeskError;
-use crate::by_class::{ByClass, add_all, alloc_at, claim_at, count_all, empty_homes, has_at, keep_at};
+use crate::by_class::{
+    ByClass, add_all, alloc_at, claim_at, count_all, empty_homes, has_at, keep_at,
+};
 use region_cut::{Class, Part, Slot};
 use slot_chain::{Buf, NoMemory};
 use std::alloc::Global;

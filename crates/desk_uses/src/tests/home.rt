@@ -103,6 +103,9 @@ fn lists_what_is_there(rt: HostRuntime) {
     }
     assert_eq!(rt; slots.len(), 8);
     for index in 1..9u16 {
-        assert!(rt; slots.as_slice().contains(&Slot { chunk: 0, index }), "{index}");
+        assert!(rt;
+            slots.as_slice().contains(&Slot { chunk: 0, index }),
+            "{index}"
+        );
     }
 }

@@ -7,7 +7,12 @@ use std::process::Abort;
 use std::test::Fail;
 
 // The part comes back where it isn't needed.
-fn claim_is_refused<'r>(rt: &impl Abort, desk: &mut Desk<'r>, part: Part<'r>, class: Class) -> Part<'r> {
+fn claim_is_refused<'r>(
+    rt: &impl Abort,
+    desk: &mut Desk<'r>,
+    part: Part<'r>,
+    class: Class,
+) -> Part<'r> {
     assert!(rt; class.number() < desk.digits().profile().classes());
     match desk.claim(part, class) {
         Ok(()) => panic!(rt; "not needed"),
@@ -30,7 +35,10 @@ fn says_why(rt: HostRuntime) {
     let mut desk = desk(&rt, 63);
     assert_eq!(rt; (desk.number(), desk.worker()), (63, 9));
     assert_eq!(rt; desk.alloc(alloc, 513).err(), Some(DeskError::TooLarge));
-    assert_eq!(rt; desk.alloc(alloc, 0).err(), Some(DeskError::NeedChunk(class(0))));
+    assert_eq!(rt;
+        desk.alloc(alloc, 0).err(),
+        Some(DeskError::NeedChunk(class(0)))
+    );
     let part = parts.pop().expect(&rt, "a chunk");
     claim(&rt, &mut desk, part, class(0));
     let part = parts.pop().expect(&rt, "a chunk");

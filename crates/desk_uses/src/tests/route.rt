@@ -44,16 +44,10 @@ fn goes_home_by_way_of_nearer_desks(rt: HostRuntime) {
 
     let batch = zero.batch_for(7).ok().expect(&rt, "all go to 7");
     assert_eq!(rt; batch.len(), 3);
-    assert_eq!(rt;
-        handle(&rt, &mut seven, batch),
-        Counts { home: 1, on: 2 }
-    );
+    assert_eq!(rt; handle(&rt, &mut seven, batch), Counts { home: 1, on: 2 });
     let batch = seven.batch_for(11).ok().expect(&rt, "two go on to 11");
     assert_eq!(rt; batch.len(), 2);
-    assert_eq!(rt;
-        handle(&rt, &mut eleven, batch),
-        Counts { home: 1, on: 1 }
-    );
+    assert_eq!(rt; handle(&rt, &mut eleven, batch), Counts { home: 1, on: 1 });
     let batch = eleven.batch_for(27).ok().expect(&rt, "one goes on to 27");
     assert_eq!(rt; batch.len(), 1);
     assert_eq!(rt; handle(&rt, &mut far, batch), Counts { home: 1, on: 0 });

@@ -6,12 +6,12 @@ use Rattle.pool_desk.proofs.desk.Desk.handle.Goals as goal
 
 pub loop-buf-init : goal.loop-buf-init
 loop-buf-init c = record {
-    done = [];
-    parts = sym (append-nil _);
-    handled = Handles-none _;
-    counted = record { home = refl; on = refl };
-    passed = rw c.into_chain-chain.ensures.value (IsPassed-routed _ _ _ _ (rw (c.requires.address, c.requires.digits) at c.into_chain-chain.ensures.routed))
-  }
+  done = [];
+  parts = sym (append-nil _);
+  handled = Handles-none _;
+  counted = record { home = refl; on = refl };
+  passed = rw c.into_chain-chain.ensures.value (IsPassed-routed _ _ _ _ (rw (c.requires.address, c.requires.digits) at c.into_chain-chain.ensures.routed));
+}
 
 pub handle_one-requires : goal.handle_one-requires
 handle_one-requires c =
@@ -32,7 +32,7 @@ loop-buf-preserved-then-handle_one c =
       parts = h.parts ∙ (ap (λ x. x ++ h.done) c.in-Some.ensures ∙ append_assoc c.pop.new.self (c.in-Some.buf ∷ []) h.done);
       handled = Handles-own _ c.loop-buf.self _ h.done c.in-Some.buf h.handled g;
       counted = Counted-own _ h.done c.in-Some.buf _ _ h.counted (g.own ∙ number) c.saturating_add-home.ensures refl;
-      passed = All-append_left (IsPassed c.args.self.now.digits c.args.self.now.number) c.pop.new.self _ all
+      passed = All-append_left (IsPassed c.args.self.now.digits c.args.self.now.number) c.pop.new.self _ all;
     }
 
 pub loop-buf-preserved : goal.loop-buf-preserved
@@ -46,5 +46,5 @@ loop-buf-preserved c =
       parts = h.parts ∙ (ap (λ x. x ++ h.done) c.in-Some.ensures ∙ append_assoc c.pop.new.self (c.in-Some.buf ∷ []) h.done);
       handled = Handles-other _ c.loop-buf.self _ h.done c.in-Some.buf h.handled g;
       counted = Counted-other _ h.done c.in-Some.buf _ _ h.counted (λ e. g.other (e ∙ sym number)) refl c.saturating_add-on.ensures;
-      passed = All-append_left (IsPassed c.args.self.now.digits c.args.self.now.number) c.pop.new.self _ all
+      passed = All-append_left (IsPassed c.args.self.now.digits c.args.self.now.number) c.pop.new.self _ all;
     }
