@@ -46,7 +46,8 @@ fn settle_all<'r>(mut front: Front<'r>, parts: Vec<Part<'r>>) -> Front<'r>
     front
 }
 
-// Cuts the region, marks its first chunk and gives back all parts. Where there is no memory for the list of the parts, the region is whole, and the byte is written there.
+// Cuts the region, marks its first chunk and gives back all parts. Where there is no memory for the
+// list of the parts, the region is whole, and the byte is written there.
 fn marked<'r>(region: &'r mut [u8], alloc: Global, x: u8) -> Front<'r>
     requires { CHUNK ≤ length region.old }
     ensures whole { whole_of result ≡ region.entry.ghost_name }

@@ -17,9 +17,10 @@ use std::mem;
 
 /// The remote cache of a desk: freed buffers of other desks that wait to be posted.
 ///
-/// It is a row of at most 64 chains, one for each value of the owner's first digit, as snmalloc keeps its remote
-/// deallocations (ISMM 2019). Each owner in it isn't the desk itself, is below 2 to the power of the profile's bits,
-/// and shares at least as many digits with the desk as its buffer was passed on.
+/// It is a row of at most 64 chains, one for each value of the owner's first digit, as snmalloc
+/// keeps its remote deallocations (ISMM 2019). Each owner in it isn't the desk itself, is below 2
+/// to the power of the profile's bits, and shares at least as many digits with the desk as its
+/// buffer was passed on.
 ///
 /// No call but `list_slots` takes memory. The order of the buffers is open.
 #[derive(Drop)]
@@ -93,7 +94,8 @@ impl<'r> Cache<'r> {
         self.row.is_empty()
     }
 
-    /// How many buffers there are, or the greatest `u64` where that is less. It takes a walk over them.
+    /// How many buffers there are, or the greatest `u64` where that is less. It takes a walk over
+    /// them.
     pub fn len(&self) -> u64
         ensures { result ≡ capped (length self.now.items) }
     {
@@ -155,7 +157,8 @@ impl<'r> Cache<'r> {
         self.row.fault_for(t)
     }
 
-    /// Takes out the bucket for `t`: all buffers whose owners share more digits with `t` than this desk does.
+    /// Takes out the bucket for `t`: all buffers whose owners share more digits with `t` than this
+    /// desk does.
     ///
     /// `RouteError` says when there is no such batch. The cache is then as before.
     pub fn take_bucket_for(&mut self, t: u16) -> Result<Batch<'r>, RouteError>
@@ -209,11 +212,12 @@ impl<'r> Cache<'r> {
         Posting::new(row, limit)
     }
 
-    /// Posts the cache until it is empty or `sink` refuses a batch. Gives the cache of what is left, and how often a
-    /// buffer was moved from one round's row into the next, or the greatest `u64` where that is less.
+    /// Posts the cache until it is empty or `sink` refuses a batch. Gives the cache of what is
+    /// left, and how often a buffer was moved from one round's row into the next, or the greatest
+    /// `u64` where that is less.
     ///
-    /// Each buffer is moved once for each digit that its owner shares with the desk, so less often than a number has
-    /// digits.
+    /// Each buffer is moved once for each digit that its owner shares with the desk, so less often
+    /// than a number has digits.
     pub fn post_all<S: BatchSink<'r>>(self, sink: &mut S) -> (Cache<'r>, u64)
         ensures same { result.0 ≡ record self.entry { items = result.0.items } }
         ensures posts { Posts self.entry.digits self.entry.number self.entry.items (S.given sink.old) (S.given sink.new) result.0.items }

@@ -11,10 +11,11 @@ use std::marker::Model;
 
 /// A cache that is being posted, one round for each digit.
 ///
-/// In round `j`, from 0, the owners that are left share the digits below `j` with the desk, and the buffers stand in
-/// a row by digit `j`. Each chain of the row but that of the desk's own digit is handed out whole, to some owner in
-/// it. Then the chain of the desk's own digit is moved, buffer by buffer, into the row of round `j + 1`. So a buffer
-/// is moved once for each digit that its owner shares with the desk, less often than a number has digits.
+/// In round `j`, from 0, the owners that are left share the digits below `j` with the desk, and the
+/// buffers stand in a row by digit `j`. Each chain of the row but that of the desk's own digit is
+/// handed out whole, to some owner in it. Then the chain of the desk's own digit is moved, buffer
+/// by buffer, into the row of round `j + 1`. So a buffer is moved once for each digit that its
+/// owner shares with the desk, less often than a number has digits.
 ///
 /// No call takes memory.
 #[derive(Drop)]
@@ -47,7 +48,8 @@ impl<'r> Posting<'r> {
         }
     }
 
-    /// How often a buffer was moved from one round's row into the next, or the greatest `u64` where that is less.
+    /// How often a buffer was moved from one round's row into the next, or the greatest `u64` where
+    /// that is less.
     pub fn moves(&self) -> u64
         ensures { result ≡ self.now.moves }
     {
@@ -67,12 +69,14 @@ impl<'r> Posting<'r> {
         ensures value { MatchOption result ((self.old.items ≡ []) × (self.new.items ≡ []))
             (λ b. Gives self.old.digits self.old.number self.old.items b self.new.items) }
 
-        // The rounds come in order: a batch has what belongs to the round that the call ends in, and less is not left.
+        // The rounds come in order: a batch has what belongs to the round that the call ends in,
+        // and less is not left.
         ensures here { IfSome result (λ b. All (λ (x : Buffer). common self.old.digits x.owner self.old.number ≡ self.new.round) b.items) }
         ensures left { All (λ (x : Buffer). self.new.round ≤ common self.old.digits x.owner self.old.number) self.new.items }
         ensures later { self.old.round ≤ self.new.round }
 
-        // The moves made and those still to be made are together always as many, where a `u64` can count them.
+        // The moves made and those still to be made are together always as many, where a `u64` can
+        // count them.
         ensures counted { all_moves self.old < 2 ^ 64 → all_moves self.new ≡ all_moves self.old }
     {
         loop {
@@ -92,7 +96,8 @@ impl<'r> Posting<'r> {
         }
     }
 
-    /// Ends the posting: the cache of what is left and of the batch, which this desk would have sent.
+    /// Ends the posting: the cache of what is left and of the batch, which this desk would have
+    /// sent.
     pub fn put_back(self, batch: Batch<'r>) -> Cache<'r>
         requires sender { batch.sender ≡ self.number }
         requires digits { batch.digits ≡ self.digits }

@@ -17,8 +17,8 @@ use region_cut::Slot;
 use slot_chain::{Buf, Chain, NoMemory};
 use std::marker::Model;
 
-/// Buffers of other desks that share the digits below `round` with the desk `number`, each in the chain of its
-/// owner's digit `round`.
+/// Buffers of other desks that share the digits below `round` with the desk `number`, each in the
+/// chain of its owner's digit `round`.
 #[derive(Drop)]
 pub struct Row<'r> {
     number: u16,
@@ -186,7 +186,8 @@ impl<'r> Row<'r> {
         take_at(&mut self.chains, k as usize)
     }
 
-    /// Goes on to the next digit, where all owners that are left have the desk's own, and counts the buffers moved.
+    /// Goes on to the next digit, where all owners that are left have the desk's own, and counts
+    /// the buffers moved.
     pub fn advance(&mut self) -> u64
         requires own { All (λ (b : Buffer). digit self.old.digits b.owner self.old.round
             ≡ digit self.old.digits self.old.number self.old.round) self.old.items }

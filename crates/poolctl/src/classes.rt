@@ -9,8 +9,8 @@ use region_cut::{CHUNK, Class, Profile};
 use std::alloc::{AllocError, Global};
 use trace_audit::{Sink, write_all};
 
-/// The line `CLASS SIZE SLOTS REST` of a class: its number, the size of its slots in bytes, how many slots a chunk has,
-/// and how many bytes of the chunk are left over.
+/// The line `CLASS SIZE SLOTS REST` of a class: its number, the size of its slots in bytes, how
+/// many slots a chunk has, and how many bytes of the chunk are left over.
 fn class_line(alloc: Global, class: Class) -> Result<String, AllocError>
     ensures { IfOk result (λ line. string_bytes line ≡ class_line class) }
 {

@@ -10,8 +10,8 @@ use trace_audit::{Sink, Source, replay};
 
 /// Does what the words ask for. The program's own name stands first among them.
 ///
-/// Nothing is read from the source but by `replay`, and nothing is written after a failed write. Words that are refused,
-/// or that ask for help, are answered with the text for standard error.
+/// Nothing is read from the source but by `replay`, and nothing is written after a failed write.
+/// Words that are refused, or that ask for help, are answered with the text for standard error.
 pub fn command<R: Source, W: Sink>(
     alloc: Global,
     words: &[String],

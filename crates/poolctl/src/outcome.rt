@@ -9,7 +9,8 @@ use trace_audit::{End, ReplayError};
 pub enum Outcome {
     /// Done. Status 0.
     Done,
-    /// The trace has a bad line, or there is no room for its region or floor; the report says so. Status 1.
+    /// The trace has a bad line, or there is no room for its region or floor; the report says so.
+    /// Status 1.
     Stopped,
     /// Want of memory outside a report. Status 1.
     NoMemory,

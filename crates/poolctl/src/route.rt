@@ -60,7 +60,8 @@ fn push_number(text: &mut String, word: &str, number: u32) -> Result<(), AllocEr
     write!(text, " {number}\n")
 }
 
-/// How many digits a number has, the digits of the two numbers, the least first, and how many of them the two share.
+/// How many digits a number has, the digits of the two numbers, the least first, and how many of
+/// them the two share.
 fn route_text(alloc: Global, digits: Digits, from: u16, owner: u16) -> Result<String, AllocError>
     ensures { IfOk result (λ text. string_bytes text ≡ route_text digits from owner) }
 {
@@ -72,7 +73,8 @@ fn route_text(alloc: Global, digits: Digits, from: u16, owner: u16) -> Result<St
     Ok(text)
 }
 
-/// Writes how a desk and the owner of a buffer read in digits, which decides which way the buffer goes home.
+/// Writes how a desk and the owner of a buffer read in digits, which decides which way the buffer
+/// goes home.
 pub fn write_route<W: Sink>(alloc: Global, route: Route, sink: &mut W) -> Outcome
     requires { W.has_failed sink.old ≡ false }
     ensures done { result ≡ Outcome.Done → Appends (W.contents sink.old) (W.contents sink.new) (route_text (scheme_of route.profile route.width) route.from route.owner) }

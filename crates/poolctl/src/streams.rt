@@ -32,8 +32,8 @@ fn refused(alloc: Global, text: &str) -> Outcome {
     }
 }
 
-/// Writes what the writer still holds back, unless a write failed before: then nothing more is written, and what is
-/// held back is let go.
+/// Writes what the writer still holds back, unless a write failed before: then nothing more is
+/// written, and what is held back is let go.
 pub fn settled<W: Write + Drop>(outcome: Outcome, writer: BufWriter<W>) -> Outcome {
     if outcome == Outcome::WriteFailed {
         let _unwritten = writer.into_parts();

@@ -1,4 +1,5 @@
-//! The two profiles of a pool: how many bits an allocator's number has, and which size classes it uses.
+//! The two profiles of a pool: how many bits an allocator's number has, and which size classes it
+//! uses.
 ghost use Rattle.std.specs.Prelude.{◌≡◌, ◌≤◌, ◌<◌, ◌↔◌, IsSome, IsNone, MatchOption};
 ghost use Rattle.region_cut.specs.Classes.{bits_of, classes_of, largest_of, IsLeastFor, NoClassFor};
 ghost use Rattle.region_cut.specs.declared.profile.Profile.TheVariants.{Pool};

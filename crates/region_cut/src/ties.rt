@@ -5,7 +5,8 @@ ghost use Rattle.region_cut.specs.Carved.{Carved, all_joined};
 use crate::tie::Tie;
 use std::marker::{Model, Send};
 
-/// What ties the bytes of chunks to those of their slots, kept when the cursors over them are used up. It takes no memory.
+/// What ties the bytes of chunks to those of their slots, kept when the cursors over them are used
+/// up. It takes no memory.
 #[derive(Drop)]
 pub struct Ties {
     ghost all: { List Carved },

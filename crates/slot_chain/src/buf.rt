@@ -8,12 +8,15 @@ use region_cut::{Class, Slot};
 use std::marker::Model;
 use std::slice;
 
-/// A buffer: a slot of a region that is borrowed for `'r`, with the slice of bytes that lies there. It moves as one pointer.
+/// A buffer: a slot of a region that is borrowed for `'r`, with the slice of bytes that lies there.
+/// It moves as one pointer.
 ///
-/// Nobody else can reach the slice while the buffer lives. A buffer may be dropped: its slot is then lost until the region's borrow ends.
+/// Nobody else can reach the slice while the buffer lives. A buffer may be dropped: its slot is
+/// then lost until the region's borrow ends.
 ///
-/// Contracts see it as a `Buffer`. Two buffers are the same where slot, class, owner, `forwards` and the bytes now agree, and the name under which the bytes are known that will be there when the region's
-/// borrow ends.
+/// Contracts see it as a `Buffer`. Two buffers are the same where slot, class, owner, `forwards`
+/// and the bytes now agree, and the name under which the bytes are known that will be there when
+/// the region's borrow ends.
 #[derive(Drop)]
 pub struct Buf<'r> {
     pub(crate) node: Box<Node<'r>>,
@@ -58,7 +61,8 @@ impl<'r> Buf<'r> {
         self.node.owner
     }
 
-    /// How often it was passed on by allocators that don't own it, since it was freed. Whoever moves the buffer keeps this count by [`Buf::set_forwards`].
+    /// How often it was passed on by allocators that don't own it, since it was freed. Whoever
+    /// moves the buffer keeps this count by [`Buf::set_forwards`].
     pub fn forwards(&self) -> u32
         ensures { result ≡ self.now.forwards }
     {
@@ -87,7 +91,8 @@ impl<'r> Buf<'r> {
         self.node.lease.words()
     }
 
-    /// The bytes of the slot, to be written. When the loan ends, the buffer is the same but for what was written.
+    /// The bytes of the slot, to be written. When the loan ends, the buffer is the same but for
+    /// what was written.
     pub fn bytes_mut(&mut self) -> &mut [u8]
         ensures* writes_back { sem 𝓛 (LendsBytes self.entry result) }
         ensures value { result.now ≡ self.old.bytes.now }

@@ -9,9 +9,11 @@ use crate::walk::Walk;
 use std::marker::Model;
 use std::mem;
 
-/// A list of buffers. In contracts a chain is that list; its last buffer is on top, where [`Chain::push`] and [`Chain::pop`] work.
+/// A list of buffers. In contracts a chain is that list; its last buffer is on top, where
+/// [`Chain::push`] and [`Chain::pop`] work.
 ///
-/// A chain is one pointer. No call takes memory, none can fail, and none changes or copies a buffer. A chain may be dropped, with all its buffers, however long it is.
+/// A chain is one pointer. No call takes memory, none can fail, and none changes or copies a
+/// buffer. A chain may be dropped, with all its buffers, however long it is.
 #[cycle(chain)]
 pub struct Chain<'r> {
     pub(crate) top: Option<Box<Node<'r>>>,
@@ -85,7 +87,8 @@ impl<'r> Chain<'r> {
         self.top = Some(node);
     }
 
-    /// Takes the buffer on top, which came last, or `None` where there is none. Takes constant time.
+    /// Takes the buffer on top, which came last, or `None` where there is none. Takes constant
+    /// time.
     pub fn pop(&mut self) -> Option<Buf<'r>>
         ensures { MatchOption result ((self.old ≡ []) × (self.new ≡ [])) (λ b. self.old ≡ self.new ++ b ∷ []) }
     {
@@ -117,7 +120,9 @@ impl<'r> Chain<'r> {
 
     /// Puts all buffers of `other` on top, in their order, and leaves it empty.
     ///
-    /// Takes time for the length of `other` alone, whose links are turned, and turned back as they are put on top: two moves of a pointer for each. None of the buffers that are here already is looked at.
+    /// Takes time for the length of `other` alone, whose links are turned, and turned back as they
+    /// are put on top: two moves of a pointer for each. None of the buffers that are here already
+    /// is looked at.
     #[tactic(auto, using(crate::proofs::Sums::reverse_push, crate::proofs::Sums::append_push))]
     pub fn append(&mut self, other: &mut Chain<'r>)
         ensures list { self.new ≡ self.old ++ other.old }
@@ -145,7 +150,8 @@ impl<'r> Chain<'r> {
         }
     }
 
-    /// The sum of the sizes of the buffers in bytes, each that of its class, or the greatest `u64` where that is less. It is counted by a walk.
+    /// The sum of the sizes of the buffers in bytes, each that of its class, or the greatest `u64`
+    /// where that is less. It is counted by a walk.
     #[tactic(auto, using(crate::proofs::Sums::sizes_push))]
     pub fn bytes_total(&self) -> u64
         ensures { result ≡ capped (sizes self.now) }

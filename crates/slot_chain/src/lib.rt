@@ -1,8 +1,11 @@
 //! Buffers, and the chains that they are kept in.
 //!
-//! A [`Buf`] is one slot of a region, with the slice that lies there and what the pool knows of it: its slot, its size class, the allocator that owns it, and how often it was passed on. A [`Chain`] is a
-//! list of buffers. As in snmalloc (ISMM 2019) a list is linked through places that its objects already have, so that a buffer is freed, cached and sent without taking memory. Here the link is no part of
-//! the slot: it stands in a box of its own, a [`Room`], which is made before the buffer is. A buffer moves as the one pointer to that box.
+//! A [`Buf`] is one slot of a region, with the slice that lies there and what the pool knows of it:
+//! its slot, its size class, the allocator that owns it, and how often it was passed on. A
+//! [`Chain`] is a list of buffers. As in snmalloc (ISMM 2019) a list is linked through places that
+//! its objects already have, so that a buffer is freed, cached and sent without taking memory. Here
+//! the link is no part of the slot: it stands in a box of its own, a [`Room`], which is made before
+//! the buffer is. A buffer moves as the one pointer to that box.
 #![tactic(auto)]
 
 mod buf;

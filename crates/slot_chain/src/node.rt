@@ -3,7 +3,8 @@ use crate::chain::Chain;
 use crate::lease::Lease;
 use region_cut::{Class, Slot};
 
-// One buffer, and the chain below it. A node belongs to its buffer, also while that is in no chain: then nothing is below.
+// One buffer, and the chain below it. A node belongs to its buffer, also while that is in no chain:
+// then nothing is below.
 #[cycle(chain)]
 #[derive(Drop)]
 pub(crate) struct Node<'r> {

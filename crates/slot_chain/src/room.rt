@@ -11,7 +11,9 @@ use region_cut::{Class, Piece, Slot};
 use std::alloc::Global;
 use std::marker::Model;
 
-/// Room for one buffer: the box that the buffer and its link in a chain will lie in. It is the only thing of this crate that takes memory. It holds no bytes of a region, and contracts see nothing in it.
+/// Room for one buffer: the box that the buffer and its link in a chain will lie in. It is the only
+/// thing of this crate that takes memory. It holds no bytes of a region, and contracts see nothing
+/// in it.
 #[derive(Drop)]
 pub struct Room<'r> {
     node: Box<Node<'r>>,
@@ -39,9 +41,11 @@ impl<'r> Room<'r> {
         })
     }
 
-    /// Makes a buffer of a piece of a region. It lies in this room, so no memory is taken and nothing can fail.
+    /// Makes a buffer of a piece of a region. It lies in this room, so no memory is taken and
+    /// nothing can fail.
     ///
-    /// The piece has to be as long as a slot of `class`. `owner` is the number of the allocator to which the buffer goes back, of at most 12 bits. The bytes stay as they are.
+    /// The piece has to be as long as a slot of `class`. `owner` is the number of the allocator to
+    /// which the buffer goes back, of at most 12 bits. The bytes stay as they are.
     pub fn fill(self, piece: Piece<'r>, class: Class, owner: u16) -> Buf<'r>
         requires size { length piece.bytes.now ≡ size_of class }
         requires owner { owner < 4096 }

@@ -14,7 +14,8 @@ pub struct Tag {
     pub owner: u16,
 }
 
-/// A walk over a chain from its top. In contracts it is the list of the buffers that are still to be shown; the next one is the last of them.
+/// A walk over a chain from its top. In contracts it is the list of the buffers that are still to
+/// be shown; the next one is the last of them.
 #[derive(Drop)]
 pub struct Walk<'a, 'r> {
     pub(crate) at: &'a Chain<'r>,
