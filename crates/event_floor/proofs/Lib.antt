@@ -1,3 +1,4 @@
 pub mod ChunkLaws
 pub mod FloorLaws
 pub mod SeatLaws
+pub mod machine

@@ -7,3 +7,4 @@ pub mod Refusals
 pub mod Runs
 pub mod Seats
 pub mod Steps
+pub mod machine

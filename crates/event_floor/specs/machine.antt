@@ -1,0 +1,5 @@
+pub mod State
+pub mod Machine
+pub mod Kept
+pub mod Audit
+pub mod Listing
