@@ -2,3 +2,4 @@ pub mod ChunkLaws
 pub mod FloorLaws
 pub mod SeatLaws
 pub mod machine
+pub mod headline

@@ -1,0 +1,5 @@
+pub mod Lists
+pub mod Tables
+pub mod Views
+pub mod Least
+pub mod Refused
