@@ -3,3 +3,4 @@ pub mod Tables
 pub mod Views
 pub mod Least
 pub mod Refused
+pub mod Holders

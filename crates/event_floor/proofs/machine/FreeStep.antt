@@ -112,7 +112,7 @@ posted_stay v st count r q b h e = λ j d l. λ k c m.
 pub record FreeEdits (v : Listing) (a : ℕ) (e : Entry) (lent : List Entry) (d : DeskListing) : Type 0 where
   pub leaves : IsPermutation (e ∷ lent) v.lent
   pub worker : d.worker ≡ (desk_listing v a).worker
-  pub own : e.owner ≡ a → IsPermutation (e ∷ (desk_listing v a).home) d.home × (d.cache ≡ (desk_listing v a).cache)
+  pub own : e.owner ≡ a → IsPermutation (record e { forwards = 0 } ∷ (desk_listing v a).home) d.home × (d.cache ≡ (desk_listing v a).cache)
   pub other : e.owner ≢ a → (d.home ≡ (desk_listing v a).home) × IsPermutation (record e { forwards = 0 } ∷ (desk_listing v a).cache) d.cache
 
 abbrev pub after_edits : Listing → ℕ → List Entry → DeskListing → Listing
@@ -166,7 +166,7 @@ module _ (v : Listing) (st : State) (count : Slot → ℕ) (a : ℕ) (e : Entry)
         in_place = moved_in_place st (list_named v) (list_named (after_edits v a lent d)) e.slot AtHome Loans h.in_place there refl
             (slots_permuted (e ∷ lent) v.lent f.leaves)
             (subst (λ b. IsPermutation (e.slot ∷ slots_seen (desk_listing v b).home) (slots_seen (desk_listing (with_desk v a d) b).home)) (sym o)
-            (subst (λ p. IsPermutation (e.slot ∷ slots_seen (desk_listing v a).home) (slots_seen p.home)) (sym (desk_here v a d l)) (slots_permuted (e ∷ (desk_listing v a).home) d.home g.0)))
+            (subst (λ p. IsPermutation (e.slot ∷ slots_seen (desk_listing v a).home) (slots_seen p.home)) (sym (desk_here v a d l)) (slots_permuted (record e { forwards = 0 } ∷ (desk_listing v a).home) d.home g.0)))
             (λ k x y. others o g.1 k x y);
         homes = λ b. homes_at g.0 b (a == b) refl;
         lent = All-tail (Labelled st) e lent labelled;
@@ -175,10 +175,11 @@ module _ (v : Listing) (st : State) (count : Slot → ℕ) (a : ℕ) (e : Entry)
         posted = λ b. posted_stay v st count e.slot AtHome b h there;
       }
     where
-      homes_at : IsPermutation (e ∷ (desk_listing v a).home) d.home → (b : ℕ) (y : Bool) → (a == b) ≡ y → All (Labelled st) (desk_listing (with_desk v a d) b).home
+      homes_at : IsPermutation (record e { forwards = 0 } ∷ (desk_listing v a).home) d.home → (b : ℕ) (y : Bool) → (a == b) ≡ y → All (Labelled st) (desk_listing (with_desk v a d) b).home
       homes_at p b true q = subst (λ n. All (Labelled st) (desk_listing (with_desk v a d) n).home) (eqb-true a b q)
           (subst (λ (x : DeskListing). All (Labelled st) x.home) (sym (desk_here v a d l))
-          (All-permutation (Labelled st) (e ∷ (desk_listing v a).home) d.home p (All-cons (Labelled st) e (desk_listing v a).home label (h.homes a))))
+          (All-permutation (Labelled st) (record e { forwards = 0 } ∷ (desk_listing v a).home) d.home p
+          (All-cons (Labelled st) (record e { forwards = 0 }) (desk_listing v a).home label (h.homes a))))
       homes_at p b false q = subst (λ (x : DeskListing). All (Labelled st) x.home) (sym (desk_other v a b d q)) (h.homes b)
 
       others : owner_of st e.slot ≡ a → d.cache ≡ (desk_listing v a).cache → (k : Named) → same_list k Loans ≡ false → same_list k (HomeOf (owner_of st e.slot)) ≡ false →
