@@ -4,3 +4,4 @@ pub mod Views
 pub mod Least
 pub mod Refused
 pub mod Holders
+pub mod Claims
