@@ -5,3 +5,4 @@ pub mod Least
 pub mod Refused
 pub mod Holders
 pub mod Claims
+pub mod Lends

@@ -1,5 +1,5 @@
 -- The buffers of a table with empty places.
-use Rattle.std.proofs.Common.{◌≡◌, ◌≢◌, ℕ, zero, suc, ◌+◌, ◌*◌, ◌<◌, ◌≤◌, Bool, true, false, ◌||◌, ◌&&◌, ◌==◌, if◌then◌else◌, nat_lt, List, [], ◌∷◌, map, length, get_or, set, Option, Some, None, is_some, refl, sym, ap, ◌∙◌, subst, arith, IsPermutation}
+use Rattle.std.proofs.Common.{◌≡◌, ◌≢◌, ℕ, zero, suc, ◌+◌, ◌*◌, ◌<◌, ◌≤◌, Bool, true, false, ◌||◌, ◌&&◌, ◌==◌, if◌then◌else◌, nat_lt, List, [], ◌∷◌, map, length, get_or, set, All, Option, Some, None, is_some, refl, sym, ap, ap₂, ◌∙◌, subst, arith, IsPermutation}
 use Rattle.std.specs.Prelude.{IfSome, replicate}
 use Rattle.std.specs.List.{list_any}
 use Rattle.std.proofs.lemmas.Bool.{true≢false, ltb-true, lt-ltb}
@@ -73,7 +73,7 @@ lent_none lent chunk index e l = go (nat_lt index 256) (lt-ltb index 256 l) e
     go true q f = f
     go false q f = absurd (true≢false (sym q))
 
-at_its_place : (lent : List (Option Buffer)) (i : ℕ) (b : Buffer) → AreInPlace lent → get_or lent i None ≡ Some b → (place_of b.slot ≡ i) × (b.slot.index < 256)
+pub at_its_place : (lent : List (Option Buffer)) (i : ℕ) (b : Buffer) → AreInPlace lent → get_or lent i None ≡ Some b → (place_of b.slot ≡ i) × (b.slot.index < 256)
 at_its_place lent i b h e = subst (λ z. IfSome z (λ (b : Buffer). (place_of b.slot ≡ i) × (b.slot.index < 256))) e (h i)
 
 abbrev pub slot_of : ℕ → ℕ → Slot
@@ -102,3 +102,19 @@ one_lent lent chunk index b e s =
 pub present_replicate : (n : ℕ) → present (replicate n None) ≡ []
 present_replicate zero = refl
 present_replicate (suc n) = present_replicate n
+
+-- what holds of all buffers that are there
+pub present_at : (P : Buffer → Type 0) (places : List (Option Buffer)) (i : ℕ) (b : Buffer) → All P (present places) → get_or places i None ≡ Some b → P b
+present_at P [] zero b h e = absurd (none_some b e)
+present_at P [] (suc i) b h e = absurd (none_some b e)
+present_at P (None ∷ places) zero b h e = absurd (none_some b e)
+present_at P (None ∷ places) (suc i) b h e = present_at P places i b h e
+present_at P (Some c ∷ places) zero b h e = let q : c ≡ b = cc in subst P q (h 0 c (omega arith))
+present_at P (Some c ∷ places) (suc i) b h e = present_at P places i b (λ k d l. h (suc k) d (omega (arith, l))) e
+
+-- two slots have one place
+pub same_place : (s r : Slot) → place_of s ≡ place_of r → s.index < 256 → r.index < 256 → s ≡ r
+same_place s r e l m =
+    let k : s.chunk ≡ r.chunk = omega (arith, e, l, m) in
+    let i : s.index ≡ r.index = omega (arith, e, k) in
+    ap₂ (λ (c n : ℕ). slot_of c n) k i
