@@ -6,3 +6,5 @@ pub mod Refused
 pub mod Holders
 pub mod Claims
 pub mod Lends
+pub mod Bounds
+pub mod Posts

@@ -1,0 +1,109 @@
+-- Batches that are sent, linked and taken.
+use Rattle.std.proofs.Common.{◌≡◌, ◌≢◌, ℕ, zero, suc, ◌+◌, ◌<◌, ◌≤◌, Bool, true, false, not, ◌==◌, List, [], ◌∷◌, ◌++◌, map, filter, length, get_or, set, All, Option, Some, None, Ok, refl, sym, ap, ap₂, ◌∙◌, subst, arith, append-nil, IsPermutation}
+use Rattle.std.proofs.lemmas.Bool.{eq-eqb}
+use Rattle.std.proofs.lemmas.List.{length-map, map-append, map_push, get_or-map}
+use Rattle.std.proofs.lemmas.List.Sorted.{IsPermutation-map, IsPermutation-sym}
+use Rattle.slot_chain.specs.Buffer.{Buffer}
+use Rattle.slot_chain.specs.Counts.{capped}
+use Rattle.digit_route.specs.Digits.{Scheme}
+use Rattle.digit_route.specs.Route.{IsInBucket, TakesBucket}
+use Rattle.pool_desk.specs.Homes.{AtHome}
+use Rattle.pool_desk.specs.Homes.AtHome.{Kept}
+use Rattle.pool_desk.specs.Desks.{DeskState}
+use Rattle.pool_desk.specs.Steps.{passed_on as buffer_passed_on, own, others, Handles}
+use Rattle.event_floor.specs.declared.seat.Seat.{Seat}
+use Rattle.event_floor.specs.declared.seat.Seat.TheVariants.{Held as HeldSeat}
+use Rattle.event_floor.specs.declared.request.Request.{Request}
+use Rattle.event_floor.specs.declared.request.Request.TheVariants.{Send, Link, Take}
+use Rattle.event_floor.specs.declared.reply.Reply.{Reply}
+use Rattle.event_floor.specs.declared.reply.Reply.TheVariants.{Done, Batch, Counts}
+use Rattle.event_floor.specs.Posted.{Posted, inbox_at, sent_as, as_linked, no_batch, IsHalf, SomePosted}
+use Rattle.event_floor.specs.Floors.{FloorSeen, with_desk, with_inbox, IsHeld}
+use Rattle.event_floor.specs.Steps.{SendsBatch, LinksBatch, TakesFront}
+use Rattle.event_floor.specs.machine.State.{State, bucket, slots, slots_of_batch}
+use Rattle.event_floor.specs.machine.Machine.{Answer}
+use Rattle.event_floor.specs.machine.Listing.{Entry, DeskListing, BatchListing, Listing, desk_listing, inbox_listing, Shown, Applies}
+use Rattle.event_floor.specs.headline.Listing.{entry_of, entry_at, desk_of, batch_of, listing_of}
+use Rattle.event_floor.specs.headline.Whole.{IsWhole}
+use Rattle.event_floor.proofs.machine.Refusals.{goes_by}
+use Rattle.event_floor.proofs.machine.SendStep.{new_batch, after_sending}
+use Rattle.event_floor.proofs.machine.LinkStep.{linked, after_link, link_applies}
+use Rattle.event_floor.proofs.machine.TakeFloor.{TakeEdits, passed_on, after_taking, take_applies}
+use Rattle.event_floor.proofs.machine.Applied.{SendMoves, send_applies}
+use Rattle.event_floor.proofs.headline.Lists.{get_or-map_default, set-map, filter-map, filter-permutation, filter-append, filter_kept, filter_gone}
+use Rattle.event_floor.proofs.headline.Bounds.{all_few, filter_few, capped_is}
+use Rattle.event_floor.proofs.headline.Views.{held_seen, with_seat_seen, inbox_seen}
+use Rattle.event_floor.proofs.headline.Refused.{send_accepted, link_accepted, take_accepted, goes_seen, stays_seen}
+use Rattle.event_floor.proofs.headline.Holders.{numbered_held}
+
+-- the listing's inboxes, with another one
+inboxes_seen : (v : FloorSeen) (b : ℕ) (ps : List Posted) → map (map batch_of) (set v.inboxes b ps) ≡ set (listing_of v).inboxes b (map batch_of ps)
+inboxes_seen v b ps = set-map (map batch_of) v.inboxes b ps
+
+-- a state of the floor has few chunks
+few_slots : (v : FloorSeen) (st : State) → (count : Slot → ℕ) → IsWhole v → Shown (listing_of v) st count → length (slots st) ≤ 4194304
+few_slots v st count f h = all_few st ?
+
+-- ---- Send
+
+module _ (v w : FloorSeen) (a t number count : ℕ) (f : IsWhole v) (s : SendsBatch v a t number count w) where
+  abbrev sender : DeskListing
+  sender = desk_of (HeldSeat s.after)
+
+  abbrev sent : List Entry
+  sent = map entry_of s.batch.items
+
+  abbrev goes : Buffer → Bool
+  goes b = goes_by v.digits a t b.owner
+
+  taken : TakesBucket v.digits a t s.before.cached s.batch.items s.after.cached
+  taken = subst (λ n. TakesBucket v.digits a n s.before.cached s.batch.items s.after.cached) s.address s.gives.taken
+
+  all_go : All (λ b. goes b ≡ true) s.batch.items
+  all_go = λ k d l. goes_seen v.digits a t (get_or s.batch.items k d) (taken.only k d l)
+
+  none_goes : All (λ b. goes b ≡ false) s.after.cached
+  none_goes = λ k d l. stays_seen v.digits a t (get_or s.after.cached k d) (taken.all k d l)
+
+  going : IsPermutation (filter goes s.before.cached) s.batch.items
+  going = subst (λ xs. IsPermutation (filter goes s.before.cached) xs)
+      (filter-append goes s.batch.items s.after.cached
+      ∙ (ap₂ ◌++◌ (filter_kept goes s.batch.items all_go) (filter_gone goes s.after.cached none_goes) ∙ append-nil s.batch.items))
+      (filter-permutation goes s.before.cached (s.batch.items ++ s.after.cached) taken.together)
+
+  staying : IsPermutation (filter (λ b. not (goes b)) s.before.cached) s.after.cached
+  staying = subst (λ xs. IsPermutation (filter (λ b. not (goes b)) s.before.cached) xs)
+      (filter-append (λ b. not (goes b)) s.batch.items s.after.cached
+      ∙ ap₂ ◌++◌ (filter_gone (λ b. not (goes b)) s.batch.items (λ k d l. ap not (all_go k d l))) (filter_kept (λ b. not (goes b)) s.after.cached (λ k d l. ap not (none_goes k d l))))
+      (filter-permutation (λ b. not (goes b)) s.before.cached (s.batch.items ++ s.after.cached) taken.together)
+
+  sending : SendMoves (listing_of v) a t sent sender
+  sending =
+      let seen = held_seen v a s.before s.routes.0 in record {
+        worker = ap (λ (x : DeskState). Some x.worker) s.same_desk ∙ ap (λ (z : DeskListing). z.worker) (sym seen);
+        home = ap (λ (x : DeskState). map (entry_at x.number) x.home) s.same_desk ∙ ap (λ (z : DeskListing). z.home) (sym seen);
+        taken = subst (λ (z : DeskListing). IsPermutation (filter (λ (e : Entry). goes_by v.digits a t e.owner) z.cache) sent) (sym seen)
+            (subst (λ xs. IsPermutation xs sent) (sym (filter-map entry_of (λ (e : Entry). goes_by v.digits a t e.owner) s.before.cached)) (IsPermutation-map entry_of _ _ going));
+        left = subst (λ (z : DeskListing). IsPermutation (filter (λ (e : Entry). not (goes_by v.digits a t e.owner)) z.cache) (map entry_of s.after.cached)) (sym seen)
+            (subst (λ xs. IsPermutation xs (map entry_of s.after.cached)) (sym (filter-map entry_of (λ (e : Entry). not (goes_by v.digits a t e.owner)) s.before.cached))
+            (IsPermutation-map entry_of _ _ staying));
+      }
+
+  batch_seen : batch_of (sent_as number s.batch) ≡ new_batch (listing_of v) a t sent
+  batch_seen = rw (s.is_next, s.gives.sender, s.address) refl
+
+  sent_shown : listing_of w ≡ after_sending (listing_of v) a t sent sender
+  sent_shown =
+      ap listing_of s.same
+      ∙ (ap₂ (λ xs ys. record (listing_of v) { desks = xs; inboxes = ys; next = v.next + 1 }) (with_seat_seen v a (HeldSeat s.after))
+      (inboxes_seen v t (inbox_at v.inboxes t ++ sent_as number s.batch ∷ [])
+      ∙ ap (set (listing_of v).inboxes t)
+      (map_push batch_of (inbox_at v.inboxes t) (sent_as number s.batch) ∙ ap₂ (λ xs y. xs ++ y ∷ []) (sym (inbox_seen v t)) batch_seen))
+      ∙ ap (λ n. record (after_sending (listing_of v) a t sent sender) { next = n }) (omega arith))
+
+  pub send_done : Applies (listing_of v) (Send a t) (Ok (Batch number count)) (listing_of w)
+  send_done st passes h =
+      let g = send_applies (listing_of v) a t sent sender (?) (send_accepted v a t s.before s.routes s.unspent) sending st passes h in
+      let few : length s.batch.items ≤ 4194304 = ? in
+      let same : count ≡ length sent = s.counted ∙ (capped_is (length s.batch.items) few ∙ sym (length-map s.batch.items entry_of)) in
+      ?
