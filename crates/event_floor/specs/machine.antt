@@ -1,5 +1,8 @@
+pub mod Slots
 pub mod State
-pub mod Machine
-pub mod Kept
-pub mod Audit
+pub mod Refusals
+pub mod Steps
+pub mod Forwards
+pub mod Sound
 pub mod Listing
+pub mod Headline

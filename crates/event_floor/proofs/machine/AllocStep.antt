@@ -6,12 +6,12 @@ use Rattle.std.proofs.lemmas.List.Sorted.{All-permutation, IsPermutation-sym}
 use Rattle.region_cut.specs.declared.slot.Slot.{Slot}
 use Rattle.event_floor.specs.declared.request.Request.TheVariants.{Alloc}
 use Rattle.event_floor.specs.declared.reply.Reply.TheVariants.{Slot as Lent}
-use Rattle.event_floor.specs.machine.State.{profile_at, least_class}
+use Rattle.event_floor.specs.machine.State.{profile_at, least_class, State, OnLoan, class_of, home_with}
+use Rattle.event_floor.specs.machine.Steps.{relocate, move_one}
+use Rattle.event_floor.specs.machine.Listing.{Named, HomeOf, Loans, CacheOf, BatchOf, same_list, named_of, is_list, list_named, slots_seen, Listing, DeskListing, Entry, desk_listing, Labelled, Counted, Shown}
+use Rattle.event_floor.specs.machine.Headline.{Applies}
 use Rattle.digit_route.specs.Digits.{Scheme}
 use Rattle.digit_route.specs.Profiles.{profile_of}
-use Rattle.event_floor.specs.machine.State.{State, OnLoan, class_of, home_with}
-use Rattle.event_floor.specs.machine.Machine.{relocate, move_one}
-use Rattle.event_floor.specs.machine.Listing.{Named, HomeOf, Loans, CacheOf, BatchOf, same_list, named_of, is_list, list_named, slots_seen, Listing, DeskListing, Entry, desk_listing, Labelled, Counted, Shown, Applies}
 use Rattle.event_floor.proofs.machine.Basics.{none_holds}
 use Rattle.event_floor.proofs.machine.Moves.{same_list_self}
 use Rattle.event_floor.proofs.machine.InPlace.{moved_in_place}

@@ -8,9 +8,12 @@ use Rattle.event_floor.specs.declared.request.Request.TheVariants.{Adopt, Retire
 use Rattle.event_floor.specs.declared.reply.Reply.{Reply}
 use Rattle.event_floor.specs.declared.reply.Reply.TheVariants.{Done, Chunk, Slot as Lent, Home, Cached, Due, Batch, Counts}
 use Rattle.region_cut.specs.Classes.{size_of}
-use Rattle.event_floor.specs.machine.State.{owner_of, same_slot}
-use Rattle.event_floor.specs.machine.Machine.{Answer, refusal, Replies, bytes_with, with_holder, after_free, after_send, slot_at}
-use Rattle.event_floor.specs.machine.Listing.{Listing, DeskListing, Entry, desk_listing, Labelled, Shown, Applies, ShowsSome}
+use Rattle.event_floor.specs.machine.Slots.{same_slot}
+use Rattle.event_floor.specs.machine.State.{owner_of}
+use Rattle.event_floor.specs.machine.Refusals.{refusal, slot_at}
+use Rattle.event_floor.specs.machine.Steps.{Answer, Replies, bytes_with, with_holder, after_free, after_send}
+use Rattle.event_floor.specs.machine.Listing.{Listing, DeskListing, Entry, desk_listing, Labelled, Shown}
+use Rattle.event_floor.specs.machine.Headline.{Applies, ShowsSome}
 use Rattle.event_floor.proofs.machine.Basics.{none_holds}
 use Rattle.event_floor.proofs.machine.FloorSteps.{with_desk, desk_here, holder_shown}
 use Rattle.event_floor.proofs.machine.FreeStep.{FreeEdits, after_edits, free_shown}

@@ -4,9 +4,11 @@ use Rattle.std.proofs.lemmas.Bool.{eqb-true, eq-eqb, and_parts, false≢true}
 use Rattle.std.specs.List.{list_any}
 use Rattle.region_cut.specs.declared.slot.Slot.{Slot}
 use Rattle.event_floor.specs.declared.refusal.Refusal.{Refusal}
-use Rattle.event_floor.specs.machine.State.{Waiting, same_slot}
-use Rattle.event_floor.specs.machine.Machine.{front_ready, front_number, link_one}
-use Rattle.event_floor.specs.machine.Kept.{Member}
+use Rattle.event_floor.specs.machine.Slots.{same_slot}
+use Rattle.event_floor.specs.machine.State.{Waiting}
+use Rattle.event_floor.specs.machine.Refusals.{front_ready}
+use Rattle.event_floor.specs.machine.Steps.{front_number, link_one}
+use Rattle.event_floor.specs.machine.Sound.{Member}
 
 pub same_slot_eq : (s r : Slot) → same_slot s r ≡ true → s ≡ r
 same_slot_eq s r e =

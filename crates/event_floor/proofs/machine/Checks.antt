@@ -9,9 +9,9 @@ use Rattle.event_floor.specs.declared.reply.Reply.{Reply}
 use Rattle.event_floor.specs.declared.reply.Reply.TheVariants.{Done, Chunk, Slot as Lent, Home, Cached, Due, Batch, Counts}
 use Rattle.event_floor.specs.declared.refusal.Refusal.{Refusal}
 use Rattle.event_floor.specs.declared.refusal.Refusal.TheVariants.{NoDesk, Idle, TooLarge, NeedChunk, NotNeeded, NoChunk, NotLent, NothingFor, NotAnOwner, ToSelf, NoBatch, Nothing, Unsettled, Held, NoMemory, BadClass, Spent}
-use Rattle.event_floor.specs.machine.State.{profile_at, least_class}
-use Rattle.event_floor.specs.machine.State.{State, owner_of, home_with, bucket, slots_of_batch}
-use Rattle.event_floor.specs.machine.Machine.{Answer, refusal, slot_at, front_of, bytes_with, Replies, Answers, after, Run}
+use Rattle.event_floor.specs.machine.State.{profile_at, least_class, State, owner_of, home_with, bucket, slots_of_batch}
+use Rattle.event_floor.specs.machine.Refusals.{refusal, slot_at}
+use Rattle.event_floor.specs.machine.Steps.{Answer, front_of, bytes_with, Replies, Answers, after, Run}
 
 abbrev pub replies : State → Request → Reply → Bool
 replies st (Adopt a x) Done = true

@@ -1,7 +1,11 @@
 -- A claim, over the floor's lists.
-use Rattle.std.proofs.Common.{◌≡◌, ℕ, ◌+◌, ◌<◌, Bool, true, false, ◌&&◌, ◌==◌, nat_lt, cond, List, [], ◌∷◌, ◌++◌, map, length, set, get_or, All, Option, Some, None, Ok, is_some, option_map, if◌then◌else◌, IsPermutation, refl, sym, ap, ◌∙◌, subst, arith, length-set, get_or-set_same, get_or-set_other, zero-add}
-use Rattle.std.specs.List.{range_with_len}
-use Rattle.std.proofs.lemmas.Bool.{eqb-true, eqb-false, eq-eqb, true≢false, leb-false}
+use Rattle.std.proofs.Common.{◌≡◌, ℕ, ◌+◌, ◌<◌, Bool, true, false, ◌&&◌, ◌==◌, nat_lt, cond, List, [], ◌∷◌, ◌++◌, map, length, get_or, All, Option, Some, None, Ok, is_some, option_map, if◌then◌else◌, IsPermutation, refl, sym, ap, ◌∙◌, subst, arith, length-set, zero-add}
+use Rattle.std.specs.List.{range_with_len, slice_get}
+use Rattle.std.proofs.Common.{zero, suc, ap₂}
+use Rattle.std.proofs.lemmas.Option.{slice_get_past}
+use Rattle.std.proofs.lemmas.Bool.Decides.{nat_tests}
+use Rattle.event_floor.specs.declared.chunks.Drawn.{Drawn}
+use Rattle.std.proofs.lemmas.Bool.{eqb-true, eq-eqb, true≢false, leb-false}
 use Rattle.std.proofs.lemmas.List.Elements.{All-append, All-map}
 use Rattle.std.proofs.lemmas.List.{map-append}
 use Rattle.std.proofs.lemmas.List.Sorted.{All-permutation, sum_by-IsPermutation}
@@ -9,11 +13,12 @@ use Rattle.region_cut.specs.declared.slot.Slot.{Slot}
 use Rattle.event_floor.specs.declared.request.Request.TheVariants.{Claim}
 use Rattle.event_floor.specs.declared.reply.Reply.TheVariants.{Chunk}
 use Rattle.region_cut.specs.Classes.{slots_of}
-use Rattle.event_floor.specs.machine.State.{State, Place, AtHome, same_slot, owner_or, class_or, owner_of}
-use Rattle.event_floor.specs.machine.Machine.{refusal, with_chunk}
-use Rattle.event_floor.specs.machine.Kept.{has_index}
-use Rattle.event_floor.specs.machine.Audit.{times, one_if}
-use Rattle.event_floor.specs.machine.Listing.{Named, HomeOf, Loans, CacheOf, BatchOf, same_list, named, named_of, is_list, list_named, slots_seen, Listing, DeskListing, Entry, BatchListing, desk_listing, inbox_listing, Labelled, Counted, Shown, Applies}
+use Rattle.event_floor.specs.machine.Slots.{same_slot, has_index, times, one_if}
+use Rattle.event_floor.specs.machine.State.{State, Place, AtHome, owner_or, class_or, owner_of}
+use Rattle.event_floor.specs.machine.Refusals.{refusal}
+use Rattle.event_floor.specs.machine.Steps.{with_chunk}
+use Rattle.event_floor.specs.machine.Listing.{Named, HomeOf, Loans, CacheOf, BatchOf, same_list, named, named_of, is_list, list_named, slots_seen, Listing, DeskListing, Entry, BatchListing, desk_listing, inbox_listing, Labelled, Counted, Shown}
+use Rattle.event_floor.specs.machine.Headline.{Applies}
 use Rattle.event_floor.proofs.machine.Basics.{none_holds}
 use Rattle.event_floor.proofs.machine.Enumerate.{count_append, chunk_times}
 use Rattle.event_floor.proofs.machine.FloorSteps.{with_desk, desk_here, desk_other, desk_keeps}
@@ -31,14 +36,27 @@ abbrev pub chunk_buffers : ℕ → ℕ → ℕ → List Entry
 chunk_buffers k a c = map (chunk_buffer k a c) (range_with_len 0 (slots_of c))
 
 pub record ClaimEdits (v : Listing) (a c k : ℕ) (d : DeskListing) : Type 0 where
-  pub below : k < length v.drawn
-  pub undrawn : get_or v.drawn k None ≡ None
+  pub next : k ≡ length v.drawn
+  pub undrawn : length v.drawn < v.chunks
   pub home : IsPermutation (chunk_buffers k a c ++ (desk_listing v a).home) d.home
   pub worker : d.worker ≡ (desk_listing v a).worker
   pub cache : d.cache ≡ (desk_listing v a).cache
 
 abbrev pub after_claim : Listing → ℕ → ℕ → ℕ → DeskListing → Listing
-after_claim v a c k d = record (with_desk v a d) { drawn = set v.drawn k (Some (record { owner = a; class = c })) }
+after_claim v a c k d = record (with_desk v a d) { drawn = v.drawn ++ record { owner = a; class = c } ∷ [] }
+
+-- one more at the end
+slice_get-push : {A : Type 0} (xs : List A) (x : A) (m : ℕ) → slice_get (xs ++ x ∷ []) m ≡ (if length xs == m then Some x else slice_get xs m)
+slice_get-push [] x zero = refl
+slice_get-push [] x (suc m) =
+    let other : (0 == suc m) ≡ false = grind (arith, nat_tests) in
+    ap (λ (b : Bool). if b then Some x else None) (sym other)
+slice_get-push (y ∷ ys) x zero =
+    let other : (length (y ∷ ys) == 0) ≡ false = grind (arith, nat_tests) in
+    ap (λ (b : Bool). if b then Some x else Some y) (sym other)
+slice_get-push (y ∷ ys) x (suc m) =
+    let same : (length ys == m) ≡ (length (y ∷ ys) == suc m) = grind (arith, nat_tests) in
+    slice_get-push ys x m ∙ ap (λ (b : Bool). if b then Some x else slice_get ys m) same
 
 slots_of_buffers : (k a c : ℕ) (is : List ℕ) → slots_seen (map (chunk_buffer k a c) is) ≡ map (λ i. record { chunk = k; index = i }) is
 slots_of_buffers k a c [] = refl
@@ -50,7 +68,10 @@ module _ (v : Listing) (st : State) (count : Slot → ℕ) (a c k : ℕ) (d : De
   new = with_chunk k a c st
 
   un : st.drawn k ≡ None
-  un = sym (h.frame.drawn k) ∙ f.undrawn
+  un = sym (h.frame.drawn k) ∙ slice_get_past v.drawn k (let e = f.next in omega arith)
+
+  below : k < st.chunks
+  below = let e = f.next in let u = f.undrawn in let c = h.frame.chunks in omega (arith, e, u, c)
 
   -- a slot with a place is in another chunk
   elsewhere : (s : Slot) → is_some (st.place s) ≡ true → (k == s.chunk) ≡ false
@@ -159,22 +180,21 @@ module _ (v : Listing) (st : State) (count : Slot → ℕ) (a c k : ℕ) (d : De
       go true q false r = ap (λ n. 0 + n) (old_none q) ∙ ap (λ p. one_if (is_list m (option_map (named a) p))) (sym (unplaced s q))
       go false q y r = zero-add (times s (list_named v m)) ∙ h.in_place m s
 
-  drawn_at : (m : ℕ) (y : Bool) → (k == m) ≡ y → get_or (set v.drawn k (Some (record { owner = a; class = c }))) m None ≡ (if y then Some (record { owner = a; class = c }) else st.drawn m)
-  drawn_at m true q = subst (λ n. get_or (set v.drawn k (Some (record { owner = a; class = c }))) n None ≡ Some (record { owner = a; class = c })) (eqb-true k m q)
-      (get_or-set_same v.drawn k (Some (record { owner = a; class = c })) None f.below)
-  drawn_at m false q = get_or-set_other v.drawn k m (Some (record { owner = a; class = c })) None (λ r. eqb-false k m q (sym r)) ∙ h.frame.drawn m
+  drawn_at : (m : ℕ) → slice_get (v.drawn ++ record { owner = a; class = c } ∷ []) m ≡ (if k == m then Some (record { owner = a; class = c }) else st.drawn m)
+  drawn_at m = slice_get-push v.drawn (record { owner = a; class = c }) m
+      ∙ ap₂ (λ n (o : Option Drawn). if n == m then Some (record { owner = a; class = c }) else o) (sym f.next) (h.frame.drawn m)
 
   pub claim_shown : refusal st (Claim a c) ≡ None → Shown (after_claim v a c k d) (with_chunk k a c st) count
   claim_shown z = record {
-    sound = claim_step st count a c k h.sound z (subst (λ n. k < n) h.frame.chunks f.below, un);
+    sound = claim_step st count a c k h.sound z (below, un);
     frame = record {
       digits = h.frame.digits;
       limit = h.frame.limit;
       next = h.frame.next;
       desks = length-set v.desks a d ∙ h.frame.desks;
       posts = h.frame.posts;
-      chunks = length-set v.drawn k (Some (record { owner = a; class = c })) ∙ h.frame.chunks;
-      drawn = λ m. drawn_at m (k == m) refl;
+      chunks = h.frame.chunks;
+      drawn = drawn_at;
       holder = λ b. desk_keeps (λ p. p.worker) v a d l f.worker b ∙ h.frame.holder b;
       inboxes = h.frame.inboxes;
     };
@@ -190,7 +210,7 @@ module _ (v : Listing) (st : State) (count : Slot → ℕ) (a c k : ℕ) (d : De
   }
 
   pub claim_fits : (k < st.chunks) × (st.drawn k ≡ None)
-  claim_fits = (subst (λ n. k < n) h.frame.chunks f.below, un)
+  claim_fits = (below, un)
 
 -- an accepted claim
 pub claim_applies : (v : Listing) (a c k : ℕ) (d : DeskListing) → refusal_seen v (Claim a c) ≡ None → ClaimEdits v a c k d →

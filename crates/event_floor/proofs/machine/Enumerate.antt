@@ -6,10 +6,10 @@ use Rattle.std.proofs.lemmas.List.Sums.{sum_by-cons, sum_by-append}
 use Rattle.std.specs.List.{range_with_len}
 use Rattle.region_cut.specs.declared.slot.Slot.{Slot}
 use Rattle.region_cut.specs.Classes.{slots_of}
-use Rattle.event_floor.specs.machine.State.{State, same_slot, slots_of_chunk, slots}
+use Rattle.event_floor.specs.machine.Slots.{same_slot, has_index, times, ExactlyOnce, one_if}
+use Rattle.event_floor.specs.machine.State.{State, slots_of_chunk, slots}
+use Rattle.event_floor.specs.machine.Sound.{Sound}
 use Rattle.event_floor.specs.declared.chunks.Drawn.{Drawn}
-use Rattle.event_floor.specs.machine.Kept.{has_index, Sound}
-use Rattle.event_floor.specs.machine.Audit.{times, ExactlyOnce, one_if}
 
 pub count_cons : {A : Type 0} (p : A → Bool) (x : A) (xs : List A) → count_by p (x ∷ xs) ≡ cond (p x) 1 0 + count_by p xs
 count_cons p x xs = sum_by-cons (λ y. cond (p y) 1 0) x xs

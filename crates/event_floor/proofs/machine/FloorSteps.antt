@@ -2,9 +2,9 @@
 use Rattle.std.proofs.Common.{◌≡◌, ℕ, ◌<◌, Bool, true, false, ◌==◌, length, set, All, Option, if◌then◌else◌, refl, sym, ap, ◌∙◌, subst, get_or-set_same, get_or-set_other, length-set}
 use Rattle.std.proofs.lemmas.Bool.{eqb-true, eqb-false}
 use Rattle.region_cut.specs.declared.slot.Slot.{Slot}
+use Rattle.event_floor.specs.machine.Slots.{times}
 use Rattle.event_floor.specs.machine.State.{State}
-use Rattle.event_floor.specs.machine.Machine.{with_holder}
-use Rattle.event_floor.specs.machine.Audit.{times}
+use Rattle.event_floor.specs.machine.Steps.{with_holder}
 use Rattle.event_floor.specs.machine.Listing.{Named, HomeOf, Loans, CacheOf, BatchOf, list_named, slots_seen, Listing, DeskListing, desk_listing, empty_desk, Labelled, Counted, Shown}
 use Rattle.event_floor.proofs.machine.Keeps.{holder_sound}
 

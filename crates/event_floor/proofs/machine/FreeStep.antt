@@ -6,10 +6,11 @@ use Rattle.std.proofs.lemmas.List.Elements.{All-head, All-tail, All-cons}
 use Rattle.std.proofs.lemmas.List.Sorted.{All-permutation, IsPermutation-map, IsPermutation-sym}
 use Rattle.region_cut.specs.declared.slot.Slot.{Slot}
 use Rattle.event_floor.specs.declared.request.Request.TheVariants.{Free}
-use Rattle.event_floor.specs.machine.State.{State, Place, AtHome, OnLoan, InCache, InBatch, same_slot, is_lent, owner_of}
-use Rattle.event_floor.specs.machine.Machine.{refusal, no_desk, freed_place, after_free, slot_at, relocate, move_one}
-use Rattle.event_floor.specs.machine.Kept.{Sound}
-use Rattle.event_floor.specs.machine.Audit.{times, one_if}
+use Rattle.event_floor.specs.machine.Slots.{same_slot, times, one_if}
+use Rattle.event_floor.specs.machine.State.{State, Place, AtHome, OnLoan, InCache, InBatch, is_lent, owner_of}
+use Rattle.event_floor.specs.machine.Refusals.{refusal, no_desk, slot_at}
+use Rattle.event_floor.specs.machine.Steps.{freed_place, after_free, relocate, move_one}
+use Rattle.event_floor.specs.machine.Sound.{Sound}
 use Rattle.event_floor.specs.machine.Listing.{Named, HomeOf, Loans, CacheOf, BatchOf, same_list, named, named_of, is_list, list_named, slots_seen, if_numbered, Listing, DeskListing, Entry, BatchListing, desk_listing, inbox_listing, Labelled, Counted, Shown, ShowsFrame}
 use Rattle.event_floor.proofs.machine.Basics.{same_slot_eq, same_slot_self, none_holds}
 use Rattle.event_floor.proofs.machine.Enumerate.{count_map, count_append}

@@ -2,10 +2,12 @@
 use Rattle.std.proofs.Common.{◌≡◌, ℕ, ◌<◌, Bool, true, false, List, get_or, Option, Some, None, option_map, if◌then◌else◌, refl, sym, ap, ◌∙◌, arith, lt_of_le_of_lt, zero-le}
 use Rattle.region_cut.specs.declared.slot.Slot.{Slot}
 use Rattle.event_floor.specs.declared.request.Request.{Request}
-use Rattle.event_floor.specs.machine.State.{State, Place, AtHome, OnLoan, InCache, InBatch, owner_of}
-use Rattle.event_floor.specs.machine.Machine.{Answer}
-use Rattle.event_floor.specs.machine.Kept.{Sound, Fits, digits_of, forwards}
-use Rattle.event_floor.specs.machine.Listing.{CacheOf, BatchOf, named, Listing, Entry, desk_listing, inbox_listing, Counted, Shown, AppliesAll, is_kept, start_count, Headline}
+use Rattle.event_floor.specs.machine.State.{State, Place, AtHome, OnLoan, InCache, InBatch, owner_of, digits_of}
+use Rattle.event_floor.specs.machine.Steps.{Answer}
+use Rattle.event_floor.specs.machine.Forwards.{forwards}
+use Rattle.event_floor.specs.machine.Sound.{Sound, Fits}
+use Rattle.event_floor.specs.machine.Listing.{CacheOf, BatchOf, named, Listing, Entry, desk_listing, inbox_listing, Counted, Shown}
+use Rattle.event_floor.specs.machine.Headline.{AppliesAll, is_kept, start_count, Headline}
 use Rattle.event_floor.proofs.machine.FreeStep.{named_there, seen_counts, batch_counts, inbox_counts}
 use Rattle.event_floor.proofs.machine.Joined.{shown_once}
 use Rattle.std.proofs.Common.{le_trans, lt_of_lt_of_le}

@@ -3,10 +3,10 @@ use Rattle.std.proofs.Common.{◌≡◌, ℕ, Bool, true, false, ◌&&◌, ◌==
 use Rattle.std.proofs.lemmas.Bool.{false≢true}
 use Rattle.std.proofs.lemmas.List.Sorted.{sum_by-IsPermutation}
 use Rattle.region_cut.specs.declared.slot.Slot.{Slot}
-use Rattle.event_floor.specs.machine.State.{State, Place, AtHome, OnLoan, InCache, InBatch, same_slot, is_cached, owner_of, slot_size, slots, near, cached_by, cached_bytes}
-use Rattle.event_floor.specs.machine.Machine.{relocate, move_one, after_send}
-use Rattle.event_floor.specs.machine.Kept.{Sound}
-use Rattle.event_floor.specs.machine.Audit.{times, one_if}
+use Rattle.event_floor.specs.machine.Slots.{same_slot, times, one_if}
+use Rattle.event_floor.specs.machine.State.{State, Place, AtHome, OnLoan, InCache, InBatch, is_cached, owner_of, slot_size, slots, near, cached_by, cached_bytes}
+use Rattle.event_floor.specs.machine.Steps.{relocate, move_one, after_send}
+use Rattle.event_floor.specs.machine.Sound.{Sound}
 use Rattle.event_floor.specs.machine.Listing.{Named, HomeOf, Loans, CacheOf, BatchOf, same_list, named, named_of, is_list}
 use Rattle.event_floor.proofs.machine.Basics.{same_slot_eq}
 use Rattle.event_floor.proofs.machine.Moves.{same_list_self, SomeMove, some_moved, one_moves}

@@ -2,10 +2,11 @@
 use Rattle.std.proofs.Common.{◌≡◌, ℕ, zero, suc, ◌+◌, ◌<◌, ◌≤◌, Bool, true, false, ◌==◌, List, [], ◌∷◌, ◌++◌, length, get_or, flat_map, Option, Some, None, is_some, option_map, if◌then◌else◌, refl, sym, ap, ap₂, ◌∙◌, subst, arith, le_trans}
 use Rattle.std.proofs.lemmas.Bool.{eqb-true, eqb-false, eq-eqb, ne_eqb}
 use Rattle.region_cut.specs.declared.slot.Slot.{Slot}
-use Rattle.event_floor.specs.machine.State.{State, Place, AtHome, OnLoan, InCache, InBatch, same_slot, owner_of}
-use Rattle.event_floor.specs.machine.Kept.{is_slot, Fits}
-use Rattle.event_floor.specs.machine.Audit.{times, one_if, ExactlyOnce}
-use Rattle.event_floor.specs.machine.Listing.{Named, HomeOf, Loans, CacheOf, BatchOf, named, named_of, is_list, list_named, slots_seen, if_numbered, Listing, DeskListing, BatchListing, empty_desk, Shown, joined}
+use Rattle.event_floor.specs.machine.Slots.{same_slot, times, one_if, ExactlyOnce}
+use Rattle.event_floor.specs.machine.State.{State, Place, AtHome, OnLoan, InCache, InBatch, owner_of, is_slot}
+use Rattle.event_floor.specs.machine.Sound.{Fits}
+use Rattle.event_floor.specs.machine.Listing.{Named, HomeOf, Loans, CacheOf, BatchOf, named, named_of, is_list, list_named, slots_seen, if_numbered, Listing, DeskListing, BatchListing, empty_desk, Shown}
+use Rattle.event_floor.specs.machine.Headline.{joined}
 use Rattle.event_floor.proofs.machine.Enumerate.{count_append}
 use Rattle.event_floor.proofs.machine.FreeStep.{batch_counts, inbox_counts}
 

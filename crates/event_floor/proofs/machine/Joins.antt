@@ -3,9 +3,10 @@ use Rattle.std.proofs.Common.{◌≡◌, ℕ, List, [], ◌∷◌, ◌++◌, ref
 use Rattle.region_cut.specs.declared.slot.Slot.{Slot}
 use Rattle.event_floor.specs.declared.request.Request.{Request}
 use Rattle.event_floor.specs.machine.State.{State}
-use Rattle.event_floor.specs.machine.Machine.{Answer, Answers, Run, after}
-use Rattle.event_floor.specs.machine.Kept.{counted, forwards}
-use Rattle.event_floor.specs.machine.Listing.{Listing, Shown, Applies, AppliesAll}
+use Rattle.event_floor.specs.machine.Steps.{Answer, Answers, Run, after}
+use Rattle.event_floor.specs.machine.Forwards.{counted, forwards}
+use Rattle.event_floor.specs.machine.Listing.{Listing, Shown}
+use Rattle.event_floor.specs.machine.Headline.{Applies, AppliesAll}
 
 pub applies_none : (v : Listing) → AppliesAll v [] [] v
 applies_none v st count h = (st, refl, h)

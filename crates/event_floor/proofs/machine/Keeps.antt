@@ -7,10 +7,13 @@ use Rattle.event_floor.specs.declared.request.Request.{Request}
 use Rattle.event_floor.specs.declared.request.Request.TheVariants.{Adopt, Retire, Claim, Alloc, Free, Send, Link, Take}
 use Rattle.event_floor.specs.declared.reply.Reply.TheVariants.{Chunk, Slot as Lent}
 use Rattle.region_cut.specs.Classes.{slots_of}
-use Rattle.event_floor.specs.machine.State.{Place, AtHome, OnLoan, InCache, InBatch, Waiting, State, same_slot, is_home, is_lent, is_cached, is_posted, owner_or, owner_of, class_of, slots, near, home_with, cached_by, in_bucket, inbox}
+use Rattle.event_floor.specs.machine.Slots.{same_slot, has_index}
+use Rattle.event_floor.specs.machine.State.{Place, AtHome, OnLoan, InCache, InBatch, Waiting, State, is_home, is_lent, is_cached, is_posted, owner_or, owner_of, class_of, slots, near, home_with, cached_by, in_bucket, inbox, digits_of}
+use Rattle.event_floor.specs.machine.Refusals.{refusal, no_desk, slot_at, front_ready}
+use Rattle.event_floor.specs.machine.Steps.{Answer, relocate, move_one, move_bucket, move_batch, freed_place, with_holder, with_chunk, link_one, front_of, after_send, after_take, after_free, after, Answers, Run}
+use Rattle.event_floor.specs.machine.Forwards.{counted, forwards}
+use Rattle.event_floor.specs.machine.Sound.{Member, GoesNearer, FitsIn, Fits, FitsWaiting, Rising, Sound}
 use Rattle.event_floor.specs.declared.chunks.Drawn.{Drawn}
-use Rattle.event_floor.specs.machine.Machine.{Answer, refusal, no_desk, slot_at, relocate, move_one, move_bucket, move_batch, freed_place, with_holder, with_chunk, link_one, front_of, front_ready, after_send, after_take, after_free, after, Answers, Run}
-use Rattle.event_floor.specs.machine.Kept.{counted, forwards, Member, digits_of, has_index, GoesNearer, FitsIn, Fits, FitsWaiting, Rising, Sound}
 use Rattle.event_floor.proofs.machine.Basics.{same_slot_eq, none_holds, Member-append_left, Member_last, Member-push_cases, Member-filter, filter_member, Member-map, map_member, FrontOf, front_is, link_keeps, any_witness}
 use Rattle.event_floor.proofs.machine.DigitLaws.{owners_below, nearer}
 

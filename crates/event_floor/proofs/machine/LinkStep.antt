@@ -5,11 +5,12 @@ use Rattle.std.proofs.lemmas.List.Elements.{All-set}
 use Rattle.region_cut.specs.declared.slot.Slot.{Slot}
 use Rattle.event_floor.specs.declared.request.Request.TheVariants.{Link}
 use Rattle.event_floor.specs.declared.reply.Reply.TheVariants.{Done}
+use Rattle.event_floor.specs.machine.Slots.{times}
 use Rattle.event_floor.specs.machine.State.{State, Waiting, inbox}
-use Rattle.event_floor.specs.machine.Machine.{link_one}
-use Rattle.event_floor.specs.machine.Kept.{Member, Rising}
-use Rattle.event_floor.specs.machine.Audit.{times}
-use Rattle.event_floor.specs.machine.Listing.{Named, HomeOf, Loans, CacheOf, BatchOf, list_named, if_numbered, Listing, BatchListing, inbox_listing, as_waiting, Counted, Shown, Applies}
+use Rattle.event_floor.specs.machine.Steps.{link_one}
+use Rattle.event_floor.specs.machine.Sound.{Member, Rising}
+use Rattle.event_floor.specs.machine.Listing.{Named, HomeOf, Loans, CacheOf, BatchOf, list_named, if_numbered, Listing, BatchListing, inbox_listing, as_waiting, Counted, Shown}
+use Rattle.event_floor.specs.machine.Headline.{Applies}
 use Rattle.event_floor.proofs.machine.Basics.{filter_member, link_keeps}
 use Rattle.event_floor.proofs.machine.Keeps.{link_sound, Rising-filter}
 use Rattle.event_floor.proofs.machine.Refusals.{refusal_seen, refusal_agrees}

@@ -3,9 +3,9 @@ use Rattle.std.proofs.Common.{◌≡◌, ℕ, ◌+◌, ◌<◌, Bool, true, fals
 use Rattle.std.proofs.lemmas.Bool.{false≢true}
 use Rattle.std.proofs.lemmas.List.Sorted.{IsPermutation-refl, IsPermutation-sym, IsPermutation-cons, IsPermutation-trans, IsPermutation-middle}
 use Rattle.region_cut.specs.declared.slot.Slot.{Slot}
-use Rattle.event_floor.specs.machine.State.{State, same_slot, slots}
-use Rattle.event_floor.specs.machine.Kept.{is_slot, Sound}
-use Rattle.event_floor.specs.machine.Audit.{times, one_if}
+use Rattle.event_floor.specs.machine.Slots.{same_slot, times, one_if}
+use Rattle.event_floor.specs.machine.State.{State, slots, is_slot}
+use Rattle.event_floor.specs.machine.Sound.{Sound}
 use Rattle.event_floor.proofs.machine.Basics.{same_slot_eq, same_slot_self}
 use Rattle.event_floor.proofs.machine.Enumerate.{count_cons, count_append, slots_once}
 

@@ -3,8 +3,7 @@ use Rattle.std.proofs.Common.{◌≡◌, ℕ, ◌+◌, Bool, true, false, ◌&&�
 use Rattle.std.proofs.lemmas.Bool.{eqb-true, eq-eqb, false≢true, true≢false}
 use Rattle.std.proofs.lemmas.List.Sorted.{sum_by_pushed}
 use Rattle.region_cut.specs.declared.slot.Slot.{Slot}
-use Rattle.event_floor.specs.machine.State.{same_slot}
-use Rattle.event_floor.specs.machine.Audit.{times, one_if}
+use Rattle.event_floor.specs.machine.Slots.{same_slot, times, one_if}
 use Rattle.event_floor.specs.machine.Listing.{Named, HomeOf, Loans, CacheOf, BatchOf, same_list, is_list}
 use Rattle.event_floor.proofs.machine.Basics.{same_slot_eq, same_slot_self}
 

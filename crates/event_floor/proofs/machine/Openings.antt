@@ -4,7 +4,7 @@ use Rattle.std.proofs.lemmas.Nat.{le-div}
 use Rattle.std.proofs.lemmas.Bool.{true≢false}
 use Rattle.digit_route.specs.Digits.{Scheme, IsScheme, count}
 use Rattle.event_floor.specs.machine.State.{opening}
-use Rattle.event_floor.specs.machine.Kept.{Sound}
+use Rattle.event_floor.specs.machine.Sound.{Sound}
 
 -- a number has a digit
 some_digit : (s : Scheme) → IsScheme s → 0 < count s

@@ -5,9 +5,9 @@ use Rattle.std.proofs.lemmas.Bool.{false≢true, eqb-true, eq-eqb, eqb-false, ne
 use Rattle.std.proofs.lemmas.List.Elements.{All-head, All-tail}
 use Rattle.std.proofs.lemmas.List.Sorted.{list_any-IsPermutation}
 use Rattle.region_cut.specs.declared.slot.Slot.{Slot}
+use Rattle.event_floor.specs.machine.Slots.{times, one_if}
 use Rattle.event_floor.specs.machine.State.{State, Place, AtHome, OnLoan, InCache, InBatch, owner_of, class_of, slots, home_with, is_home, is_lent}
-use Rattle.event_floor.specs.machine.Kept.{Sound}
-use Rattle.event_floor.specs.machine.Audit.{times, one_if}
+use Rattle.event_floor.specs.machine.Sound.{Sound}
 use Rattle.event_floor.specs.machine.Listing.{Named, HomeOf, Loans, named, named_of, is_list, slots_seen, Entry}
 use Rattle.event_floor.proofs.machine.Listed.{listed}
 

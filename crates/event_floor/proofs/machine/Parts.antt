@@ -4,10 +4,10 @@ use Rattle.std.proofs.lemmas.Bool.{false≢true, true≢false, and_parts}
 use Rattle.std.proofs.lemmas.List.Elements.{All-head, All-tail}
 use Rattle.std.proofs.lemmas.List.Sorted.{length_permutation}
 use Rattle.region_cut.specs.declared.slot.Slot.{Slot}
-use Rattle.event_floor.specs.machine.State.{State, Place, same_slot, owner_of, slots, near, in_bucket, bucket, opening}
-use Rattle.event_floor.specs.machine.Kept.{is_slot, Sound}
-use Rattle.event_floor.specs.machine.Audit.{times, one_if}
-use Rattle.event_floor.specs.machine.Listing.{Named, HomeOf, Loans, CacheOf, BatchOf, named, named_of, is_list, list_named, slots_seen, Listing, DeskListing, Entry, BatchListing, desk_listing, empty_desk, Shown}
+use Rattle.event_floor.specs.machine.Slots.{same_slot, times, one_if}
+use Rattle.event_floor.specs.machine.State.{State, Place, owner_of, slots, near, in_bucket, bucket, opening, is_slot, class_of, slot_size, cached_bytes}
+use Rattle.event_floor.specs.machine.Sound.{Sound}
+use Rattle.event_floor.specs.machine.Listing.{Named, HomeOf, Loans, CacheOf, BatchOf, named, named_of, is_list, list_named, slots_seen, Listing, DeskListing, Entry, BatchListing, desk_listing, empty_desk, Shown, if_numbered, as_waiting, Labelled, Counted}
 use Rattle.event_floor.proofs.machine.Basics.{same_slot_eq}
 use Rattle.event_floor.proofs.machine.Enumerate.{count_cons}
 use Rattle.event_floor.proofs.machine.Listed.{listed}
@@ -18,8 +18,6 @@ use Rattle.std.proofs.lemmas.List.Sums.{sum_by-cons}
 use Rattle.std.proofs.lemmas.List.{length-replicate}
 use Rattle.digit_route.specs.Digits.{Scheme, IsScheme}
 use Rattle.region_cut.specs.Classes.{size_of}
-use Rattle.event_floor.specs.machine.State.{class_of, slot_size, cached_bytes}
-use Rattle.event_floor.specs.machine.Listing.{if_numbered, as_waiting, Labelled, Counted}
 use Rattle.event_floor.proofs.machine.InPlace.{bytes_listed}
 
 OwnerSaid : State → Entry → Type 0
@@ -119,7 +117,8 @@ abbrev pub opened : (desks chunks : ℕ) → Scheme → (limit : ℕ) → Listin
 opened desks chunks digits limit = record {
   digits = digits;
   limit = limit;
-  drawn = replicate chunks None;
+  chunks = chunks;
+  drawn = [];
   desks = replicate desks empty_desk;
   lent = [];
   inboxes = replicate desks [];
@@ -145,8 +144,8 @@ opening_shown desks chunks digits limit i l = record {
     next = refl;
     desks = length-replicate desks empty_desk;
     posts = length-replicate desks [];
-    chunks = length-replicate chunks None;
-    drawn = λ k. same_read chunks None k;
+    chunks = refl;
+    drawn = λ k. refl;
     holder = λ a. ap (λ (d : DeskListing). d.worker) (same_read desks empty_desk a);
     inboxes = λ b. ap (map as_waiting) (same_read desks [] b);
   };

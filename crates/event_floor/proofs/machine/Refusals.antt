@@ -1,22 +1,23 @@
 -- The refusals of a request, read off the floor's lists.
 use Rattle.std.proofs.Common.{◌≡◌, ℕ, zero, suc, ◌+◌, ◌^◌, ◌<◌, Bool, true, false, ◌&&◌, ◌||◌, not, ◌==◌, nat_lt, nat_le, cond, List, [], ◌∷◌, map, length, filter, get_or, Option, Some, None, Err, is_some, is_none, refl, sym, ap, ap₂, ◌∙◌, subst, arith, inl, inr}
 use Rattle.std.specs.List.{list_any, list_all, range_with_len}
-use Rattle.std.proofs.lemmas.Bool.{false≢true, true≢false, eq-eqb}
+use Rattle.std.proofs.Common.{◌≤◌, zero-le, zero-add, slice_get}
+use Rattle.std.proofs.lemmas.Bool.Decides.{nat_tests}
+use Rattle.std.proofs.lemmas.Bool.{lt-ltb, cases_lt, le-ltb, false≢true, true≢false, eq-eqb}
 use Rattle.region_cut.specs.declared.slot.Slot.{Slot}
 use Rattle.event_floor.specs.declared.request.Request.{Request}
 use Rattle.event_floor.specs.declared.request.Request.TheVariants.{Adopt, Retire, Claim, Alloc, Free, Send, Link, Take}
 use Rattle.event_floor.specs.declared.refusal.Refusal.{Refusal}
 use Rattle.event_floor.specs.declared.refusal.Refusal.TheVariants.{NoDesk, Idle, TooLarge, NeedChunk, NotNeeded, NoChunk, NotLent, NothingFor, NotAnOwner, ToSelf, NoBatch, Nothing, Unsettled, Held, NoMemory, BadClass, Spent}
 use Rattle.region_cut.specs.Classes.{classes_of, largest_of}
-use Rattle.event_floor.specs.machine.State.{profile_at, least_class}
+use Rattle.event_floor.specs.machine.Slots.{same_slot, times, one_if}
+use Rattle.event_floor.specs.machine.State.{profile_at, least_class, State, Waiting, owner_of, class_of, slots, near, home_with, has_home, cached_by, in_bucket, inbox, is_lent}
+use Rattle.event_floor.specs.machine.Refusals.{first, conditions, refusal, no_desk, is_idle, is_half, front_ready, slot_at, may_grow}
+use Rattle.event_floor.specs.machine.Sound.{Member}
+use Rattle.event_floor.specs.machine.Listing.{Listing, Entry, BatchListing, HomeOf, Loans, CacheOf, named_of, is_list, slots_seen, desk_listing, inbox_listing, as_waiting, Shown}
+use Rattle.event_floor.specs.machine.Headline.{Applies}
 use Rattle.digit_route.specs.Digits.{Scheme, common}
 use Rattle.digit_route.specs.Profiles.{profile_of}
-use Rattle.event_floor.specs.machine.State.{State, Waiting, same_slot, owner_of, class_of, slots, near, home_with, has_home, cached_by, in_bucket, inbox, is_lent}
-use Rattle.event_floor.specs.declared.chunks.Drawn.{Drawn}
-use Rattle.event_floor.specs.machine.Machine.{first, conditions, refusal, no_desk, is_idle, is_half, front_ready, slot_at, may_grow}
-use Rattle.event_floor.specs.machine.Kept.{Member}
-use Rattle.event_floor.specs.machine.Audit.{times, one_if}
-use Rattle.event_floor.specs.machine.Listing.{Listing, Entry, BatchListing, HomeOf, Loans, CacheOf, named_of, is_list, slots_seen, desk_listing, inbox_listing, as_waiting, Shown, Applies}
 use Rattle.event_floor.proofs.machine.Basics.{Member-filter}
 use Rattle.event_floor.proofs.machine.Enumerate.{count_cons}
 use Rattle.event_floor.proofs.machine.InPlace.{in_cache_is}
@@ -37,7 +38,7 @@ conditions_seen v (Retire a) =
     ∷ (list_any (λ (e : Entry). true) (desk_listing v a).cache || any_posted (λ w. (a == w.sender) && not w.linked) v.inboxes, Unsettled) ∷ []
 conditions_seen v (Claim a c) =
     (nat_le (length v.desks) a, NoDesk) ∷ (is_none (desk_listing v a).worker, Idle) ∷ (nat_le (classes_of (profile_of v.digits.bits)) c, BadClass)
-    ∷ (list_any (λ (e : Entry). e.class == c) (desk_listing v a).home, NotNeeded) ∷ (list_all is_some v.drawn, NoChunk) ∷ []
+    ∷ (list_any (λ (e : Entry). e.class == c) (desk_listing v a).home, NotNeeded) ∷ (nat_le v.chunks (length v.drawn), NoChunk) ∷ []
 conditions_seen v (Alloc a n) =
     (nat_le (length v.desks) a, NoDesk) ∷ (is_none (desk_listing v a).worker, Idle) ∷ (nat_lt (largest_of (profile_of v.digits.bits)) n, TooLarge)
     ∷ (not (list_any (λ (e : Entry). e.class == least_class (profile_of v.digits.bits) n) (desk_listing v a).home), NeedChunk) ∷ []
@@ -161,18 +162,24 @@ lent_any v st count h s = go (is_lent (st.place s)) (sym (lent_named (owner_of s
 
 -- ---- chunks
 
-all_same : (f : ℕ → Option Drawn) (xs : List (Option Drawn)) (a : ℕ) → ((k : ℕ) → get_or xs k None ≡ f (a + k)) →
-    list_all (λ k. is_some (f k)) (range_with_len a (length xs)) ≡ list_all is_some xs
-all_same f [] a e = refl
-all_same f (x ∷ xs) a e =
-    ap₂ ◌&&◌ (ap is_some (ap f (omega arith) ∙ sym (e zero)))
-    (all_same f xs (a + 1) (λ k. e (suc k) ∙ ap f (omega arith)))
+some_below : {A : Type 0} (xs : List A) (k : ℕ) → is_some (slice_get xs k) ≡ nat_lt k (length xs)
+some_below [] k = grind (arith, nat_tests)
+some_below (x ∷ xs) zero = sym (lt-ltb zero (length (x ∷ xs)) (omega arith))
+some_below (x ∷ xs) (suc k) = some_below xs k ∙ grind (arith, nat_tests)
+
+all_below : (n m a : ℕ) → a ≤ n → list_all (λ k. nat_lt k n) (range_with_len a m) ≡ nat_le (a + m) n
+all_below n zero a l = grind (arith, nat_tests)
+all_below n (suc m) a l = elim (cases_lt a n) as (λ _. list_all (λ k. nat_lt k n) (range_with_len a (suc m)) ≡ nat_le (a + suc m) n) [
+  | inl p ↦ ap (λ b. b && list_all (λ k. nat_lt k n) (range_with_len (a + 1) m)) (lt-ltb a n p)
+      ∙ (all_below n m (a + 1) (omega arith) ∙ ap (λ k. nat_le k n) (omega arith))
+  | inr p ↦ ap (λ b. b && list_all (λ k. nat_lt k n) (range_with_len (a + 1) m)) (le-ltb a n p) ∙ grind (arith, nat_tests)
+]
 
 pub drawn_all : (v : Listing) (st : State) (count : Slot → ℕ) → Shown v st count →
-    list_all (λ k. is_some (st.drawn k)) (range_with_len 0 st.chunks) ≡ list_all is_some v.drawn
+    list_all (λ k. is_some (st.drawn k)) (range_with_len 0 st.chunks) ≡ nat_le v.chunks (length v.drawn)
 drawn_all v st count h =
-    ap (λ n. list_all (λ k. is_some (st.drawn k)) (range_with_len 0 n)) (sym h.frame.chunks)
-    ∙ all_same st.drawn v.drawn 0 (λ k. h.frame.drawn k ∙ ap st.drawn (omega arith))
+    ap₂ (λ n (f : ℕ → Bool). list_all f (range_with_len 0 n)) (sym h.frame.chunks) (λ i k. (ap is_some (sym (h.frame.drawn k)) ∙ some_below v.drawn k) i)
+    ∙ (all_below (length v.drawn) v.chunks 0 zero-le ∙ ap (λ n. nat_le n (length v.drawn)) (zero-add v.chunks))
 
 -- ---- the conditions
 

@@ -6,9 +6,10 @@ use Rattle.std.proofs.lemmas.List.{map-append}
 use Rattle.std.proofs.lemmas.List.Sorted.{All-permutation, sum_by-IsPermutation, IsPermutation-map}
 use Rattle.region_cut.specs.declared.slot.Slot.{Slot}
 use Rattle.event_floor.specs.declared.request.Request.TheVariants.{Send}
-use Rattle.event_floor.specs.machine.State.{State, Waiting, same_slot, owner_of, near, inbox}
-use Rattle.event_floor.specs.machine.Machine.{refusal, after_send}
-use Rattle.event_floor.specs.machine.Audit.{times}
+use Rattle.event_floor.specs.machine.Slots.{same_slot, times}
+use Rattle.event_floor.specs.machine.State.{State, Waiting, owner_of, near, inbox}
+use Rattle.event_floor.specs.machine.Refusals.{refusal}
+use Rattle.event_floor.specs.machine.Steps.{after_send}
 use Rattle.event_floor.specs.machine.Listing.{Named, HomeOf, Loans, CacheOf, BatchOf, same_list, list_named, slots_seen, if_numbered, Listing, DeskListing, Entry, BatchListing, desk_listing, inbox_listing, as_waiting, Labelled, Counted, Shown}
 use Rattle.event_floor.proofs.machine.Enumerate.{count_append}
 use Rattle.event_floor.proofs.machine.Moves.{SomeMove}

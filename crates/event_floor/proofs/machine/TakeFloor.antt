@@ -7,11 +7,13 @@ use Rattle.std.proofs.lemmas.List.Sorted.{All-permutation}
 use Rattle.region_cut.specs.declared.slot.Slot.{Slot}
 use Rattle.event_floor.specs.declared.request.Request.TheVariants.{Take}
 use Rattle.event_floor.specs.declared.reply.Reply.TheVariants.{Counts}
-use Rattle.event_floor.specs.machine.State.{State, Waiting, Place, AtHome, OnLoan, InCache, InBatch, same_slot, is_posted, owner_of, slots, slots_of_batch, inbox}
-use Rattle.event_floor.specs.machine.Machine.{refusal, after_take, front_of, front_number}
-use Rattle.event_floor.specs.machine.Kept.{Member, Rising}
-use Rattle.event_floor.specs.machine.Audit.{times}
-use Rattle.event_floor.specs.machine.Listing.{Named, HomeOf, Loans, CacheOf, BatchOf, same_list, named, named_of, is_list, list_named, slots_seen, if_numbered, Listing, DeskListing, Entry, BatchListing, desk_listing, inbox_listing, as_waiting, Labelled, Counted, Shown, Applies}
+use Rattle.event_floor.specs.machine.Slots.{same_slot, times}
+use Rattle.event_floor.specs.machine.State.{State, Waiting, Place, AtHome, OnLoan, InCache, InBatch, is_posted, owner_of, slots, slots_of_batch, inbox}
+use Rattle.event_floor.specs.machine.Refusals.{refusal}
+use Rattle.event_floor.specs.machine.Steps.{after_take, front_of, front_number}
+use Rattle.event_floor.specs.machine.Sound.{Member, Rising}
+use Rattle.event_floor.specs.machine.Listing.{Named, HomeOf, Loans, CacheOf, BatchOf, same_list, named, named_of, is_list, list_named, slots_seen, if_numbered, Listing, DeskListing, Entry, BatchListing, desk_listing, inbox_listing, as_waiting, Labelled, Counted, Shown}
+use Rattle.event_floor.specs.machine.Headline.{Applies}
 use Rattle.event_floor.proofs.machine.Basics.{none_holds, filter_member}
 use Rattle.event_floor.proofs.machine.Enumerate.{count_append}
 use Rattle.event_floor.proofs.machine.FloorSteps.{with_desk, desk_here, desk_other, desk_keeps}

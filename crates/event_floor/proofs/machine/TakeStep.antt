@@ -2,9 +2,9 @@
 use Rattle.std.proofs.Common.{◌≡◌, ℕ, ◌+◌, Bool, true, false, ◌&&◌, ◌==◌, cond, Option, Some, None, option_map, if◌then◌else◌, refl, sym, ap, ap₂, ◌∙◌, subst}
 use Rattle.std.proofs.lemmas.Bool.{eqb-true, eq-eqb, true≢false}
 use Rattle.region_cut.specs.declared.slot.Slot.{Slot}
+use Rattle.event_floor.specs.machine.Slots.{one_if}
 use Rattle.event_floor.specs.machine.State.{State, Place, AtHome, OnLoan, InCache, InBatch, is_posted, owner_of}
-use Rattle.event_floor.specs.machine.Machine.{after_take, front_of}
-use Rattle.event_floor.specs.machine.Audit.{one_if}
+use Rattle.event_floor.specs.machine.Steps.{after_take, front_of}
 use Rattle.event_floor.specs.machine.Listing.{Named, HomeOf, Loans, CacheOf, BatchOf, same_list, named, named_of, is_list}
 use Rattle.event_floor.proofs.machine.Moves.{SomeMove, some_moved, same_list_eq}
 
