@@ -1,5 +1,8 @@
 pub mod ChunkLaws
 pub mod FloorLaws
+pub mod PostLaws
+pub mod RunLaws
 pub mod SeatLaws
 pub mod machine
 pub mod headline
+pub mod StepLaws
