@@ -16,8 +16,9 @@ use Rattle.event_floor.specs.declared.request.Request.TheVariants.{Claim}
 use Rattle.event_floor.specs.declared.reply.Reply.TheVariants.{Chunk}
 use Rattle.event_floor.specs.Floors.{FloorSeen, with_desk, IsHeld}
 use Rattle.event_floor.specs.Steps.{DrawsChunk}
-use Rattle.event_floor.specs.machine.Listing.{Entry, DeskListing, Listing, desk_listing, Applies}
-use Rattle.event_floor.specs.headline.Listing.{entry_of, entry_at, desk_of, all_chunks, listing_of}
+use Rattle.event_floor.specs.machine.Listing.{Entry, DeskListing, Listing, desk_listing}
+use Rattle.event_floor.specs.machine.Headline.{Applies}
+use Rattle.event_floor.specs.headline.Listing.{entry_of, entry_at, desk_of, listing_of}
 use Rattle.event_floor.specs.headline.Whole.{IsWhole}
 use Rattle.event_floor.proofs.machine.ClaimStep.{ClaimEdits, after_claim, chunk_buffer, chunk_buffers, claim_applies}
 use Rattle.event_floor.proofs.headline.Views.{held_seen, with_seat_seen}
@@ -28,38 +29,6 @@ use Rattle.event_floor.proofs.headline.Holders.{numbered_held}
 unused_seen : (a k c : ℕ) (g : GName) (n i : ℕ) (bs : List ℕ) → map (entry_at a) (unused_from k c g n i bs) ≡ map (chunk_buffer k a c) (range_with_len i n)
 unused_seen a k c g zero i bs = refl
 unused_seen a k c g (suc n) i bs = ap (λ l. chunk_buffer k a c i ∷ l) (unused_seen a k c g n (i + 1) (drop (size_of c) bs))
-
--- ---- the chunks, with the next one drawn
-
-next_set : (drawn : List Drawn) (d : Drawn) (n : ℕ)
-    → map (λ (x : Drawn). Some x) (drawn ++ d ∷ []) ++ replicate n None ≡ set (map (λ (x : Drawn). Some x) drawn ++ replicate (suc n) None) (length drawn) (Some d)
-next_set [] d n = refl
-next_set (x ∷ drawn) d n = ap (λ l. Some x ∷ l) (next_set drawn d n)
-
-next_none : (drawn : List Drawn) (n : ℕ) → get_or (map (λ (x : Drawn). Some x) drawn ++ replicate (suc n) None) (length drawn) None ≡ None
-next_none [] n = refl
-next_none (x ∷ drawn) n = next_none drawn n
-
-left_is : (drawn : List Drawn) (count : ℕ) → length drawn < count → count - length drawn ≡ suc (count - length drawn - 1)
-left_is drawn count l = omega (arith, l)
-
-pub draw_chunks : (count : ℕ) (drawn : List Drawn) (d : Drawn) → length drawn < count
-    → all_chunks count (drawn ++ d ∷ []) ≡ set (all_chunks count drawn) (length drawn) (Some d)
-draw_chunks count drawn d l =
-    let m = count - length drawn - 1 in
-    let e : count - length (drawn ++ d ∷ []) ≡ m = let n = length_push drawn d in omega (arith, l, n) in
-    ap (λ n. map (λ (x : Drawn). Some x) (drawn ++ d ∷ []) ++ replicate n None) e
-    ∙ (next_set drawn d m
-    ∙ ap (λ n. set (map (λ (x : Drawn). Some x) drawn ++ replicate n None) (length drawn) (Some d)) (sym (left_is drawn count l)))
-
-pub next_undrawn : (count : ℕ) (drawn : List Drawn) → length drawn < count → get_or (all_chunks count drawn) (length drawn) None ≡ None
-next_undrawn count drawn l =
-    ap (λ n. get_or (map (λ (x : Drawn). Some x) drawn ++ replicate n None) (length drawn) None) (left_is drawn count l) ∙ next_none drawn (count - length drawn - 1)
-
-pub chunks_length : (count : ℕ) (drawn : List Drawn) → length drawn ≤ count → length (all_chunks count drawn) ≡ count
-chunks_length count drawn l =
-    length-append (map (λ (x : Drawn). Some x) drawn) (replicate (count - length drawn) None)
-    ∙ (ap₂ ◌+◌ (length-map drawn (λ (x : Drawn). Some x)) (length-replicate (count - length drawn) None) ∙ omega (arith, l))
 
 -- ---- Claim
 
@@ -81,8 +50,8 @@ claim_done v w a c k f s =
             ∙ ap (λ xs. xs ++ map (entry_at a) d.home) (unused_seen a k c s.part.bytes.ghost_name (slots_of c) 0 s.part.bytes.now))
             (IsPermutation-map (entry_at a) _ _ slots) in
     let edits : ClaimEdits l a c k new = record {
-      below = subst (λ n. k < n) (sym (chunks_length v.chunks v.drawn (omega (arith, left)))) s.undrawn;
-      undrawn = ap (λ n. get_or l.drawn n None) s.is_next ∙ next_undrawn v.chunks v.drawn left;
+      next = s.is_next;
+      undrawn = left;
       home = subst (λ xs. IsPermutation (chunk_buffers k a c ++ xs) (map (entry_at d'.number) d'.home)) (ap (λ n. map (entry_at n) d.home) (sym number) ∙ ap (λ (z : DeskListing). z.home) (sym seen))
           (subst (λ n. IsPermutation (chunk_buffers k a c ++ map (entry_at a) d.home) (map (entry_at n) d'.home)) (sym number') home);
       worker = ap (λ (x : DeskState). Some x.worker) s.claims.same ∙ ap (λ (z : DeskListing). z.worker) (sym seen);
@@ -90,7 +59,6 @@ claim_done v w a c k f s =
     } in
     let shown : listing_of w ≡ after_claim l a c k new =
             ap listing_of s.same
-            ∙ ap₂ (λ xs ys. record l { desks = xs; drawn = ys }) (with_seat_seen v a (HeldSeat d'))
-            (draw_chunks v.chunks v.drawn (record { owner = a; class = c }) left ∙ ap (λ n. set l.drawn n (Some (record { owner = a; class = c }))) (sym s.is_next)) in
+            ∙ ap (λ xs. record l { desks = xs; drawn = v.drawn ++ record { owner = a; class = c } ∷ [] }) (with_seat_seen v a (HeldSeat d')) in
     subst (λ z. Applies l (Claim a c) (Ok (Chunk k)) z) (sym shown)
     (claim_applies l a c k new (claim_accepted v a c d s.held s.is_class s.claims.needed left) edits)

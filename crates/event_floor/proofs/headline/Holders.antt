@@ -12,8 +12,9 @@ use Rattle.event_floor.specs.declared.refusal.Refusal.TheVariants.{NoDesk, Held,
 use Rattle.event_floor.specs.Seats.{adopted, retired, IsNumbered}
 use Rattle.event_floor.specs.Floors.{FloorSeen, desk_at, desk_count, no_desk, with_seat, with_desk, IsIdle, IsHeld, IsFloor}
 use Rattle.event_floor.specs.Steps.{Does, LacksHalfOf}
-use Rattle.event_floor.specs.machine.Machine.{Answer}
-use Rattle.event_floor.specs.machine.Listing.{Entry, DeskListing, Listing, desk_listing, Applies}
+use Rattle.event_floor.specs.machine.Steps.{Answer}
+use Rattle.event_floor.specs.machine.Listing.{Entry, DeskListing, Listing, desk_listing}
+use Rattle.event_floor.specs.machine.Headline.{Applies}
 use Rattle.event_floor.specs.headline.Listing.{entry_of, entry_at, desk_of, listing_of}
 use Rattle.event_floor.specs.headline.Whole.{IsWhole}
 use Rattle.event_floor.proofs.machine.Refusals.{refusal_seen, any_posted}

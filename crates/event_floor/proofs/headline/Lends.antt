@@ -29,8 +29,9 @@ use Rattle.event_floor.specs.Lent.{place_of, lent_at, AreInPlace}
 use Rattle.event_floor.specs.Floors.{FloorSeen, with_desk, IsHeld}
 use Rattle.event_floor.specs.Steps.{LendsSlot, TakesBack}
 use Rattle.event_floor.specs.machine.State.{State, least_class}
-use Rattle.event_floor.specs.machine.Machine.{slot_at as slot_of}
-use Rattle.event_floor.specs.machine.Listing.{Entry, DeskListing, Listing, Named, Loans, HomeOf, named_of, same_list, desk_listing, Shown, Applies}
+use Rattle.event_floor.specs.machine.Refusals.{slot_at as slot_of}
+use Rattle.event_floor.specs.machine.Listing.{Entry, DeskListing, Listing, Named, Loans, HomeOf, named_of, same_list, desk_listing, Shown}
+use Rattle.event_floor.specs.machine.Headline.{Applies}
 use Rattle.event_floor.specs.headline.Listing.{entry_of, entry_at, desk_of, present, listing_of}
 use Rattle.event_floor.specs.headline.Whole.{IsWhole}
 use Rattle.event_floor.proofs.machine.Places.{home_place, lent_place}

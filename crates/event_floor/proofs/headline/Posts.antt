@@ -1,8 +1,9 @@
 -- Batches that are sent, linked and taken.
-use Rattle.std.proofs.Common.{◌≡◌, ◌≢◌, ℕ, zero, suc, ◌+◌, ◌<◌, ◌≤◌, Bool, true, false, not, ◌==◌, List, [], ◌∷◌, ◌++◌, map, filter, length, get_or, set, All, Option, Some, None, Ok, refl, sym, ap, ap₂, ◌∙◌, subst, arith, append-nil, IsPermutation}
+use Rattle.std.proofs.Common.{◌≡◌, ◌≢◌, ℕ, zero, suc, ◌+◌, ◌<◌, ◌≤◌, Bool, true, false, not, ◌==◌, List, [], ◌∷◌, ◌++◌, map, filter, length, get_or, set, All, Option, Some, None, Ok, refl, sym, ap, ap₂, ◌∙◌, subst, arith, append-nil, IsPermutation, le_trans}
 use Rattle.std.proofs.lemmas.Bool.{eq-eqb}
 use Rattle.std.proofs.lemmas.List.{length-map, map-append, map_push, get_or-map}
 use Rattle.std.proofs.lemmas.List.Sorted.{IsPermutation-map, IsPermutation-sym}
+use Rattle.region_cut.specs.declared.slot.Slot.{Slot}
 use Rattle.slot_chain.specs.Buffer.{Buffer}
 use Rattle.slot_chain.specs.Counts.{capped}
 use Rattle.digit_route.specs.Digits.{Scheme}
@@ -20,9 +21,11 @@ use Rattle.event_floor.specs.declared.reply.Reply.TheVariants.{Done, Batch, Coun
 use Rattle.event_floor.specs.Posted.{Posted, inbox_at, sent_as, as_linked, no_batch, IsHalf, SomePosted}
 use Rattle.event_floor.specs.Floors.{FloorSeen, with_desk, with_inbox, IsHeld}
 use Rattle.event_floor.specs.Steps.{SendsBatch, LinksBatch, TakesFront}
-use Rattle.event_floor.specs.machine.State.{State, bucket, slots, slots_of_batch}
-use Rattle.event_floor.specs.machine.Machine.{Answer}
-use Rattle.event_floor.specs.machine.Listing.{Entry, DeskListing, BatchListing, Listing, desk_listing, inbox_listing, Shown, Applies}
+use Rattle.event_floor.specs.machine.State.{State, bucket, in_bucket, slots, slots_of_batch}
+use Rattle.event_floor.specs.machine.Steps.{Answer, Step}
+use Rattle.event_floor.specs.machine.Forwards.{counted as forward_count}
+use Rattle.event_floor.specs.machine.Listing.{Entry, DeskListing, BatchListing, Listing, desk_listing, inbox_listing, Shown}
+use Rattle.event_floor.specs.machine.Headline.{Applies}
 use Rattle.event_floor.specs.headline.Listing.{entry_of, entry_at, desk_of, batch_of, listing_of}
 use Rattle.event_floor.specs.headline.Whole.{IsWhole}
 use Rattle.event_floor.proofs.machine.Refusals.{goes_by}
@@ -30,7 +33,7 @@ use Rattle.event_floor.proofs.machine.SendStep.{new_batch, after_sending}
 use Rattle.event_floor.proofs.machine.LinkStep.{linked, after_link, link_applies}
 use Rattle.event_floor.proofs.machine.TakeFloor.{TakeEdits, passed_on, after_taking, take_applies}
 use Rattle.event_floor.proofs.machine.Applied.{SendMoves, send_applies}
-use Rattle.event_floor.proofs.headline.Lists.{get_or-map_default, set-map, filter-map, filter-permutation, filter-append, filter_kept, filter_gone}
+use Rattle.event_floor.proofs.headline.Lists.{get_or-map_default, set-map, filter-map, filter-permutation, filter-append, filter_kept, filter_gone, get_or_same}
 use Rattle.event_floor.proofs.headline.Bounds.{all_few, filter_few, capped_is}
 use Rattle.event_floor.proofs.headline.Views.{held_seen, with_seat_seen, inbox_seen}
 use Rattle.event_floor.proofs.headline.Refused.{send_accepted, link_accepted, take_accepted, goes_seen, stays_seen}
@@ -42,7 +45,7 @@ inboxes_seen v b ps = set-map (map batch_of) v.inboxes b ps
 
 -- a state of the floor has few chunks
 few_slots : (v : FloorSeen) (st : State) → (count : Slot → ℕ) → IsWhole v → Shown (listing_of v) st count → length (slots st) ≤ 4194304
-few_slots v st count f h = all_few st ?
+few_slots v st count f h = all_few st (subst (λ n. n ≤ 1024) h.frame.chunks f.few_chunks)
 
 -- ---- Send
 
@@ -101,9 +104,45 @@ module _ (v w : FloorSeen) (a t number count : ℕ) (f : IsWhole v) (s : SendsBa
       (map_push batch_of (inbox_at v.inboxes t) (sent_as number s.batch) ∙ ap₂ (λ xs y. xs ++ y ∷ []) (sym (inbox_seen v t)) batch_seen))
       ∙ ap (λ n. record (after_sending (listing_of v) a t sent sender) { next = n }) (omega arith))
 
+  -- what the machine counts, where that is few
+  counted_as : (m n : ℕ) → m ≡ capped (length s.batch.items) → length sent ≡ n → n ≤ 4194304 → length sent ≡ m
+  counted_as m n e g l =
+      let q = length-map s.batch.items entry_of in
+      let k = capped_is (length s.batch.items) (omega (arith, g, l, q)) in
+      q ∙ (sym k ∙ sym e)
+
   pub send_done : Applies (listing_of v) (Send a t) (Ok (Batch number count)) (listing_of w)
   send_done st passes h =
-      let g = send_applies (listing_of v) a t sent sender (?) (send_accepted v a t s.before s.routes s.unspent) sending st passes h in
-      let few : length s.batch.items ≤ 4194304 = ? in
-      let same : count ≡ length sent = s.counted ∙ (capped_is (length s.batch.items) few ∙ sym (length-map s.batch.items entry_of)) in
-      ?
+      let posts : length (listing_of v).inboxes ≡ length (listing_of v).desks =
+              length-map v.inboxes (map batch_of) ∙ (f.floor.boxes ∙ (sym f.floor.count ∙ sym (length-map v.desks desk_of))) in
+      let g = send_applies (listing_of v) a t sent sender posts (send_accepted v a t s.before s.routes s.unspent) sending st passes h in
+      let few = le_trans (filter_few (in_bucket st a t) (slots st)) (few_slots v st passes f h) in
+      let same : length sent ≡ count = counted_as count (length (bucket st a t)) s.counted g.1.0.1.1 few in
+      subst (λ n. StepShown (Batch n count) st passes) (sym s.is_next)
+      (subst (λ n. StepShown (Batch v.next n) st passes) same
+      (subst (λ z. (next : State) × Step st (Send a t) (Ok (Batch v.next (length sent))) next × Shown z next (λ x. forward_count st (Send a t) (Ok (Batch v.next (length sent))) x (passes x)))
+      (sym sent_shown) g))
+    where
+      StepShown : Reply → (st : State) → (Slot → ℕ) → Type 0
+      StepShown y st passes = (next : State) × Step st (Send a t) (Ok y) next × Shown (listing_of w) next (λ x. forward_count st (Send a t) (Ok y) x (passes x))
+
+-- ---- Link
+
+pub link_done : (v w : FloorSeen) (n : ℕ) → LinksBatch v n w → Applies (listing_of v) (Link n) (Ok Done) (listing_of w)
+link_done v w n s =
+    let ps = inbox_at v.inboxes s.inbox in
+    let p = get_or ps s.place no_batch in
+    let some : SomePosted (IsHalf n) v.inboxes = (s.inbox, s.half.0, (s.place, p, s.half.1, get_or_same ps s.place p no_batch s.half.1, s.half.2)) in
+    let row : get_or (inbox_listing (listing_of v) s.inbox) s.place (batch_of no_batch) ≡ batch_of p =
+            ap (λ ws. get_or ws s.place (batch_of no_batch)) (inbox_seen v s.inbox) ∙ get_or-map_default batch_of ps s.place no_batch in
+    let shown : listing_of w ≡ after_link (listing_of v) s.inbox s.place (get_or (inbox_listing (listing_of v) s.inbox) s.place (batch_of no_batch)) =
+            ap listing_of s.same
+            ∙ ap (λ ys. record (listing_of v) { inboxes = ys })
+            (inboxes_seen v s.inbox (set ps s.place (as_linked p))
+            ∙ ap (set (listing_of v).inboxes s.inbox)
+            (set-map batch_of ps s.place (as_linked p) ∙ ap₂ (λ ws x. set ws s.place (linked x)) (sym (inbox_seen v s.inbox)) (sym row))) in
+    subst (λ z. Applies (listing_of v) (Link n) (Ok Done) z) (sym shown)
+    (link_applies (listing_of v) n s.inbox s.place (batch_of no_batch) (link_accepted v n some)
+    (subst (λ m. s.inbox < m) (sym (length-map v.inboxes (map batch_of))) s.half.0)
+    (subst (λ ws. s.place < length ws) (sym (inbox_seen v s.inbox)) (subst (λ m. s.place < m) (sym (length-map ps batch_of)) s.half.1))
+    (ap (λ (x : BatchListing). x.number) row ∙ s.half.2.0))

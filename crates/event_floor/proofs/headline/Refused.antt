@@ -29,10 +29,11 @@ use Rattle.event_floor.specs.Lent.{lent_at, AreInPlace}
 use Rattle.event_floor.specs.Posted.{Posted, inbox_at, IsHalf, IsHalfOf, SomePosted, NonePosted, HasNoFront}
 use Rattle.event_floor.specs.Floors.{FloorSeen, desk_at, desk_count, profile_seen, last_number, IsIdle, IsHeld}
 use Rattle.event_floor.specs.Steps.{Refuses, Routes, class_limit, size_limit}
-use Rattle.event_floor.specs.machine.State.{Waiting, least_class, same_slot}
-use Rattle.event_floor.specs.machine.Machine.{first, is_half, front_ready, slot_at}
+use Rattle.event_floor.specs.machine.State.{Waiting, least_class}
+use Rattle.event_floor.specs.machine.Slots.{same_slot}
+use Rattle.event_floor.specs.machine.Refusals.{first, is_half, front_ready, slot_at}
 use Rattle.event_floor.specs.machine.Listing.{Entry, DeskListing, BatchListing, Listing, desk_listing, inbox_listing, as_waiting}
-use Rattle.event_floor.specs.headline.Listing.{entry_of, entry_at, desk_of, batch_of, all_chunks, present, listing_of}
+use Rattle.event_floor.specs.headline.Listing.{entry_of, entry_at, desk_of, batch_of, present, listing_of}
 use Rattle.event_floor.proofs.machine.Refusals.{refusal_seen, conditions_seen, goes_by, any_posted, any_of_row}
 use Rattle.event_floor.proofs.headline.Least.{holds_within, least_is}
 use Rattle.event_floor.proofs.headline.Lists.{get_or-map_default, any-map, All-not-from_Any}
@@ -144,7 +145,7 @@ abbrev pub home_has : FloorSeen → ℕ → ℕ → Bool
 home_has v a c = list_any (λ (e : Entry). e.class == c) (desk_listing (listing_of v) a).home
 
 abbrev pub all_drawn : FloorSeen → Bool
-all_drawn v = list_all is_some (listing_of v).drawn
+all_drawn v = nat_le v.chunks (length v.drawn)
 
 abbrev claim_rest : FloorSeen → ℕ → ℕ → List (Bool × Refusal)
 claim_rest v a c = (class_beyond v c, BadClass) ∷ (home_has v a c, NotNeeded) ∷ (all_drawn v, NoChunk) ∷ []
@@ -155,23 +156,11 @@ home_has_seen v a c d l h = ap (λ (x : DeskListing). list_any (λ (e : Entry). 
 pub home_lacks_seen : (v : FloorSeen) (a c : ℕ) (d : DeskState) → IsHeld v a d → LacksClass c d.home → home_has v a c ≡ false
 home_lacks_seen v a c d l h = ap (λ (x : DeskListing). list_any (λ (e : Entry). e.class == c) x.home) (held_seen v a d l) ∙ lacks_class_seen d.number c d.home h
 
-all_some : (drawn : List Drawn) (more : List (Option Drawn)) → list_all is_some (map (λ (d : Drawn). Some d) drawn ++ more) ≡ list_all is_some more
-all_some [] more = refl
-all_some (d ∷ drawn) more = all_some drawn more
-
 pub all_drawn_seen : (v : FloorSeen) → length v.drawn ≡ v.chunks → all_drawn v ≡ true
-all_drawn_seen v e = all_some v.drawn _ ∙ go (v.chunks - length v.drawn) (omega (arith, e))
-  where
-    go : (n : ℕ) → n ≡ 0 → list_all is_some (replicate n (let o : Option Drawn = None in o)) ≡ true
-    go zero z = refl
-    go (suc n) z = absurd (omega (arith, z))
+all_drawn_seen v e = le-leb v.chunks (length v.drawn) (omega (arith, e))
 
 pub some_undrawn_seen : (v : FloorSeen) → length v.drawn < v.chunks → all_drawn v ≡ false
-some_undrawn_seen v l = all_some v.drawn _ ∙ go (v.chunks - length v.drawn) (omega (arith, l))
-  where
-    go : (n : ℕ) → 0 < n → list_all is_some (replicate n (let o : Option Drawn = None in o)) ≡ false
-    go zero z = absurd (omega (arith, z))
-    go (suc n) z = refl
+some_undrawn_seen v l = leb_past v.chunks (length v.drawn) l
 
 pub claim_refused : (v : FloorSeen) (a c : ℕ) (r : Refusal) → Refuses v (Claim a c) r → Says v (Claim a c) r
 claim_refused v a c NoDesk h = no_desk_first v a (claim_rest v a c) h

@@ -7,7 +7,7 @@ use Rattle.std.proofs.lemmas.List.Sorted.{IsPermutation-refl, IsPermutation-tran
 use Rattle.region_cut.specs.declared.slot.Slot.{Slot}
 use Rattle.slot_chain.specs.Buffer.{Buffer}
 use Rattle.event_floor.specs.Lent.{lent_at, place_of, AreInPlace}
-use Rattle.event_floor.specs.machine.State.{same_slot}
+use Rattle.event_floor.specs.machine.Slots.{same_slot}
 use Rattle.event_floor.specs.headline.Listing.{present}
 use Rattle.event_floor.proofs.machine.Basics.{same_slot_eq, same_slot_self}
 

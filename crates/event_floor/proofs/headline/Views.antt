@@ -18,7 +18,7 @@ use Rattle.event_floor.specs.declared.refusal.Refusal.TheVariants.{NoDesk, Idle}
 use Rattle.event_floor.specs.Seats.{IsNumbered}
 use Rattle.event_floor.specs.Posted.{Posted, inbox_at}
 use Rattle.event_floor.specs.Floors.{FloorSeen, desk_at, desk_count, no_desk, IsIdle, IsHeld, IsFloor, with_seat}
-use Rattle.event_floor.specs.machine.Machine.{first}
+use Rattle.event_floor.specs.machine.Refusals.{first}
 use Rattle.event_floor.specs.machine.Listing.{Entry, DeskListing, BatchListing, Listing, desk_listing, inbox_listing}
 use Rattle.event_floor.specs.headline.Listing.{entry_of, entry_at, desk_of, batch_of, listing_of}
 use Rattle.event_floor.proofs.headline.Lists.{get_or-map_default, set-map, any-map}

@@ -1,9 +1,8 @@
--- What the machine's list of places shows of a floor: every buffer without its bytes.
-use Rattle.std.specs.Prelude.{ℕ, ◌-◌, List, [], ◌∷◌, ◌++◌, map, flat_map, length, replicate, Option, Some, None}
+-- A floor's lists, each buffer without its bytes.
+use Rattle.std.specs.Prelude.{ℕ, List, [], ◌∷◌, map, Option, Some, None}
 use Rattle.slot_chain.specs.Buffer.{Buffer}
 use Rattle.pool_desk.specs.Homes.{AtHome}
 use Rattle.pool_desk.specs.Homes.AtHome.{Kept, Fresh}
-use Rattle.event_floor.specs.declared.chunks.Drawn.{Drawn}
 use Rattle.event_floor.specs.declared.seat.Seat.{Seat}
 use Rattle.event_floor.specs.declared.seat.Seat.TheVariants.{Idle, Held}
 use Rattle.event_floor.specs.Posted.{Posted}
@@ -26,10 +25,6 @@ desk_of (Held d) = record { worker = Some d.worker; home = map (entry_at d.numbe
 abbrev pub batch_of : Posted → BatchListing
 batch_of p = record { number = p.number; sender = p.sender; address = p.address; linked = p.linked; buffers = map entry_of p.buffers }
 
--- all chunks in order: those that are drawn, and then the others
-abbrev pub all_chunks : ℕ → List Drawn → List (Option Drawn)
-all_chunks count drawn = map (λ (d : Drawn). Some d) drawn ++ replicate (count - length drawn) None
-
 -- the buffers that are there
 abbrev pub present : List (Option Buffer) → List Buffer
 present [] = []
@@ -40,7 +35,8 @@ abbrev pub listing_of : FloorSeen → Listing
 listing_of v = record {
   digits = v.digits;
   limit = v.limit;
-  drawn = all_chunks v.chunks v.drawn;
+  chunks = v.chunks;
+  drawn = v.drawn;
   desks = map desk_of v.desks;
   lent = map entry_of (present v.lent);
   inboxes = map (map batch_of) v.inboxes;
