@@ -8,3 +8,4 @@ pub mod Claims
 pub mod Lends
 pub mod Bounds
 pub mod Posts
+pub mod Serves

@@ -21,8 +21,8 @@ use Rattle.event_floor.specs.declared.reply.Reply.TheVariants.{Done, Batch, Coun
 use Rattle.event_floor.specs.Posted.{Posted, inbox_at, sent_as, as_linked, no_batch, IsHalf, SomePosted}
 use Rattle.event_floor.specs.Floors.{FloorSeen, with_desk, with_inbox, IsHeld}
 use Rattle.event_floor.specs.Steps.{SendsBatch, LinksBatch, TakesFront}
-use Rattle.event_floor.specs.machine.State.{State, bucket, in_bucket, slots, slots_of_batch}
-use Rattle.event_floor.specs.machine.Steps.{Answer, Step}
+use Rattle.event_floor.specs.machine.State.{State, bucket, in_bucket, slots, slots_of_batch, is_posted, owner_of}
+use Rattle.event_floor.specs.machine.Steps.{Answer, Step, front_of, coming_home, going_on}
 use Rattle.event_floor.specs.machine.Forwards.{counted as forward_count}
 use Rattle.event_floor.specs.machine.Listing.{Entry, DeskListing, BatchListing, Listing, desk_listing, inbox_listing, Shown}
 use Rattle.event_floor.specs.machine.Headline.{Applies}
@@ -146,3 +146,82 @@ link_done v w n s =
     (subst (λ m. s.inbox < m) (sym (length-map v.inboxes (map batch_of))) s.half.0)
     (subst (λ ws. s.place < length ws) (sym (inbox_seen v s.inbox)) (subst (λ m. s.place < m) (sym (length-map ps batch_of)) s.half.1))
     (ap (λ (x : BatchListing). x.number) row ∙ s.half.2.0))
+
+-- ---- Take
+
+kept_seen : (n : ℕ) (bs : List Buffer) → map (entry_at n) (map (λ (b : Buffer). Kept b) bs) ≡ map entry_of bs
+kept_seen n [] = refl
+kept_seen n (b ∷ bs) = ap (λ l. entry_of b ∷ l) (kept_seen n bs)
+
+passed_seen : (bs : List Buffer) → map entry_of (map buffer_passed_on bs) ≡ map passed_on (map entry_of bs)
+passed_seen [] = refl
+passed_seen (b ∷ bs) = ap₂ (λ (n : ℕ) (l : List Entry). record (entry_of b) { forwards = n } ∷ l) (omega arith) (passed_seen bs)
+
+module _ (v w : FloorSeen) (b home on : ℕ) (f : IsWhole v) (s : TakesFront v b home on w) where
+  abbrev taker : DeskListing
+  taker = desk_of (HeldSeat s.after)
+
+  abbrev taken_batch : BatchListing
+  taken_batch = batch_of s.front
+
+  abbrev is_own : Entry → Bool
+  is_own e = e.owner == b
+
+  abbrev is_other : Entry → Bool
+  is_other e = not (e.owner == b)
+
+  taker_number : s.before.number ≡ b
+  taker_number = (numbered_held v b s.before f s.held).0
+
+  own_seen : map entry_of (own s.before.number s.front.buffers) ≡ filter is_own taken_batch.buffers
+  own_seen = ap (λ n. map entry_of (own n s.front.buffers)) taker_number ∙ sym (filter-map entry_of is_own s.front.buffers)
+
+  others_seen : map entry_of (others s.before.number s.front.buffers) ≡ filter is_other taken_batch.buffers
+  others_seen = ap (λ n. map entry_of (others n s.front.buffers)) taker_number ∙ sym (filter-map entry_of is_other s.front.buffers)
+
+  taking : TakeEdits (listing_of v) b taken_batch (map batch_of s.rest) taker
+  taking =
+      let seen = held_seen v b s.before s.held in
+      let keeps = s.handles.same in
+      let n = s.before.number in record {
+        front = inbox_seen v b ∙ ap (map batch_of) s.is_front;
+        worker = ap (λ (x : DeskState). Some x.worker) keeps ∙ ap (λ (z : DeskListing). z.worker) (sym seen);
+        home = subst (λ (z : DeskListing). IsPermutation (filter is_own taken_batch.buffers ++ z.home) (map (entry_at s.after.number) s.after.home)) (sym seen)
+            (subst (λ m. IsPermutation (filter is_own taken_batch.buffers ++ map (entry_at n) s.before.home) (map (entry_at m) s.after.home)) (ap (λ (x : DeskState). x.number) (sym keeps))
+            (subst (λ xs. IsPermutation xs (map (entry_at n) s.after.home))
+            (map-append (entry_at n) (map (λ (x : Buffer). Kept x) (own n s.front.buffers)) s.before.home
+            ∙ ap (λ xs. xs ++ map (entry_at n) s.before.home) (kept_seen n (own n s.front.buffers) ∙ own_seen))
+            (IsPermutation-map (entry_at n) _ _ s.handles.home)));
+        cache = subst (λ (z : DeskListing). IsPermutation (map passed_on (filter is_other taken_batch.buffers) ++ z.cache) (map entry_of s.after.cached)) (sym seen)
+            (subst (λ xs. IsPermutation xs (map entry_of s.after.cached))
+            (map-append entry_of (map buffer_passed_on (others n s.front.buffers)) s.before.cached
+            ∙ ap (λ xs. xs ++ map entry_of s.before.cached) (passed_seen (others n s.front.buffers) ∙ ap (map passed_on) others_seen))
+            (IsPermutation-map entry_of _ _ s.handles.cached));
+      }
+
+  taken_shown : listing_of w ≡ after_taking (listing_of v) b (map batch_of s.rest) taker
+  taken_shown =
+      ap listing_of s.same
+      ∙ ap₂ (λ xs ys. record (listing_of v) { desks = xs; inboxes = ys }) (with_seat_seen v b (HeldSeat s.after)) (inboxes_seen v b s.rest)
+
+  counted_few : (xs : List Buffer) (ys : List Entry) (m n : ℕ) → map entry_of xs ≡ ys → m ≡ capped (length xs) → length ys ≡ n → n ≤ 4194304 → length ys ≡ m
+  counted_few xs ys m n q e g l =
+      let k = sym (ap length q) ∙ length-map xs entry_of in
+      let c = capped_is (length xs) (omega (arith, g, l, k)) in
+      k ∙ (sym c ∙ sym e)
+
+  abbrev ShownAs : Reply → Listing → (st : State) → (Slot → ℕ) → Type 0
+  ShownAs y z st passes = (next : State) × Step st (Take b) (Ok y) next × Shown z next (λ x. forward_count st (Take b) (Ok y) x (passes x))
+
+  pub take_done : Applies (listing_of v) (Take b) (Ok (Counts home on)) (listing_of w)
+  take_done st passes h =
+      let g = take_applies (listing_of v) b taken_batch (map batch_of s.rest) taker (take_accepted v b s.before s.front s.rest s.held s.is_front s.linked) taking st passes h in
+      let all = few_slots v st passes f h in
+      let of_batch = le_trans (filter_few (λ x. is_posted (front_of st b) (st.place x)) (slots st)) all in
+      let m = counted_few (own s.before.number s.front.buffers) (filter is_own taken_batch.buffers) home (length (coming_home st b)) own_seen s.counted.home g.1.0.1.0
+              (le_trans (filter_few (λ x. owner_of st x == b) (slots_of_batch st (front_of st b))) of_batch) in
+      let n = counted_few (others s.before.number s.front.buffers) (filter is_other taken_batch.buffers) on (length (going_on st b)) others_seen s.counted.on g.1.0.1.1
+              (le_trans (filter_few (λ x. not (owner_of st x == b)) (slots_of_batch st (front_of st b))) of_batch) in
+      subst (λ z. ShownAs (Counts home on) z st passes) (sym taken_shown)
+      (subst (λ i. ShownAs (Counts i on) (after_taking (listing_of v) b (map batch_of s.rest) taker) st passes) m
+      (subst (λ i. ShownAs (Counts (length (filter is_own taken_batch.buffers)) i) (after_taking (listing_of v) b (map batch_of s.rest) taker) st passes) n g))

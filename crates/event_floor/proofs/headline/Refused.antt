@@ -40,7 +40,7 @@ use Rattle.event_floor.proofs.headline.Lists.{get_or-map_default, any-map, All-n
 use Rattle.event_floor.proofs.headline.Tables.{none_lent, one_lent}
 use Rattle.event_floor.proofs.headline.Views.{leb_past, ltb_past, any_of, none_of, hits, passes, desk_seen, desks_seen, held_seen, idle_seen, no_desk_seen, is_desk_seen, desk_first, no_desk_first, idle_first, held_first, has_class_seen, lacks_class_seen, inbox_seen}
 
-abbrev Says : FloorSeen → Request → Refusal → Type 0
+abbrev pub Says : FloorSeen → Request → Refusal → Type 0
 Says v q r = refusal_seen (listing_of v) q ≡ Some r
 
 -- ---- Adopt
