@@ -9,3 +9,4 @@ pub mod Lends
 pub mod Bounds
 pub mod Posts
 pub mod Serves
+pub mod Wholes

@@ -97,14 +97,14 @@ module _ (v w : FloorSeen) (a n : ℕ) (slot : Slot) (f : IsWhole v) (s : LendsS
   lender_number = numbered_held v a s.before f s.held
 
   -- the slot has a place in the table
-  placed_slot : (s.buffer.slot.chunk < v.chunks) × (s.buffer.slot.index < 256)
+  pub placed_slot : (s.buffer.slot.chunk < v.chunks) × (s.buffer.slot.index < 256)
   placed_slot =
       let g = s.allocs.1 in
       let homes : All (HasPlace v.chunks) s.before.home = subst (λ z. All (HasPlace v.chunks) (home_of z)) s.held.1 (f.floor.seated a s.held.0).placed in
       let first = All-head (HasPlace v.chunks) g.from s.after.home (All-permutation (HasPlace v.chunks) s.before.home (g.from ∷ s.after.home) g.others homes) in
       subst (λ (z : Slot). (z.chunk < v.chunks) × (z.index < 256)) (gives_slot g.from s.buffer g.gives) first
 
-  in_table : lent_place_of < length v.lent
+  pub in_table : lent_place_of < length v.lent
   in_table = let p = placed_slot in let t = f.floor.table in omega (arith, p.0, p.1, t)
 
   was_empty : (st : State) (count : Slot → ℕ) → Shown (listing_of v) st count → get_or v.lent lent_place_of None ≡ None
@@ -169,7 +169,7 @@ module _ (v w : FloorSeen) (a : ℕ) (pair : ℕ × ℕ) (r : Freed) (f : IsWhol
   freer_number : (s.before.number ≡ a) × (s.before.limit ≡ v.limit) × (s.before.digits ≡ v.digits)
   freer_number = numbered_held v a s.before f s.held
 
-  was_there : get_or v.lent (place_of s.buffer.slot) None ≡ Some s.buffer
+  pub was_there : get_or v.lent (place_of s.buffer.slot) None ≡ Some s.buffer
   was_there = ap (λ z. get_or v.lent (place_of z) None) s.is_slot ∙ (lent_at_place v.lent pair.0 pair.1 s.buffer s.was_lent).1
 
   left_table : IsPermutation (entry_of s.buffer ∷ lent_after) (listing_of v).lent
