@@ -1,4 +1,7 @@
 pub mod ChunkLaws
 pub mod FloorLaws
+pub mod PostLaws
+pub mod RunLaws
 pub mod SeatLaws
+pub mod StepLaws
 pub mod machine

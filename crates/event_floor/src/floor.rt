@@ -65,6 +65,7 @@ impl<'r> Floor<'r> {
         requires parts { AreNumbered parts.items }
         ensures { IfOk result (λ f. f ≡ opening desks (length parts.entry.items) digits limit) }
     {
+        let _profile = digits.profile();
         let lent = Lent::new(alloc, parts.len())?;
         let chunks = Chunks::new(alloc, parts)?;
         let inboxes = empty_inboxes(alloc, desks)?;
