@@ -24,3 +24,6 @@ pub mod Refusals
 pub mod SendStep
 pub mod TakeFloor
 pub mod TakeStep
+pub mod Answered
+pub mod Orderly
+pub mod Numbers

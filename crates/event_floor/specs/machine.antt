@@ -6,3 +6,5 @@ pub mod Forwards
 pub mod Sound
 pub mod Listing
 pub mod Headline
+pub mod Laws
+pub mod Worked

@@ -9,6 +9,7 @@ mod floor;
 mod holding;
 mod inbox;
 mod inboxes;
+pub mod laws;
 mod lending;
 mod lent;
 mod refusal;

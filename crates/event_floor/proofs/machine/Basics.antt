@@ -1,12 +1,13 @@
 -- Slots, members and conditions.
 use Rattle.std.proofs.Common.{◌≡◌, ℕ, Bool, true, false, ◌&&◌, ◌||◌, ◌==◌, cond, List, [], ◌∷◌, ◌++◌, map, filter, Option, Some, None, is_some, if◌then◌else◌, refl, sym, ap, ap₂, ◌∙◌, subst, ◌⊎◌, inl, inr, true≢false}
+use Rattle.std.specs.Prelude.{⊤}
 use Rattle.std.proofs.lemmas.Bool.{eqb-true, eq-eqb, and_parts, false≢true}
 use Rattle.std.specs.List.{list_any}
 use Rattle.region_cut.specs.declared.slot.Slot.{Slot}
 use Rattle.event_floor.specs.declared.refusal.Refusal.{Refusal}
 use Rattle.event_floor.specs.machine.Slots.{same_slot}
 use Rattle.event_floor.specs.machine.State.{Waiting}
-use Rattle.event_floor.specs.machine.Refusals.{front_ready}
+use Rattle.event_floor.specs.machine.Refusals.{first, front_ready}
 use Rattle.event_floor.specs.machine.Steps.{front_number, link_one}
 use Rattle.event_floor.specs.machine.Sound.{Member}
 
@@ -24,6 +25,14 @@ same_slot_self s = ap₂ ◌&&◌ (eq-eqb s.chunk s.chunk refl) (eq-eqb s.index 
 pub none_holds : (b : Bool) (r : Refusal) (o : Option Refusal) → (if b then Some r else o) ≡ None → (b ≡ false) × (o ≡ None)
 none_holds true r o e = absurd (true≢false (ap is_some e))
 none_holds false r o e = (refl, e)
+
+abbrev pub NoneHolds : List (Bool × Refusal) → Type 0
+NoneHolds [] = ⊤
+NoneHolds (c ∷ cs) = (c.0 ≡ false) × NoneHolds cs
+
+pub none_hold : (cs : List (Bool × Refusal)) → first cs ≡ None → NoneHolds cs
+none_hold [] e = tt
+none_hold (c ∷ cs) e = let h = none_holds c.0 c.1 (first cs) e in (h.0, none_hold cs h.1)
 
 pub Member-append_left : (w : Waiting) (xs ys : List Waiting) → Member w xs → Member w (xs ++ ys)
 Member-append_left w (x ∷ xs) ys (inl e) = inl e

@@ -11,6 +11,7 @@ use Rattle.event_floor.specs.declared.refusal.Refusal.{Refusal}
 use Rattle.event_floor.specs.declared.refusal.Refusal.TheVariants.{NoDesk, Idle, TooLarge, NeedChunk, NotNeeded, NoChunk, NotLent, NothingFor, NotAnOwner, ToSelf, NoBatch, Nothing, Unsettled, Held, NoMemory, BadClass, Spent}
 use Rattle.event_floor.specs.machine.State.{profile_at, least_class, State, owner_of, home_with, bucket, slots_of_batch}
 use Rattle.event_floor.specs.machine.Refusals.{refusal, slot_at}
+use Rattle.event_floor.specs.machine.Worked.{asked, answered, Gives, NeverGives}
 use Rattle.event_floor.specs.machine.Steps.{Answer, front_of, bytes_with, Replies, Answers, after, Run}
 
 abbrev pub replies : State → Request → Reply → Bool
@@ -173,3 +174,13 @@ runs_all st (q ∷ qs) (y ∷ ys) new m g =
     and_from (answers st q y) (runs (after st q y) qs ys) (answers_all st q y k.0 g.0) (runs_all (after st q y) qs ys new k.1 g.1)
 runs_all st [] (y ∷ ys) new m g = elim g [ ]
 runs_all st (q ∷ qs) [] new m g = elim g [ ]
+
+-- ---- worked runs
+
+pub gives : (st : State) (told : List (Request × Answer)) → runs st (asked told) (answered told) ≡ true → Gives st told
+unfolding Gives
+gives st told e = (left_by st (asked told) (answered told), runs_right st (asked told) (answered told) e)
+
+pub never : (st : State) (told : List (Request × Answer)) → list_all is_ample (answered told) ≡ true → runs st (asked told) (answered told) ≡ false → NeverGives st told
+unfolding NeverGives
+never st told m e new g = false≢true (sym e ∙ runs_all st (asked told) (answered told) new m g)
