@@ -5,6 +5,7 @@ pub mod Least
 pub mod Refused
 pub mod Holders
 pub mod Claims
+pub mod Counts
 pub mod Lends
 pub mod Bounds
 pub mod Posts

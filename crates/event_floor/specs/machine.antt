@@ -4,6 +4,7 @@ pub mod Refusals
 pub mod Steps
 pub mod Forwards
 pub mod Sound
+pub mod Told
 pub mod Listing
 pub mod Headline
 pub mod Laws

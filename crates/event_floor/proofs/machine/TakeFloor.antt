@@ -98,7 +98,7 @@ module _ (s : Slot) (n : ℕ) where
       let z = count_append (same_slot s) (flat_map (if_numbered n) ws) (flat_map (λ us. flat_map (if_numbered n) us) (set is b rest)) in
       omega (arith, x, y, z)
 
-posted_is : (n o : ℕ) (p : Option Place) → is_posted n p ≡ is_list (BatchOf n) (option_map (named o) p)
+pub posted_is : (n o : ℕ) (p : Option Place) → is_posted n p ≡ is_list (BatchOf n) (option_map (named o) p)
 posted_is n o None = refl
 posted_is n o (Some AtHome) = refl
 posted_is n o (Some OnLoan) = refl
