@@ -11,3 +11,4 @@ pub mod Bounds
 pub mod Posts
 pub mod Serves
 pub mod Wholes
+pub mod Runs

@@ -1,3 +1,4 @@
 pub mod Counts
 pub mod Listing
 pub mod Whole
+pub mod Headline

@@ -25,14 +25,14 @@ use Rattle.event_floor.specs.declared.reply.Reply.{Reply}
 use Rattle.event_floor.specs.declared.reply.Reply.TheVariants.{Slot as Lent, Home, Cached, Due}
 use Rattle.event_floor.specs.Answers.{reply_of}
 use Rattle.event_floor.specs.Seats.{HasPlace, home_of}
-use Rattle.event_floor.specs.Lent.{place_of, lent_at, AreInPlace}
+use Rattle.event_floor.specs.Lent.{buffers_lent, place_of, lent_at, AreInPlace}
 use Rattle.event_floor.specs.Floors.{FloorSeen, with_desk, IsHeld}
 use Rattle.event_floor.specs.Steps.{LendsSlot, TakesBack}
 use Rattle.event_floor.specs.machine.State.{State, least_class}
 use Rattle.event_floor.specs.machine.Refusals.{slot_at as slot_of}
 use Rattle.event_floor.specs.machine.Listing.{Entry, DeskListing, Listing, Named, Loans, HomeOf, named_of, same_list, desk_listing, Shown}
 use Rattle.event_floor.specs.machine.Headline.{Applies}
-use Rattle.event_floor.specs.headline.Listing.{entry_of, entry_at, desk_of, present, listing_of}
+use Rattle.event_floor.specs.headline.Listing.{entry_of, entry_at, desk_of, listing_of}
 use Rattle.event_floor.specs.headline.Whole.{IsWhole}
 use Rattle.event_floor.proofs.machine.Places.{home_place, lent_place}
 use Rattle.event_floor.proofs.machine.FreeStep.{FreeEdits, after_edits}
@@ -58,7 +58,7 @@ apart : (v : FloorSeen) (st : State) (count : Slot → ℕ) (a : ℕ) (d : DeskS
 apart v st count a d s home b c h l p e m same =
     let lent : named_of st c.slot ≡ Some Loans =
             present_at (λ x. named_of st x.slot ≡ Some Loans) v.lent (place_of b.slot) c (λ k x n. subst (λ (z : Entry). named_of st z.slot ≡ Some Loans)
-            (get_or-map entry_of (present v.lent) k x (entry_of x) n) (lent_place (listing_of v) st count h k (entry_of x) (rw (length-map (present v.lent) entry_of) n))) m in
+            (get_or-map entry_of (buffers_lent v.lent) k x (entry_of x) n) (lent_place (listing_of v) st count h k (entry_of x) (rw (length-map (buffers_lent v.lent) entry_of) n))) m in
     let homes : All (λ (z : Entry). named_of st z.slot ≡ Some (HomeOf a)) (map (entry_at d.number) d.home) =
             subst (λ (z : DeskListing). All (λ (z : Entry). named_of st z.slot ≡ Some (HomeOf a)) z.home) (held_seen v a d l) (home_place (listing_of v) st count h a) in
     let first : named_of st (entry_at d.number s).slot ≡ Some (HomeOf a) =
@@ -118,7 +118,7 @@ module _ (v w : FloorSeen) (a n : ℕ) (slot : Slot) (f : IsWhole v) (s : LendsS
           absurd (apart v st count a s.before g.from s.after.home s.buffer c h s.held g.others (gives_slot g.from s.buffer g.gives) e
           (same_place c.slot s.buffer.slot p.0 p.1 placed_slot.1))
 
-  lending : get_or v.lent lent_place_of None ≡ None → AllocEdits (listing_of v) a n (entry_of s.buffer) (map entry_of (present (set v.lent lent_place_of (Some s.buffer)))) lender
+  lending : get_or v.lent lent_place_of None ≡ None → AllocEdits (listing_of v) a n (entry_of s.buffer) (map entry_of (buffers_lent (set v.lent lent_place_of (Some s.buffer)))) lender
   lending empty =
       let g = s.allocs.1 in
       let keeps = s.allocs.2 in
@@ -135,17 +135,17 @@ module _ (v w : FloorSeen) (a n : ℕ) (slot : Slot) (f : IsWhole v) (s : LendsS
         arrives = IsPermutation-map entry_of _ _ (present_put v.lent lent_place_of s.buffer in_table empty);
       }
 
-  lent_shown : listing_of w ≡ after_edits (listing_of v) a (map entry_of (present (set v.lent lent_place_of (Some s.buffer)))) lender
+  lent_shown : listing_of w ≡ after_edits (listing_of v) a (map entry_of (buffers_lent (set v.lent lent_place_of (Some s.buffer)))) lender
   lent_shown =
       ap listing_of s.same
       ∙ ap₂ (λ xs ys. record (listing_of v) { desks = xs; lent = ys }) (with_seat_seen v a (HeldSeat s.after))
-      (ap (λ z. map entry_of (present (set v.lent (place_of z) (Some s.buffer)))) (sym s.is_slot))
+      (ap (λ z. map entry_of (buffers_lent (set v.lent (place_of z) (Some s.buffer)))) (sym s.is_slot))
 
   pub alloc_done : Applies (listing_of v) (Alloc a n) (Ok (Lent slot)) (listing_of w)
   alloc_done =
       subst (λ z. Applies (listing_of v) (Alloc a n) (Ok (Lent z)) (listing_of w)) s.is_slot
       (subst (λ z. Applies (listing_of v) (Alloc a n) (Ok (Lent s.buffer.slot)) z) (sym lent_shown)
-      (λ st count h. alloc_applies (listing_of v) a n (entry_of s.buffer) (map entry_of (present (set v.lent lent_place_of (Some s.buffer)))) lender
+      (λ st count h. alloc_applies (listing_of v) a n (entry_of s.buffer) (map entry_of (buffers_lent (set v.lent lent_place_of (Some s.buffer)))) lender
       (alloc_accepted v a n s.buffer.class s.before lender_number.2 s.held s.allocs.0
       (has_slot s.allocs.1.from s.before.home s.after.home s.buffer.class s.allocs.1.others (gives_class s.allocs.1.from s.buffer s.allocs.1.gives)))
       (lending (was_empty st count h)) st count h))
@@ -164,7 +164,7 @@ module _ (v w : FloorSeen) (a : ℕ) (pair : ℕ × ℕ) (r : Freed) (f : IsWhol
   freer = desk_of (HeldSeat s.after)
 
   abbrev lent_after : List Entry
-  lent_after = map entry_of (present (set v.lent (place_of s.buffer.slot) None))
+  lent_after = map entry_of (buffers_lent (set v.lent (place_of s.buffer.slot) None))
 
   freer_number : (s.before.number ≡ a) × (s.before.limit ≡ v.limit) × (s.before.digits ≡ v.digits)
   freer_number = numbered_held v a s.before f s.held

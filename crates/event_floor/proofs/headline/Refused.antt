@@ -25,7 +25,7 @@ use Rattle.event_floor.specs.declared.request.Request.TheVariants.{Adopt, Retire
 use Rattle.event_floor.specs.declared.refusal.Refusal.{Refusal}
 use Rattle.event_floor.specs.declared.refusal.Refusal.TheVariants.{NoDesk, Idle, TooLarge, NeedChunk, NotNeeded, NoChunk, NotLent, NothingFor, NotAnOwner, ToSelf, NoBatch, Nothing, Unsettled, Held, NoMemory, BadClass, Spent}
 use Rattle.event_floor.specs.declared.seat.Seat.TheVariants.{Idle as IdleSeat, Held as HeldSeat}
-use Rattle.event_floor.specs.Lent.{lent_at, AreInPlace}
+use Rattle.event_floor.specs.Lent.{buffers_lent, lent_at, AreInPlace}
 use Rattle.event_floor.specs.Posted.{Posted, inbox_at, IsHalf, IsHalfOf, SomePosted, NonePosted, HasNoFront}
 use Rattle.event_floor.specs.Floors.{FloorSeen, desk_at, desk_count, profile_seen, last_number, IsIdle, IsHeld}
 use Rattle.event_floor.specs.Steps.{Refuses, Routes, class_limit, size_limit}
@@ -33,7 +33,7 @@ use Rattle.event_floor.specs.machine.State.{Waiting, least_class}
 use Rattle.event_floor.specs.machine.Slots.{same_slot}
 use Rattle.event_floor.specs.machine.Refusals.{first, is_half, front_ready, slot_at}
 use Rattle.event_floor.specs.machine.Listing.{Entry, DeskListing, BatchListing, Listing, desk_listing, inbox_listing, as_waiting}
-use Rattle.event_floor.specs.headline.Listing.{entry_of, entry_at, desk_of, batch_of, present, listing_of}
+use Rattle.event_floor.specs.headline.Listing.{entry_of, entry_at, desk_of, batch_of, listing_of}
 use Rattle.event_floor.proofs.machine.Refusals.{refusal_seen, conditions_seen, goes_by, any_posted, any_of_row}
 use Rattle.event_floor.proofs.headline.Least.{holds_within, least_is}
 use Rattle.event_floor.proofs.headline.Lists.{get_or-map_default, any-map, All-not-from_Any}
@@ -235,7 +235,7 @@ free_refused v a pair Idle f h = idle_first v a ((not_lent v pair, NotLent) ∷ 
 free_refused v a pair NotLent f h =
     held_first v a ((not_lent v pair, NotLent) ∷ []) h.0.0 h.0.1
     ∙ hits (not_lent v pair) NotLent []
-    (ap not (any-map entry_of (λ (e : Entry). same_slot (slot_at pair) e.slot) (present v.lent) ∙ none_lent v.lent pair.0 pair.1 f h.1))
+    (ap not (any-map entry_of (λ (e : Entry). same_slot (slot_at pair) e.slot) (buffers_lent v.lent) ∙ none_lent v.lent pair.0 pair.1 f h.1))
 free_refused v a pair _ f h = elim h [ ]
 
 pub free_accepted : (v : FloorSeen) (a : ℕ) (pair : ℕ × ℕ) (d : DeskState) (b : Buffer) → IsHeld v a d → lent_at v.lent pair.0 pair.1 ≡ Some b
@@ -243,7 +243,7 @@ pub free_accepted : (v : FloorSeen) (a : ℕ) (pair : ℕ × ℕ) (d : DeskState
 free_accepted v a pair d b l e s =
     held_first v a ((not_lent v pair, NotLent) ∷ []) d l
     ∙ passes (not_lent v pair) NotLent []
-    (ap not (any-map entry_of (λ (e : Entry). same_slot (slot_at pair) e.slot) (present v.lent) ∙ one_lent v.lent pair.0 pair.1 b e s))
+    (ap not (any-map entry_of (λ (e : Entry). same_slot (slot_at pair) e.slot) (buffers_lent v.lent) ∙ one_lent v.lent pair.0 pair.1 b e s))
 
 -- ---- Send
 

@@ -12,7 +12,7 @@ use Rattle.event_floor.specs.declared.request.Request.{Request}
 use Rattle.event_floor.specs.declared.request.Request.TheVariants.{Adopt, Retire, Claim, Alloc, Free, Send, Link, Take}
 use Rattle.event_floor.specs.declared.reply.Reply.{Reply}
 use Rattle.event_floor.specs.declared.reply.Reply.TheVariants.{Done, Chunk, Slot as Lent, Home, Cached, Due, Batch, Counts}
-use Rattle.event_floor.specs.Lent.{place_of, AreInPlace}
+use Rattle.event_floor.specs.Lent.{buffers_lent, place_of, AreInPlace}
 use Rattle.event_floor.specs.Seats.{idle_seats}
 use Rattle.event_floor.specs.Floors.{FloorSeen, IsFloor, opening}
 use Rattle.event_floor.specs.Steps.{Does, LendsSlot, TakesBack}
@@ -21,7 +21,7 @@ use Rattle.event_floor.specs.machine.Steps.{Answer}
 use Rattle.event_floor.specs.machine.Listing.{DeskListing, BatchListing, Listing, empty_desk, Shown}
 use Rattle.event_floor.specs.machine.State.{opening as machine_opening}
 use Rattle.event_floor.specs.machine.Headline.{ShowsSome}
-use Rattle.event_floor.specs.headline.Listing.{entry_of, desk_of, batch_of, present, listing_of}
+use Rattle.event_floor.specs.headline.Listing.{entry_of, desk_of, batch_of, listing_of}
 use Rattle.event_floor.specs.headline.Whole.{IsWhole}
 use Rattle.event_floor.proofs.machine.Parts.{opened, opening_shown}
 use Rattle.event_floor.proofs.headline.Tables.{at_its_place, present_replicate}

@@ -5,6 +5,7 @@ use Rattle.pool_desk.specs.Homes.{AtHome}
 use Rattle.pool_desk.specs.Homes.AtHome.{Kept, Fresh}
 use Rattle.event_floor.specs.declared.seat.Seat.{Seat}
 use Rattle.event_floor.specs.declared.seat.Seat.TheVariants.{Idle, Held}
+use Rattle.event_floor.specs.Lent.{buffers_lent}
 use Rattle.event_floor.specs.Posted.{Posted}
 use Rattle.event_floor.specs.Floors.{FloorSeen}
 use Rattle.event_floor.specs.machine.Listing.{Entry, DeskListing, BatchListing, Listing}
@@ -25,12 +26,6 @@ desk_of (Held d) = record { worker = Some d.worker; home = map (entry_at d.numbe
 abbrev pub batch_of : Posted → BatchListing
 batch_of p = record { number = p.number; sender = p.sender; address = p.address; linked = p.linked; buffers = map entry_of p.buffers }
 
--- the buffers that are there
-abbrev pub present : List (Option Buffer) → List Buffer
-present [] = []
-present (None ∷ places) = present places
-present (Some b ∷ places) = b ∷ present places
-
 abbrev pub listing_of : FloorSeen → Listing
 listing_of v = record {
   digits = v.digits;
@@ -38,7 +33,7 @@ listing_of v = record {
   chunks = v.chunks;
   drawn = v.drawn;
   desks = map desk_of v.desks;
-  lent = map entry_of (present v.lent);
+  lent = map entry_of (buffers_lent v.lent);
   inboxes = map (map batch_of) v.inboxes;
   next = v.next;
 }
