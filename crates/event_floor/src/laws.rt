@@ -6,6 +6,7 @@ ghost use Rattle.std.specs.Prelude.{ℕ, ◌^◌, ◌<◌, ◌≤◌, List};
 ghost use Rattle.region_cut.specs.declared.slot.Slot.{Slot};
 ghost use Rattle.digit_route.specs.Digits.{Scheme, IsScheme, count};
 ghost use Rattle.event_floor.specs.declared.request.Request.{Request};
+ghost use Rattle.event_floor.specs.headline.Counts.{FloorsTellCounts};
 ghost use Rattle.event_floor.specs.machine.State.{State, opening};
 ghost use Rattle.event_floor.specs.machine.Steps.{Answer, Run};
 ghost use Rattle.event_floor.specs.machine.Forwards.{forwards};
@@ -52,4 +53,10 @@ pub fn refusals_change_nothing()
 /// The class of an allocation is the least one of the profile that is large enough.
 pub fn least_class_is_least()
     ensures { LeastClassIsLeast }
+{}
+
+/// What a floor counts is what the machine counts: slots at home, in caches and on their way, lent buffers and drawn
+/// chunks of any state that the floor shows.
+pub fn floors_tell_counts()
+    ensures { FloorsTellCounts }
 {}

@@ -16,6 +16,7 @@ use Rattle.slot_chain.specs.Counts.{capped}
 use Rattle.event_floor.specs.declared.chunks.Drawn.{Drawn}
 use Rattle.event_floor.specs.declared.seat.Seat.{Seat}
 use Rattle.event_floor.specs.declared.seat.Seat.TheVariants.{Idle, Held}
+use Rattle.event_floor.specs.Lent.{buffers_lent}
 use Rattle.event_floor.specs.Posted.{Posted, buffers_in, inbox_at}
 use Rattle.event_floor.specs.Seats.{home_of, cached_of}
 use Rattle.event_floor.specs.Floors.{FloorSeen, desk_at}
@@ -24,7 +25,7 @@ use Rattle.event_floor.specs.machine.State.{State, Waiting, owner_of, is_slot, s
 use Rattle.event_floor.specs.machine.Listing.{Named, HomeOf, Loans, CacheOf, BatchOf, Entry, DeskListing, BatchListing, Listing, Counted, named_of, is_list, list_named, slots_seen, if_numbered, desk_listing, inbox_listing, as_waiting, Shown}
 use Rattle.event_floor.specs.machine.Sound.{Rising}
 use Rattle.event_floor.specs.machine.Told.{at_home_with, home_count, cached_count, queued_count, lent_count, drawn_count}
-use Rattle.event_floor.specs.headline.Listing.{entry_of, entry_at, desk_of, batch_of, present, listing_of}
+use Rattle.event_floor.specs.headline.Listing.{entry_of, entry_at, desk_of, batch_of, listing_of}
 use Rattle.event_floor.specs.headline.Counts.{TellsCounts}
 use Rattle.event_floor.proofs.machine.Enumerate.{count_cons, count_append}
 use Rattle.event_floor.proofs.machine.InPlace.{in_cache_is}
@@ -88,14 +89,14 @@ module _ (v : FloorSeen) (st : State) (c : Slot → ℕ) (few : v.chunks ≤ 102
       ∙ named_length (listing_of v) st c (CacheOf a) (cached_by st a) (desk_listing (listing_of v) a).cache h (λ k e l. (h.cached a k e l).0)
       (λ s. h.in_place (CacheOf a) s) (λ s. sym (in_cache_is a (owner_of st s) (st.place s)))))
 
-  present_count : (places : List (Option Buffer)) → count_by is_some places ≡ length (present places)
+  present_count : (places : List (Option Buffer)) → count_by is_some places ≡ length (buffers_lent places)
   present_count [] = refl
   present_count (None ∷ places) = let a = count_cons is_some None places in let b = present_count places in omega (arith, a, b)
   present_count (Some x ∷ places) = let a = count_cons is_some (Some x) places in let b = present_count places in omega (arith, a, b)
 
   lent_told : count_by is_some v.lent ≡ lent_count st
   lent_told =
-      present_count v.lent ∙ (sym (length-map (present v.lent) entry_of)
+      present_count v.lent ∙ (sym (length-map (buffers_lent v.lent) entry_of)
       ∙ named_length (listing_of v) st c Loans (λ s. is_lent (st.place s)) (listing_of v).lent h (λ k e l. (h.lent k e l).0)
       (λ s. h.in_place Loans s) (λ s. sym (lent_named (owner_of st s) (st.place s))))
 
