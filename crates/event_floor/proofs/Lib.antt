@@ -1,3 +1,9 @@
 pub mod ChunkLaws
 pub mod FloorLaws
+pub mod ListLaws
+pub mod PostLaws
+pub mod RunLaws
 pub mod SeatLaws
+pub mod machine
+pub mod headline
+pub mod StepLaws

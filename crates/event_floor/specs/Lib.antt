@@ -2,6 +2,10 @@ pub mod Answers
 pub mod Chunks
 pub mod Floors
 pub mod Lent
+pub mod Posted
 pub mod Refusals
+pub mod Runs
 pub mod Seats
 pub mod Steps
+pub mod machine
+pub mod headline

@@ -6,13 +6,22 @@
 
 mod chunks;
 mod floor;
+mod holding;
+mod inbox;
+mod inboxes;
+pub mod laws;
+mod lending;
 mod lent;
+mod lists;
 mod refusal;
 mod reply;
 mod request;
 mod seat;
+mod sending;
+mod telling;
 #[cfg(test)]
 mod tests;
+mod waiting;
 
 pub use floor::Floor;
 pub use refusal::Refusal;

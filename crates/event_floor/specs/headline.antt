@@ -1,0 +1,4 @@
+pub mod Counts
+pub mod Listing
+pub mod Whole
+pub mod Headline

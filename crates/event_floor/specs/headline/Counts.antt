@@ -1,0 +1,23 @@
+-- What a floor's calls count is what the machine counts.
+use Rattle.std.specs.Prelude.{ℕ, ◌≡◌, ◌<◌, ◌≤◌, length, count_by, is_some}
+use Rattle.region_cut.specs.declared.slot.Slot.{Slot}
+use Rattle.slot_chain.specs.Counts.{capped}
+use Rattle.event_floor.specs.Floors.{FloorSeen, desk_count, desk_at}
+use Rattle.event_floor.specs.Posted.{buffers_in, inbox_at}
+use Rattle.event_floor.specs.Seats.{home_of, cached_of}
+use Rattle.event_floor.specs.machine.State.{State}
+use Rattle.event_floor.specs.machine.Listing.{Shown}
+use Rattle.event_floor.specs.machine.Told.{home_count, cached_count, queued_count, lent_count, drawn_count}
+use Rattle.event_floor.specs.headline.Listing.{listing_of}
+
+-- the answers of `Floor::counts`, `lent_count` and `drawn_count` are the state's
+pub record TellsCounts (v : FloorSeen) (st : State) : Type 0 where
+  pub home : (a : ℕ) → capped (length (home_of (desk_at v a))) ≡ home_count st a
+  pub cached : (a : ℕ) → capped (length (cached_of (desk_at v a))) ≡ cached_count st a
+  pub queued : (a : ℕ) → capped (length (buffers_in (inbox_at v.inboxes a))) ≡ queued_count st a
+  pub lent : count_by is_some v.lent ≡ lent_count st
+  pub drawn : length v.drawn ≡ drawn_count st
+
+-- so it is of each state that a floor shows
+abbrev pub FloorsTellCounts : Type 0
+FloorsTellCounts = (v : FloorSeen) (st : State) (count : Slot → ℕ) → v.chunks ≤ 1024 → Shown (listing_of v) st count → TellsCounts v st
