@@ -4,5 +4,6 @@ pub mod ListLaws
 pub mod PostLaws
 pub mod RunLaws
 pub mod SeatLaws
-pub mod StepLaws
 pub mod machine
+pub mod headline
+pub mod StepLaws

@@ -8,3 +8,4 @@ pub mod Runs
 pub mod Seats
 pub mod Steps
 pub mod machine
+pub mod headline

@@ -1,18 +1,23 @@
 //! The floor.
-ghost use Rattle.std.specs.Prelude.{◌≡◌, ◌≤◌, ◌^◌, length, IfOk, IfErr, OnErr};
-ghost use Rattle.event_floor.specs.Chunks.{AreNumbered};
-ghost use Rattle.event_floor.specs.Floors.{desk_count, opening};
+ghost use Rattle.std.specs.Prelude.{◌≡◌, ◌<◌, ◌≤◌, ◌^◌, length, map, is_some, count_by, IfOk, IfErr, OnErr, IsPermutation};
+ghost use Rattle.slot_chain.specs.Counts.{capped};
+ghost use Rattle.digit_route.specs.Slots.{slot_of};
+ghost use Rattle.event_floor.specs.Chunks.{AreNumbered, class_drawn};
+ghost use Rattle.event_floor.specs.Floors.{desk_count, desk_at, opening};
+ghost use Rattle.event_floor.specs.Lent.{buffers_lent};
+ghost use Rattle.event_floor.specs.Posted.{buffers_in, inbox_at};
 ghost use Rattle.event_floor.specs.Runs.{Runs};
+ghost use Rattle.event_floor.specs.Seats.{home_of, cached_of};
 ghost use Rattle.event_floor.specs.Steps.{Does, Refuses};
+ghost use Rattle.event_floor.specs.headline.Headline.{Applies, Headline, Shows};
+ghost use Rattle.event_floor.specs.headline.Listing.{listing_of};
+ghost use Rattle.event_floor.specs.machine.Listing.{Shown};
+ghost use Rattle.event_floor.specs.machine.State.{opening as machine_opening};
 
-use crate::chunks::Chunks;
-use crate::inbox::Inbox;
-use crate::inboxes::empty_inboxes;
-use crate::lent::Lent;
-use crate::seat::{Seat, empty_seats};
+use crate::lists::Lists;
 use crate::{Refusal, Reply, Request};
 use digit_route::Digits;
-use region_cut::Part;
+use region_cut::{Class, Part, Slot};
 use slot_chain::NoMemory;
 use std::alloc::Global;
 use std::marker::Model;
@@ -20,32 +25,20 @@ use std::marker::Model;
 /// All desks of a pool, the chunks that none of them drew, the lent buffers, and the batches that are on their way.
 #[derive(Drop)]
 pub struct Floor<'r> {
-    pub(crate) digits: Digits,
-    pub(crate) limit: u64,
-    pub(crate) desks: Vec<Seat<'r>>,
-    pub(crate) chunks: Chunks<'r>,
-    pub(crate) lent: Lent<'r>,
-    pub(crate) inboxes: Vec<Inbox<'r>>,
-    pub(crate) next: u64,
+    lists: Lists<'r>,
 }
 
 impl<'r> Model for Floor<'r> {
-    ghost use Rattle.event_floor.specs.Floors.{FloorSeen, IsFloor};
+    ghost use Rattle.event_floor.specs.Floors.{FloorSeen};
 
     ghost Value = { FloorSeen };
 
-    ghost view = { λ f. record {
-      digits = f.digits;
-      limit = f.limit;
-      chunks = f.chunks.count;
-      drawn = f.chunks.drawn;
-      desks = f.desks.items;
-      lent = f.lent;
-      inboxes = f.inboxes.items;
-      next = f.next;
-    } };
+    ghost use Rattle.event_floor.specs.headline.Headline.{Shows};
+    ghost use Rattle.event_floor.specs.headline.Whole.{IsWhole};
 
-    ghost invariant = { λ f. IsFloor f.digits f.limit f.chunks.count f.desks.items f.lent f.inboxes.items f.next };
+    ghost view = { λ f. f.lists };
+
+    ghost invariant = { λ f. IsWhole f.lists × Shows f.lists };
 }
 
 impl<'r> Floor<'r> {
@@ -63,43 +56,28 @@ impl<'r> Floor<'r> {
         requires few { desks ≤ 2 ^ digits.bits }
         requires limit { limit ≤ 1048576 }
         requires parts { AreNumbered parts.items }
-        ensures { IfOk result (λ f. f ≡ opening desks (length parts.entry.items) digits limit) }
+        ensures opening { IfOk result (λ f. f ≡ opening desks (length parts.entry.items) digits limit) }
+        ensures shows { IfOk result (λ f. Shown (listing_of f) (machine_opening desks (length parts.entry.items) digits limit) (λ slot. 0)) }
     {
         let _profile = digits.profile();
-        let lent = Lent::new(alloc, parts.len())?;
-        let chunks = Chunks::new(alloc, parts)?;
-        let inboxes = empty_inboxes(alloc, desks)?;
-        let desks = empty_seats(alloc, desks, digits, limit)?;
-        Ok(Floor {
-            digits,
-            limit,
-            desks,
-            chunks,
-            lent,
-            inboxes,
-            next: 1,
-        })
+        let lists = Lists::new(alloc, parts, desks, digits, limit)?;
+        lists.keeps();
+        Ok(Floor { lists })
     }
 
     /// Does what is asked, or refuses and changes nothing. Only `Alloc` and `Send` take memory. `Retire` and `Link` look through the
     /// waiting batches, `Send` and `Take` go over the buffers of their batch and `Send` over those of the cache; all other requests
     /// take constant time.
     pub fn apply(&mut self, alloc: Global, request: Request) -> Result<Reply, Refusal>
+        ensures applies { Applies self.old request result self.new }
         ensures does { IfOk result (λ reply. Does self.old request reply self.new) }
         ensures refuses { IfErr result (λ refusal. Refuses self.old request refusal) }
         ensures unchanged { OnErr result (self.new ≡ self.old) }
         ensures desks { desk_count self.new ≡ desk_count self.old }
     {
-        match request {
-            Request::Adopt(a, worker) => self.adopt(a, worker),
-            Request::Retire(a) => self.retire(a),
-            Request::Claim(a, class) => self.claim(a, class),
-            Request::Alloc(a, size) => self.alloc(alloc, a, size),
-            Request::Free(a, (chunk, index)) => self.free(a, chunk, index),
-            Request::Send(a, t) => self.send(a, t),
-            Request::Link(number) => self.link(number),
-            Request::Take(b) => self.take(b),
-        }
+        let answer = self.lists.apply(alloc, request);
+        self.lists.keeps();
+        answer
     }
 
     /// Applies one request after the other, and gives the answers in order. The list of the answers is made first: where there is no
@@ -109,15 +87,93 @@ impl<'r> Floor<'r> {
         alloc: Global,
         requests: &[Request],
     ) -> Result<Vec<Result<Reply, Refusal>>, NoMemory>
+        ensures shows { Shows self.old }
+        ensures headline { IfOk result (λ answers. Headline self.old requests.now answers.items self.new) }
         ensures runs { IfOk result (λ answers. Runs self.old requests.now answers.items self.new) }
         ensures unchanged { OnErr result (self.new ≡ self.old) }
         ensures desks { desk_count self.new ≡ desk_count self.old }
     {
+        self.shows();
         let mut answers = Vec::with_capacity(alloc, requests.len())?;
         for request in requests {
             let answer = self.apply(alloc, *request);
             answers.push_reserved(answer);
         }
         Ok(answers)
+    }
+
+    // What its type keeps.
+    fn shows(&self)
+        ensures { Shows self.now }
+    {
+        let _lists = &self.lists;
+    }
+
+    /// How many slots the desk has at home, how many buffers are in its cache, and how many wait in its inbox, linked
+    /// or not; each at most the greatest `u64`. Takes a walk over them.
+    pub fn counts(&self, a: u32) -> (u64, u64, u64)
+        requires { a < desk_count self.now }
+        ensures home { result.0 ≡ capped (length (home_of (desk_at self.now a))) }
+        ensures cached { result.1 ≡ capped (length (cached_of (desk_at self.now a))) }
+        ensures queued { result.2 ≡ capped (length (buffers_in (inbox_at self.now.inboxes a))) }
+    {
+        self.lists.counts(a)
+    }
+
+    /// The slots of all buffers that wait in the desk's inbox, linked or not, each as often as it is there.
+    pub fn queued(&self, alloc: Global, a: u32) -> Result<Vec<Slot>, NoMemory>
+        requires { a < desk_count self.now }
+        ensures { IfOk result (λ slots. IsPermutation (map slot_of (buffers_in (inbox_at self.now.inboxes a))) slots.items) }
+    {
+        self.lists.queued(alloc, a)
+    }
+
+    /// The slots of the lent buffers, in order. Takes time in the number of slots.
+    pub fn lent(&self, alloc: Global) -> Result<Vec<Slot>, NoMemory>
+        ensures { IfOk result (λ slots. slots.items ≡ map slot_of (buffers_lent self.now.lent)) }
+    {
+        self.lists.lent(alloc)
+    }
+
+    /// How many buffers are lent. Takes time in the number of slots.
+    pub fn lent_count(&self) -> u64
+        ensures { result ≡ count_by is_some self.now.lent }
+    {
+        self.lists.lent_count()
+    }
+
+    /// How many desks it has.
+    pub fn desk_count(&self) -> u32
+        ensures { result ≡ desk_count self.now }
+    {
+        self.lists.desk_count()
+    }
+
+    /// How many chunks are drawn.
+    pub fn drawn_count(&self) -> u64
+        ensures { result ≡ length self.now.drawn }
+    {
+        self.lists.drawn_count()
+    }
+
+    /// The class of a chunk, or None where it isn't drawn.
+    pub fn class_of(&self, chunk: u32) -> Option<Class>
+        ensures { result ≡ class_drawn self.now.drawn chunk }
+    {
+        self.lists.class_of(chunk)
+    }
+
+    /// How the numbers of its desks are read.
+    pub fn digits(&self) -> Digits
+        ensures { result ≡ self.now.digits }
+    {
+        self.lists.digits()
+    }
+
+    /// The bytes above which a desk's cache is due.
+    pub fn limit(&self) -> u64
+        ensures { result ≡ self.now.limit }
+    {
+        self.lists.limit()
     }
 }

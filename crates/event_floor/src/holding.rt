@@ -6,9 +6,10 @@ ghost use Rattle.event_floor.specs.declared.request.Request.TheVariants.{Adopt, 
 
 use crate::inboxes::any_half_of;
 use crate::seat::{Seat, hold, release};
-use crate::{Floor, Refusal, Reply};
+use crate::lists::Lists;
+use crate::{Refusal, Reply};
 
-impl<'r> Floor<'r> {
+impl<'r> Lists<'r> {
     pub(crate) fn adopt(&mut self, a: u32, worker: u32) -> Result<Reply, Refusal>
         ensures does { IfOk result (λ reply. Does self.old (Adopt a worker) reply self.new) }
         ensures refuses { IfErr result (λ refusal. Refuses self.old (Adopt a worker) refusal) }

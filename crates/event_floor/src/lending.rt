@@ -7,7 +7,8 @@ ghost use Rattle.event_floor.specs.Steps.{Does, Refuses};
 ghost use Rattle.event_floor.specs.declared.request.Request.TheVariants.{Claim, Alloc, Free};
 
 use crate::seat::Seat;
-use crate::{Floor, Refusal, Reply};
+use crate::lists::Lists;
+use crate::{Refusal, Reply};
 use digit_route::Digits;
 use region_cut::Class;
 use std::alloc::Global;
@@ -23,7 +24,7 @@ fn class_of(digits: Digits, number: u32) -> Option<Class>
     }
 }
 
-impl<'r> Floor<'r> {
+impl<'r> Lists<'r> {
     pub(crate) fn claim(&mut self, a: u32, class: u32) -> Result<Reply, Refusal>
         ensures does { IfOk result (λ reply. Does self.old (Claim a class) reply self.new) }
         ensures refuses { IfErr result (λ refusal. Refuses self.old (Claim a class) refusal) }

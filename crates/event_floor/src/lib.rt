@@ -12,6 +12,7 @@ mod inboxes;
 pub mod laws;
 mod lending;
 mod lent;
+mod lists;
 mod refusal;
 mod reply;
 mod request;

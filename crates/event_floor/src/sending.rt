@@ -6,12 +6,13 @@ ghost use Rattle.event_floor.specs.declared.request.Request.TheVariants.{Send, L
 
 use crate::inboxes::find_half;
 use crate::seat::Seat;
-use crate::{Floor, Refusal, Reply};
+use crate::lists::Lists;
+use crate::{Refusal, Reply};
 
 /// The greatest number that a batch can have.
 const LAST_NUMBER: u64 = 4_294_967_295;
 
-impl<'r> Floor<'r> {
+impl<'r> Lists<'r> {
     pub(crate) fn send(&mut self, a: u32, t: u32) -> Result<Reply, Refusal>
         ensures does { IfOk result (λ reply. Does self.old (Send a t) reply self.new) }
         ensures refuses { IfErr result (λ refusal. Refuses self.old (Send a t) refusal) }

@@ -1,4 +1,4 @@
-//! What a floor tells of itself.
+//! What a floor's lists tell.
 ghost use Rattle.std.specs.Prelude.{◌≡◌, ◌<◌, length, is_some, map, IfOk, IsPermutation};
 ghost use Rattle.std.specs.Prelude.{count_by};
 ghost use Rattle.slot_chain.specs.Counts.{capped};
@@ -9,17 +9,17 @@ ghost use Rattle.event_floor.specs.Lent.{buffers_lent};
 ghost use Rattle.event_floor.specs.Posted.{buffers_in, inbox_at};
 ghost use Rattle.event_floor.specs.Seats.{home_of, cached_of};
 
-use crate::Floor;
+use crate::lists::Lists;
 use crate::seat::Seat;
 use digit_route::Digits;
 use region_cut::{Class, Slot};
 use slot_chain::NoMemory;
 use std::alloc::Global;
 
-impl<'r> Floor<'r> {
+impl<'r> Lists<'r> {
     /// How many slots the desk has at home, how many buffers are in its cache, and how many wait in its inbox, linked
     /// or not; each at most the greatest `u64`. Takes a walk over them.
-    pub fn counts(&self, a: u32) -> (u64, u64, u64)
+    pub(crate) fn counts(&self, a: u32) -> (u64, u64, u64)
         requires { a < desk_count self.now }
         ensures home { result.0 ≡ capped (length (home_of (desk_at self.now a))) }
         ensures cached { result.1 ≡ capped (length (cached_of (desk_at self.now a))) }
@@ -39,7 +39,7 @@ impl<'r> Floor<'r> {
     }
 
     /// The slots of all buffers that wait in the desk's inbox, linked or not, each as often as it is there.
-    pub fn queued(&self, alloc: Global, a: u32) -> Result<Vec<Slot>, NoMemory>
+    pub(crate) fn queued(&self, alloc: Global, a: u32) -> Result<Vec<Slot>, NoMemory>
         requires { a < desk_count self.now }
         ensures { IfOk result (λ slots. IsPermutation (map slot_of (buffers_in (inbox_at self.now.inboxes a))) slots.items) }
     {
@@ -47,49 +47,49 @@ impl<'r> Floor<'r> {
     }
 
     /// The slots of the lent buffers, in order. Takes time in the number of slots.
-    pub fn lent(&self, alloc: Global) -> Result<Vec<Slot>, NoMemory>
+    pub(crate) fn lent(&self, alloc: Global) -> Result<Vec<Slot>, NoMemory>
         ensures { IfOk result (λ slots. slots.items ≡ map slot_of (buffers_lent self.now.lent)) }
     {
         self.lent.slots(alloc)
     }
 
     /// How many buffers are lent. Takes time in the number of slots.
-    pub fn lent_count(&self) -> u64
+    pub(crate) fn lent_count(&self) -> u64
         ensures { result ≡ count_by is_some self.now.lent }
     {
         self.lent.count()
     }
 
     /// How many desks it has.
-    pub fn desk_count(&self) -> u32
+    pub(crate) fn desk_count(&self) -> u32
         ensures { result ≡ desk_count self.now }
     {
         self.desks.len() as u32
     }
 
     /// How many chunks are drawn.
-    pub fn drawn_count(&self) -> u64
+    pub(crate) fn drawn_count(&self) -> u64
         ensures { result ≡ length self.now.drawn }
     {
         self.chunks.drawn_count()
     }
 
     /// The class of a chunk, or None where it isn't drawn.
-    pub fn class_of(&self, chunk: u32) -> Option<Class>
+    pub(crate) fn class_of(&self, chunk: u32) -> Option<Class>
         ensures { result ≡ class_drawn self.now.drawn chunk }
     {
         self.chunks.class_of(chunk)
     }
 
     /// How the numbers of its desks are read.
-    pub fn digits(&self) -> Digits
+    pub(crate) fn digits(&self) -> Digits
         ensures { result ≡ self.now.digits }
     {
         self.digits
     }
 
     /// The bytes above which a desk's cache is due.
-    pub fn limit(&self) -> u64
+    pub(crate) fn limit(&self) -> u64
         ensures { result ≡ self.now.limit }
     {
         self.limit

@@ -1,17 +1,29 @@
-use Rattle.std.proofs.Common.{◌≡◌, arith, length, rules}
+use Rattle.std.proofs.Common.{◌≡◌, ℕ, ◌≤◌, length, sym, subst}
+use Rattle.event_floor.specs.Floors.{FloorSeen, IsFloor, opening}
+use Rattle.event_floor.specs.headline.Headline.{Shows}
+use Rattle.event_floor.specs.headline.Listing.{listing_of}
+use Rattle.event_floor.specs.headline.Whole.{IsWhole}
+use Rattle.event_floor.specs.machine.Listing.{Shown}
+use Rattle.event_floor.specs.machine.State.{opening as machine_opening}
 use Rattle.event_floor.proofs.ChunkLaws.{numbered_few}
-use Rattle.event_floor.proofs.FloorLaws.{floor_settled, opening_is_floor, few_numbers}
+use Rattle.event_floor.proofs.headline.Runs.{opening_shows}
+use Rattle.event_floor.proofs.headline.Wholes.{opening_whole, shows_opening}
 use Rattle.event_floor.proofs.floor.Floor.new.Goals as goal
-
-pub new-requires : goal.new-requires
-new-requires c = let few = numbered_few c.args.parts.items c.requires.parts in search (rules, few, c.len.ensures)
-
-pub empty_seats-requires-clause-few : goal.empty_seats-requires-clause-few
-empty_seats-requires-clause-few c = few_numbers c.profile-profile.result c.args.digits.bits c.args.desks c.profile-profile.ensures.bits c.requires.few
 
 pub invariant_of-result : goal.invariant_of-result
 invariant_of-result c =
-    let parts : c.len.result ≡ length c.args.parts.items = omega (arith, c.len.ensures, c.args.parts.ok) in
-    let few = few_numbers c.profile-profile.result c.args.digits.bits c.args.desks c.profile-profile.ensures.bits c.requires.few in
-    rw (c.in_ok-lent.ensures, c.in_ok-chunks.ensures, c.in_ok-desks.ensures, c.in_ok-inboxes.ensures, parts)
-    (floor_settled (opening_is_floor _ _ _ _ c.requires.few few))
+    let chunks = length c.args.parts.items in
+    let e : c.in_ok-lists.lists ≡ opening c.args.desks chunks c.args.digits c.args.limit = c.in_ok-lists.ensures in
+    let few : chunks ≤ 1024 = numbered_few c.args.parts.items c.requires.parts in
+    subst (λ (v : FloorSeen). IsWhole v × Shows v) (sym e) (
+      opening_whole c.args.desks chunks c.args.digits c.args.limit few
+          (subst (λ (v : FloorSeen). IsFloor v.digits v.limit v.chunks v.desks v.lent v.inboxes v.next) e c.keeps.ensures),
+      opening_shows c.args.desks chunks c.args.digits c.args.limit c.profile-profile.ensures.scheme c.requires.few,
+    )
+
+pub returns-clause-shows : goal.returns-clause-shows
+returns-clause-shows c =
+    let chunks = length c.args.parts.items in
+    let e : c.in_ok-lists.lists ≡ opening c.args.desks chunks c.args.digits c.args.limit = c.in_ok-lists.ensures in
+    subst (λ v. Shown (listing_of v) (machine_opening c.args.desks chunks c.args.digits c.args.limit) (λ slot. 0)) (sym e)
+    (shows_opening c.args.desks chunks c.args.digits c.args.limit c.profile-profile.ensures.scheme c.requires.few)

@@ -3,11 +3,14 @@ use Rattle.std.proofs.lemmas.List.{take_more}
 use Rattle.event_floor.specs.declared.request.Request.TheVariants.{Adopt}
 use Rattle.event_floor.specs.Runs.{Answers, Runs}
 use Rattle.event_floor.proofs.RunLaws.{runs_none, runs_push, answers_of}
+use Rattle.event_floor.proofs.headline.Runs.{AppliesAll, run_none, run_push, run_headline}
+use Rattle.event_floor.specs.headline.Headline.{Headline}
 use Rattle.event_floor.proofs.floor.Floor.run.Goals as goal
 
 pub loop-request-init : goal.loop-request-init
 loop-request-init c = record {
   ran = subst (λ ys. Runs c.args.self.now [] ys c.args.self.now) (sym c.in_ok-answers.ensures.items) (runs_none c.args.self.now);
+  applied = subst (λ ys. AppliesAll c.args.self.now [] ys c.args.self.now) (sym c.in_ok-answers.ensures.items) (run_none c.args.self.now);
   count = c.in_ok-answers.ensures.len;
   room = c.in_ok-answers.ensures.capacity;
   desks = refl;
@@ -24,6 +27,14 @@ loop-request-preserved c = record {
       subst (λ qs. Runs c.args.self.now qs c.push_reserved.new.self.items w) (sym (take_more c.args.requests.now c.loop-request.request-index (Adopt 0 0) c.loop-request-test.true))
       (subst (λ ys. Runs c.args.self.now (take c.loop-request.request-index c.args.requests.now ++ q ∷ []) ys w) (sym c.push_reserved.ensures.items)
       (runs_push c.args.self.now c.loop-request.self w (take c.loop-request.request-index c.args.requests.now) c.loop-request.answers.items q y c.loop-request.invariant.ran m)));
+  applied = (
+      let q = get_or c.args.requests.now c.loop-request.request-index (Adopt 0 0) in
+      let y = c.apply-answer.result in
+      let w = c.apply-answer.new.self in
+      subst (λ qs. AppliesAll c.args.self.now qs c.push_reserved.new.self.items w) (sym (take_more c.args.requests.now c.loop-request.request-index (Adopt 0 0) c.loop-request-test.true))
+      (subst (λ ys. AppliesAll c.args.self.now (take c.loop-request.request-index c.args.requests.now ++ q ∷ []) ys w) (sym c.push_reserved.ensures.items)
+      (run_push c.args.self.now c.loop-request.self w (take c.loop-request.request-index c.args.requests.now) c.loop-request.answers.items q y c.loop-request.invariant.applied
+      c.apply-answer.ensures.applies)));
   count = (let e = c.push_reserved.ensures.len in let g = c.loop-request.invariant.count in e ∙ ap (λ n. n + 1) g);
   room = (let r = c.loop-request.invariant.room in let e = c.push_reserved.ensures.capacity in omega (arith, r, e));
   desks = c.apply-answer.ensures.desks ∙ c.loop-request.invariant.desks;
@@ -31,3 +42,8 @@ loop-request-preserved c = record {
 
 pub returns-clause-runs : goal.returns-clause-runs
 returns-clause-runs c = subst (λ qs. Runs c.args.self.now qs c.loop-request.answers.items c.loop-request.self) (take_all c.loop-request.request-index c.args.requests.now c.loop-request-test.false) c.loop-request.invariant.ran
+
+pub returns-clause-headline : goal.returns-clause-headline
+returns-clause-headline c =
+    run_headline c.args.self.now c.loop-request.self c.args.requests.now c.loop-request.answers.items
+    (subst (λ qs. AppliesAll c.args.self.now qs c.loop-request.answers.items c.loop-request.self) (take_all c.loop-request.request-index c.args.requests.now c.loop-request-test.false) c.loop-request.invariant.applied)

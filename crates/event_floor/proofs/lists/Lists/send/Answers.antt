@@ -6,7 +6,7 @@ use Rattle.event_floor.proofs.SeatLaws.{send_seated}
 use Rattle.event_floor.proofs.FloorLaws.{floor_settled, floor_seat, floor_inbox, floor_next, desk_read, seated_at}
 use Rattle.event_floor.proofs.PostLaws.{posted_read, sent_posted}
 use Rattle.event_floor.proofs.StepLaws.{fault_at, send_refused}
-use Rattle.event_floor.proofs.floor.Floor.send.Goals as goal
+use Rattle.event_floor.proofs.lists.Lists.send.Goals as goal
 
 pub returns-in-Some-clause-refuses : goal.returns-in-Some-clause-refuses
 returns-in-Some-clause-refuses c =

@@ -1,7 +1,7 @@
 use Rattle.std.proofs.Common.{◌≡◌, subst}
 use Rattle.event_floor.specs.Posted.{IsHalfAt}
 use Rattle.event_floor.proofs.StepLaws.{links_batch}
-use Rattle.event_floor.proofs.floor.Floor.link.Goals as goal
+use Rattle.event_floor.proofs.lists.Lists.link.Goals as goal
 
 pub returns-in-Some-clause-does : goal.returns-in-Some-clause-does
 returns-in-Some-clause-does c =

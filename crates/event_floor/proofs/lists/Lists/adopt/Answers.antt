@@ -2,7 +2,7 @@ use Rattle.std.proofs.Common.{◌<◌, length, arith, sym, subst}
 use Rattle.event_floor.specs.Floors.{IsSeated}
 use Rattle.event_floor.proofs.SeatLaws.{adopt_seated}
 use Rattle.event_floor.proofs.FloorLaws.{floor_settled, floor_seat, seated_read}
-use Rattle.event_floor.proofs.floor.Floor.adopt.Goals as goal
+use Rattle.event_floor.proofs.lists.Lists.adopt.Goals as goal
 
 pub invariant_of-self : goal.invariant_of-self
 invariant_of-self c =

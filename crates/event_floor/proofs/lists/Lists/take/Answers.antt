@@ -5,7 +5,7 @@ use Rattle.event_floor.proofs.SeatLaws.{handle_seated}
 use Rattle.event_floor.proofs.FloorLaws.{floor_settled, floor_seat, floor_inbox, desk_read, seated_at, inbox_read}
 use Rattle.event_floor.proofs.PostLaws.{posted_read, rest_posted, taken_address, taken_digits, taken_known}
 use Rattle.event_floor.proofs.StepLaws.{takes_front}
-use Rattle.event_floor.proofs.floor.Floor.take.Goals as goal
+use Rattle.event_floor.proofs.lists.Lists.take.Goals as goal
 
 pub handle-counts-requires-clause-address : goal.handle-counts-requires-clause-address
 handle-counts-requires-clause-address c =

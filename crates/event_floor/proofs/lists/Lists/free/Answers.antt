@@ -5,7 +5,7 @@ use Rattle.event_floor.specs.declared.seat.Seat.TheVariants.{Held}
 use Rattle.event_floor.specs.Floors.{AreOwned, IsKnown, no_desk}
 use Rattle.event_floor.proofs.SeatLaws.{free_seated}
 use Rattle.event_floor.proofs.FloorLaws.{floor_settled, floor_seat, floor_lent, owned_set, lent_owned, takes_owner, chunk_within, desk_read, seated_at}
-use Rattle.event_floor.proofs.floor.Floor.free.Goals as goal
+use Rattle.event_floor.proofs.lists.Lists.free.Goals as goal
 
 pub invariant_of-self-2 : goal.invariant_of-self-2
 invariant_of-self-2 c =

@@ -5,7 +5,7 @@ use Rattle.event_floor.specs.Chunks.{ChunksSeen}
 use Rattle.event_floor.proofs.SeatLaws.{claim_seated}
 use Rattle.event_floor.proofs.FloorLaws.{floor_settled, floor_seat, desk_read, seated_at, uses_class, few_classes}
 use Rattle.event_floor.proofs.StepLaws.{draws_chunk}
-use Rattle.event_floor.proofs.floor.Floor.claim.Goals as goal
+use Rattle.event_floor.proofs.lists.Lists.claim.Goals as goal
 
 pub invariant_of-self-2 : goal.invariant_of-self-2
 invariant_of-self-2 c =

@@ -4,7 +4,7 @@ use Rattle.event_floor.specs.declared.seat.Seat.TheVariants.{Held}
 use Rattle.event_floor.specs.Floors.{AreOwned, no_desk}
 use Rattle.event_floor.proofs.SeatLaws.{alloc_seated, alloc_placed}
 use Rattle.event_floor.proofs.FloorLaws.{floor_settled, floor_seat, floor_lent, owned_set, place_within, desk_read, seated_at}
-use Rattle.event_floor.proofs.floor.Floor.alloc.Goals as goal
+use Rattle.event_floor.proofs.lists.Lists.alloc.Goals as goal
 
 pub put-requires-clause-within : goal.put-requires-clause-within
 put-requires-clause-within c =

@@ -1,0 +1,13 @@
+pub mod Lists
+pub mod Tables
+pub mod Views
+pub mod Least
+pub mod Refused
+pub mod Holders
+pub mod Claims
+pub mod Lends
+pub mod Bounds
+pub mod Posts
+pub mod Serves
+pub mod Wholes
+pub mod Runs

@@ -1,0 +1,46 @@
+-- Runs of a floor, one request longer.
+use Rattle.std.proofs.Common.{◌≡◌, ℕ, List, [], ◌∷◌, ◌++◌, Ok, Err, refl, sym, subst, ◌^◌, ◌≤◌}
+use Rattle.std.specs.Prelude.{Result, IfOk, IfErr, OnErr}
+use Rattle.digit_route.specs.Digits.{Scheme, IsScheme}
+use Rattle.event_floor.specs.declared.request.Request.{Request}
+use Rattle.event_floor.specs.Floors.{FloorSeen, IsFloor, opening}
+use Rattle.event_floor.specs.Runs.{Answers}
+use Rattle.event_floor.specs.machine.Steps.{Answer}
+use Rattle.event_floor.specs.machine.Headline.{AppliesAll as ListingAppliesAll}
+use Rattle.event_floor.specs.headline.Headline.{Shows, Applies, Headline}
+use Rattle.event_floor.specs.headline.Listing.{listing_of}
+use Rattle.event_floor.specs.headline.Whole.{IsWhole}
+use Rattle.event_floor.proofs.machine.Applied.{shows_next}
+use Rattle.event_floor.proofs.machine.Joins.{applies_none, applies_push}
+use Rattle.event_floor.proofs.machine.Headlines.{headline}
+use Rattle.event_floor.proofs.headline.Serves.{serves}
+use Rattle.event_floor.proofs.headline.Wholes.{stays_whole, shows_opening}
+
+-- a list of requests is a run of the machine
+unfoldable pub AppliesAll : FloorSeen → List Request → List Answer → FloorSeen → Type 0
+AppliesAll old requests answers new = ListingAppliesAll (listing_of old) requests answers (listing_of new)
+
+pub step_applies : (v w : FloorSeen) (q : Request) (y : Answer) → IsWhole v → Answers v q y w → Applies v q y w
+unfolding Applies
+step_applies v w q y f h = serves v w q y f h
+
+pub step_shows : (v w : FloorSeen) (q : Request) (y : Answer) → Applies v q y w → Shows v → Shows w
+unfolding Applies Shows
+step_shows v w q y f s = shows_next (listing_of v) (listing_of w) q y f s
+
+pub run_none : (v : FloorSeen) → AppliesAll v [] [] v
+unfolding AppliesAll
+run_none v = applies_none (listing_of v)
+
+pub run_push : (u v w : FloorSeen) (qs : List Request) (ys : List Answer) (q : Request) (y : Answer) → AppliesAll u qs ys v → Applies v q y w
+    → AppliesAll u (qs ++ q ∷ []) (ys ++ y ∷ []) w
+unfolding AppliesAll Applies
+run_push u v w qs ys q y more one = applies_push (listing_of u) (listing_of v) (listing_of w) qs ys q y more one
+
+pub run_headline : (u v : FloorSeen) (qs : List Request) (ys : List Answer) → AppliesAll u qs ys v → Headline u qs ys v
+unfolding AppliesAll Headline
+run_headline u v qs ys f = headline (listing_of u) qs ys (listing_of v) f
+
+pub opening_shows : (desks chunks : ℕ) (digits : Scheme) (limit : ℕ) → IsScheme digits → desks ≤ 2 ^ digits.bits → Shows (opening desks chunks digits limit)
+unfolding Shows
+opening_shows desks chunks digits limit i l = (_, _, shows_opening desks chunks digits limit i l)

@@ -1,0 +1,129 @@
+-- What is kept of a floor stays kept.
+use Rattle.std.proofs.Common.{◌≡◌, ◌≢◌, ℕ, zero, suc, ◌+◌, ◌*◌, ◌^◌, ◌<◌, ◌≤◌, List, [], ◌∷◌, ◌++◌, map, length, get_or, set, Option, Some, None, Ok, Err, refl, sym, ap, ap₂, ◌∙◌, subst, arith, ⊎_elim}
+use Rattle.std.specs.Prelude.{IfSome, replicate}
+use Rattle.std.proofs.lemmas.List.{get_or-set_same, get_or-set_other, map-append}
+use Rattle.std.proofs.lemmas.Bool.Decides.{eqb_tells}
+use Rattle.region_cut.specs.declared.slot.Slot.{Slot}
+use Rattle.slot_chain.specs.Buffer.{Buffer}
+use Rattle.digit_route.specs.Digits.{Scheme, IsScheme}
+use Rattle.pool_desk.specs.declared.freed.Freed.{Freed}
+use Rattle.event_floor.specs.declared.seat.Seat.{Seat}
+use Rattle.event_floor.specs.declared.request.Request.{Request}
+use Rattle.event_floor.specs.declared.request.Request.TheVariants.{Adopt, Retire, Claim, Alloc, Free, Send, Link, Take}
+use Rattle.event_floor.specs.declared.reply.Reply.{Reply}
+use Rattle.event_floor.specs.declared.reply.Reply.TheVariants.{Done, Chunk, Slot as Lent, Home, Cached, Due, Batch, Counts}
+use Rattle.event_floor.specs.Lent.{buffers_lent, place_of, AreInPlace}
+use Rattle.event_floor.specs.Seats.{idle_seats}
+use Rattle.event_floor.specs.Floors.{FloorSeen, IsFloor, opening}
+use Rattle.event_floor.specs.Steps.{Does, LendsSlot, TakesBack}
+use Rattle.event_floor.specs.Runs.{Answers}
+use Rattle.event_floor.specs.machine.Steps.{Answer}
+use Rattle.event_floor.specs.machine.Listing.{DeskListing, BatchListing, Listing, empty_desk, Shown}
+use Rattle.event_floor.specs.machine.State.{opening as machine_opening}
+use Rattle.event_floor.specs.machine.Headline.{ShowsSome}
+use Rattle.event_floor.specs.headline.Listing.{entry_of, desk_of, batch_of, listing_of}
+use Rattle.event_floor.specs.headline.Whole.{IsWhole}
+use Rattle.event_floor.proofs.machine.Parts.{opened, opening_shown}
+use Rattle.event_floor.proofs.headline.Tables.{at_its_place, present_replicate}
+use Rattle.event_floor.proofs.headline.Lends.{placed_slot, in_table, was_there}
+
+-- ---- the table
+
+put_in_place : (lent : List (Option Buffer)) (p : ℕ) (b : Buffer) → AreInPlace lent → p < length lent → place_of b.slot ≡ p → b.slot.index < 256 → AreInPlace (set lent p (Some b))
+put_in_place lent p b h l e m i =
+    ⊎_elim (λ (same : _ × (i ≡ p)). rw same.1 (rw (get_or-set_same lent p (Some b) None l) (e, m)))
+    (λ (other : _ × (i ≢ p)). rw (get_or-set_other lent p i (Some b) None other.1) (h i)) (eqb_tells i p)
+
+gone : (P : Buffer → Type 0) (xs : List (Option Buffer)) (p j : ℕ) → IfSome (get_or xs j None) P → IfSome (get_or (set xs p None) j None) P
+gone P [] zero j k = k
+gone P [] (suc p) j k = k
+gone P (x ∷ xs) zero zero k = tt
+gone P (x ∷ xs) zero (suc j) k = k
+gone P (x ∷ xs) (suc p) zero k = k
+gone P (x ∷ xs) (suc p) (suc j) k = gone P xs p j k
+
+gone_in_place : (lent : List (Option Buffer)) (p : ℕ) → AreInPlace lent → AreInPlace (set lent p None)
+gone_in_place lent p h i = gone (λ (b : Buffer). (place_of b.slot ≡ i) × (b.slot.index < 256)) lent p i (h i)
+
+lent_stays : (v w : FloorSeen) → w.lent ≡ v.lent → AreInPlace v.lent → AreInPlace w.lent
+lent_stays v w e h = subst AreInPlace (sym e) h
+
+lends_in_place : (v w : FloorSeen) (a n : ℕ) (slot : Slot) → IsWhole v → LendsSlot v a n slot w → AreInPlace w.lent
+lends_in_place v w a n slot f s =
+    subst AreInPlace (sym (ap (λ (x : FloorSeen). x.lent) s.same))
+    (put_in_place v.lent (place_of slot) s.buffer f.in_place (subst (λ z. place_of z < length v.lent) s.is_slot (in_table v w a n slot f s)) (ap place_of s.is_slot) (placed_slot v w a n slot f s).1)
+
+takes_in_place : (v w : FloorSeen) (a k i : ℕ) (r : Freed) → IsWhole v → TakesBack v a k i r w → AreInPlace w.lent
+takes_in_place v w a k i r f s = subst AreInPlace (sym (ap (λ (x : FloorSeen). x.lent) s.same)) (gone_in_place v.lent (place_of s.buffer.slot) f.in_place)
+
+-- what each accepted request keeps
+keeps : (v w : FloorSeen) (q : Request) (r : Reply) → IsWhole v → Does v q r w → AreInPlace w.lent × (w.chunks ≡ v.chunks)
+keeps v w (Adopt a x) Done f h = (lent_stays v w (ap (λ (x : FloorSeen). x.lent) h.2) f.in_place, ap (λ (x : FloorSeen). x.chunks) h.2)
+keeps v w (Adopt a x) _ f h = elim h [ ]
+keeps v w (Retire a) Done f h = (lent_stays v w (ap (λ (x : FloorSeen). x.lent) h.4) f.in_place, ap (λ (x : FloorSeen). x.chunks) h.4)
+keeps v w (Retire a) _ f h = elim h [ ]
+keeps v w (Claim a c) (Chunk k) f h = (lent_stays v w (ap (λ (x : FloorSeen). x.lent) h.same) f.in_place, ap (λ (x : FloorSeen). x.chunks) h.same)
+keeps v w (Claim a c) _ f h = elim h [ ]
+keeps v w (Alloc a n) (Lent slot) f h = (lends_in_place v w a n slot f h, ap (λ (x : FloorSeen). x.chunks) h.same)
+keeps v w (Alloc a n) _ f h = elim h [ ]
+keeps v w (Free a pair) Home f h = (takes_in_place v w a pair.0 pair.1 _ f h, ap (λ (x : FloorSeen). x.chunks) h.same)
+keeps v w (Free a pair) Cached f h = (takes_in_place v w a pair.0 pair.1 _ f h, ap (λ (x : FloorSeen). x.chunks) h.same)
+keeps v w (Free a pair) Due f h = (takes_in_place v w a pair.0 pair.1 _ f h, ap (λ (x : FloorSeen). x.chunks) h.same)
+keeps v w (Free a pair) _ f h = elim h [ ]
+keeps v w (Send a t) (Batch number count) f h = (lent_stays v w (ap (λ (x : FloorSeen). x.lent) h.same) f.in_place, ap (λ (x : FloorSeen). x.chunks) h.same)
+keeps v w (Send a t) _ f h = elim h [ ]
+keeps v w (Link n) Done f h = (lent_stays v w (ap (λ (x : FloorSeen). x.lent) h.same) f.in_place, ap (λ (x : FloorSeen). x.chunks) h.same)
+keeps v w (Link n) _ f h = elim h [ ]
+keeps v w (Take b) (Counts home on) f h = (lent_stays v w (ap (λ (x : FloorSeen). x.lent) h.same) f.in_place, ap (λ (x : FloorSeen). x.chunks) h.same)
+keeps v w (Take b) _ f h = elim h [ ]
+
+pub stays_whole : (v w : FloorSeen) (q : Request) (y : Answer) → IsWhole v → Answers v q y w
+    → IsFloor w.digits w.limit w.chunks w.desks w.lent w.inboxes w.next → IsWhole w
+stays_whole v w q (Ok r) f h g = let k = keeps v w q r f h in record { floor = g; in_place = k.0; few_chunks = subst (λ n. n ≤ 1024) (sym k.1) f.few_chunks }
+stays_whole v w q (Err r) f h g = subst IsWhole (sym h.1) f
+
+-- ---- a new floor
+
+replicate_push : {X : Type 0} (n : ℕ) (x : X) → replicate n x ++ x ∷ [] ≡ replicate (suc n) x
+replicate_push zero x = refl
+replicate_push (suc n) x = ap (λ l. x ∷ l) (replicate_push n x)
+
+idle_listed : (digits : Scheme) (limit n : ℕ) → map desk_of (idle_seats digits limit n) ≡ replicate n empty_desk
+unfolding idle_seats
+idle_listed digits limit zero = refl
+idle_listed digits limit (suc n) =
+    map-append desk_of (idle_seats digits limit n) _ ∙ (ap (λ l. l ++ empty_desk ∷ []) (idle_listed digits limit n) ∙ replicate_push n empty_desk)
+
+empty_listed : (n : ℕ) → map (map batch_of) (replicate n []) ≡ replicate n []
+empty_listed zero = refl
+empty_listed (suc n) = ap (λ l. [] ∷ l) (empty_listed n)
+
+none_in_place : (n i : ℕ) → IfSome (get_or (replicate n (let o : Option Buffer = None in o)) i None) (λ (b : Buffer). (place_of b.slot ≡ i) × (b.slot.index < 256))
+none_in_place n i = subst (λ o. IfSome o (λ (b : Buffer). (place_of b.slot ≡ i) × (b.slot.index < 256))) (sym (none_at n i)) tt
+  where
+    none_at : (n i : ℕ) → get_or (replicate n (let o : Option Buffer = None in o)) i None ≡ None
+    none_at zero zero = refl
+    none_at zero (suc i) = refl
+    none_at (suc n) zero = refl
+    none_at (suc n) (suc i) = none_at n i
+
+opening_listed : (desks chunks : ℕ) (digits : Scheme) (limit : ℕ) → listing_of (opening desks chunks digits limit) ≡ opened desks chunks digits limit
+opening_listed desks chunks digits limit i = record {
+  digits = digits;
+  limit = limit;
+  chunks = chunks;
+  drawn = [];
+  desks = idle_listed digits limit desks i;
+  lent = map entry_of (present_replicate (256 * chunks) i);
+  inboxes = empty_listed desks i;
+  next = 1;
+}
+
+pub shows_opening : (desks chunks : ℕ) (digits : Scheme) (limit : ℕ) → IsScheme digits → desks ≤ 2 ^ digits.bits
+    → Shown (listing_of (opening desks chunks digits limit)) (machine_opening desks chunks digits limit) (λ s. 0)
+shows_opening desks chunks digits limit i l =
+    subst (λ z. Shown z (machine_opening desks chunks digits limit) (λ s. 0)) (sym (opening_listed desks chunks digits limit)) (opening_shown desks chunks digits limit i l)
+
+pub opening_whole : (desks chunks : ℕ) (digits : Scheme) (limit : ℕ) → chunks ≤ 1024
+    → (let v = opening desks chunks digits limit in IsFloor v.digits v.limit v.chunks v.desks v.lent v.inboxes v.next) → IsWhole (opening desks chunks digits limit)
+opening_whole desks chunks digits limit few floor = record { floor = floor; in_place = λ i. none_in_place (256 * chunks) i; few_chunks = few }

@@ -1,0 +1,3 @@
+pub mod Listing
+pub mod Whole
+pub mod Headline

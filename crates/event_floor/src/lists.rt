@@ -1,0 +1,106 @@
+//! The lists of a floor.
+ghost use Rattle.std.specs.Prelude.{◌≡◌, ◌≤◌, ◌^◌, length, IfOk, IfErr, OnErr};
+ghost use Rattle.event_floor.specs.Chunks.{AreNumbered};
+ghost use Rattle.event_floor.specs.Floors.{desk_count, opening, IsFloor};
+ghost use Rattle.event_floor.specs.Steps.{Does, Refuses};
+
+use crate::chunks::Chunks;
+use crate::inbox::Inbox;
+use crate::inboxes::empty_inboxes;
+use crate::lent::Lent;
+use crate::seat::{Seat, empty_seats};
+use crate::{Refusal, Reply, Request};
+use digit_route::Digits;
+use region_cut::Part;
+use slot_chain::NoMemory;
+use std::alloc::Global;
+use std::marker::Model;
+
+/// All desks of a pool, the chunks that none of them drew, the lent buffers, and the batches that are on their way.
+#[derive(Drop)]
+pub(crate) struct Lists<'r> {
+    pub(crate) digits: Digits,
+    pub(crate) limit: u64,
+    pub(crate) desks: Vec<Seat<'r>>,
+    pub(crate) chunks: Chunks<'r>,
+    pub(crate) lent: Lent<'r>,
+    pub(crate) inboxes: Vec<Inbox<'r>>,
+    pub(crate) next: u64,
+}
+
+impl<'r> Model for Lists<'r> {
+    ghost use Rattle.event_floor.specs.Floors.{FloorSeen, IsFloor};
+
+    ghost Value = { FloorSeen };
+
+    ghost view = { λ f. record {
+      digits = f.digits;
+      limit = f.limit;
+      chunks = f.chunks.count;
+      drawn = f.chunks.drawn;
+      desks = f.desks.items;
+      lent = f.lent;
+      inboxes = f.inboxes.items;
+      next = f.next;
+    } };
+
+    ghost invariant = { λ f. IsFloor f.digits f.limit f.chunks.count f.desks.items f.lent f.inboxes.items f.next };
+}
+
+impl<'r> Lists<'r> {
+    /// The lists of a new floor.
+    pub(crate) fn new(
+        alloc: Global,
+        parts: Vec<Part<'r>>,
+        desks: u32,
+        digits: Digits,
+        limit: u64,
+    ) -> Result<Lists<'r>, NoMemory>
+        requires some { 1 ≤ desks }
+        requires few { desks ≤ 2 ^ digits.bits }
+        requires limit { limit ≤ 1048576 }
+        requires parts { AreNumbered parts.items }
+        ensures { IfOk result (λ f. f ≡ opening desks (length parts.entry.items) digits limit) }
+    {
+        let _profile = digits.profile();
+        let lent = Lent::new(alloc, parts.len())?;
+        let chunks = Chunks::new(alloc, parts)?;
+        let inboxes = empty_inboxes(alloc, desks)?;
+        let desks = empty_seats(alloc, desks, digits, limit)?;
+        Ok(Lists {
+            digits,
+            limit,
+            desks,
+            chunks,
+            lent,
+            inboxes,
+            next: 1,
+        })
+    }
+
+    /// Does what is asked, or refuses and changes nothing.
+    pub(crate) fn apply(&mut self, alloc: Global, request: Request) -> Result<Reply, Refusal>
+        ensures does { IfOk result (λ reply. Does self.old request reply self.new) }
+        ensures refuses { IfErr result (λ refusal. Refuses self.old request refusal) }
+        ensures unchanged { OnErr result (self.new ≡ self.old) }
+        ensures desks { desk_count self.new ≡ desk_count self.old }
+    {
+        match request {
+            Request::Adopt(a, worker) => self.adopt(a, worker),
+            Request::Retire(a) => self.retire(a),
+            Request::Claim(a, class) => self.claim(a, class),
+            Request::Alloc(a, size) => self.alloc(alloc, a, size),
+            Request::Free(a, (chunk, index)) => self.free(a, chunk, index),
+            Request::Send(a, t) => self.send(a, t),
+            Request::Link(number) => self.link(number),
+            Request::Take(b) => self.take(b),
+        }
+    }
+
+    /// What its type keeps.
+    pub(crate) fn keeps(&self)
+        ensures { IsFloor self.now.digits self.now.limit self.now.chunks self.now.desks self.now.lent self.now.inboxes self.now.next }
+    {
+        let _desks = &self.desks;
+    }
+}
