@@ -27,3 +27,4 @@ pub mod TakeStep
 pub mod Answered
 pub mod Orderly
 pub mod Numbers
+pub mod Bounds

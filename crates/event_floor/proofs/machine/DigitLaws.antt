@@ -102,7 +102,8 @@ same_from_common s i x y bx by e =
 pub owners_below : (s : Scheme) → IsScheme s → (x y : ℕ) → x < 2 ^ s.bits → y < 2 ^ s.bits → x ≢ y → common s x y < count s
 owners_below s i x y bx by ne =
     let le = common-le s x y in
-    ⊎_elim (λ lt. lt) (λ (ge : count s ≤ common s x y). let e : common s x y ≡ count s = omega arith in absurd (ne (same_from_common s i x y bx by e)))
+    ⊎_elim (λ lt. lt) (λ (ge : count s ≤ common s x y). let e : common s x y ≡ count s =
+    omega arith in absurd (ne (same_from_common s i x y bx by e)))
     (cases_lt (common s x y) (count s))
 
 -- what is nearer t than a is shares with a what t does

@@ -52,7 +52,8 @@ chunk_times s k (Some d) =
   where
     go : (b : Bool) → count_by (λ i. b && (s.index == i)) (range_with_len 0 (slots_of d.class)) ≡ one_if (b && nat_lt s.index (slots_of d.class))
     go true = count_range s.index (slots_of d.class) 0
-        ∙ (ap (λ b. one_if (b && nat_lt s.index (0 + slots_of d.class))) (from_zero s.index) ∙ ap (λ n. one_if (nat_lt s.index n)) (zero-add (slots_of d.class)))
+        ∙ (ap (λ b. one_if (b && nat_lt s.index (0 + slots_of d.class))) (from_zero s.index)
+        ∙ ap (λ n. one_if (nat_lt s.index n)) (zero-add (slots_of d.class)))
     go false = count_none (λ i. false) (range_with_len 0 (slots_of d.class)) (λ i. refl)
 
 -- the slots of the chunks from a on
@@ -70,7 +71,8 @@ chunks_times drawn s (suc m) a =
   where
     here : (b : Bool) → (s.chunk == a) ≡ b → times s (slots_of_chunk a (drawn a)) ≡ one_if ((s.chunk == a) && has_index s.index (drawn s.chunk))
     here true e = chunk_times s a (drawn a) ∙ ap (λ k. one_if ((s.chunk == a) && has_index s.index (drawn k))) (sym (eqb-true s.chunk a e))
-    here false e = chunk_times s a (drawn a) ∙ (ap (λ b. one_if (b && has_index s.index (drawn a))) e ∙ ap (λ b. one_if (b && has_index s.index (drawn s.chunk))) (sym e))
+    here false e = chunk_times s a (drawn a) ∙ (ap (λ b. one_if (b && has_index s.index (drawn a))) e
+        ∙ ap (λ b. one_if (b && has_index s.index (drawn s.chunk))) (sym e))
 
     step : (h : Bool) → one_if ((s.chunk == a) && h) + one_if ((nat_le (a + 1) s.chunk && nat_lt s.chunk (a + 1 + m)) && h)
         ≡ one_if ((nat_le a s.chunk && nat_lt s.chunk (a + suc m)) && h)
@@ -81,7 +83,8 @@ chunks_times drawn s (suc m) a =
 pub slots_once : (st : State) (c : Slot → ℕ) → Sound st c → ExactlyOnce (slots st) st.drawn
 slots_once st c h s = chunks_times st.drawn s st.chunks 0 ∙ low (st.drawn s.chunk) refl
   where
-    low : (o : Option Drawn) → st.drawn s.chunk ≡ o → one_if ((nat_le 0 s.chunk && nat_lt s.chunk (0 + st.chunks)) && has_index s.index o) ≡ one_if (has_index s.index o)
+    low : (o : Option Drawn) → st.drawn s.chunk ≡ o → one_if ((nat_le 0 s.chunk && nat_lt s.chunk (0 + st.chunks)) && has_index s.index o) ≡ one_if
+        (has_index s.index o)
     low None e = none (nat_le 0 s.chunk && nat_lt s.chunk (0 + st.chunks))
       where
         none : (b : Bool) → one_if (b && false) ≡ 0

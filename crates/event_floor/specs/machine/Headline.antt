@@ -48,7 +48,8 @@ pub record HeadlineAt (st : State) (count : Slot → ℕ) (requests : List Reque
   pub once : ExactlyOnce (joined new) end.drawn
   pub in_place : InPlace new end
   pub carried : (a : ℕ) → All (Counted end (λ s. forwards st requests answers s (start_count st count s))) (desk_listing new a).cache
-  pub carried_in_batches : (b : ℕ) → All (λ (w : BatchListing). All (Counted end (λ s. forwards st requests answers s (start_count st count s))) w.buffers) (inbox_listing new b)
+  pub carried_in_batches : (b : ℕ) → All (λ (w : BatchListing). All (Counted end
+      (λ s. forwards st requests answers s (start_count st count s))) w.buffers) (inbox_listing new b)
   pub few : (s : Slot) → forwards st requests answers s (start_count st count s) < digits_of end
 
 abbrev pub Headline : Listing → List Request → List Answer → Listing → Type 0
