@@ -8,3 +8,4 @@ mod Openings
 mod Plays
 mod Headers
 pub mod Known
+mod Undrawn

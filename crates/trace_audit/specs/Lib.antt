@@ -4,3 +4,5 @@ pub mod Machine
 pub mod Report
 pub mod Replay
 pub mod Steps
+pub mod Audit
+pub mod Tallies

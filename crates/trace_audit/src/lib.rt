@@ -1,9 +1,12 @@
 //! Traces of a buffer pool: [`replay`] reads one, drives a floor with it, and writes a report.
 //!
+//! [`audit`] says whether all slots of the chunks that a pool drew are there, each of them once.
+//!
 //! The formats of the trace and of the report stand in `docs/FORMATS.md`. A trace comes from a [`Source`], a report
 //! goes to a [`Sink`]; over readers and writers of std these are [`FromReader`] and [`ToWriter`].
 #![tactic(auto)]
 
+mod auditing;
 mod grammar;
 mod lines;
 mod replaying;
@@ -12,6 +15,7 @@ mod report;
 mod tests;
 mod wire;
 
+pub use auditing::{Drawn, Fault, audit};
 pub use grammar::Header;
 pub use replaying::{End, ReplayError, replay};
 pub use report::{Counts, Tally};
