@@ -1,3 +1,6 @@
 pub mod ChunkLaws
 pub mod FloorLaws
+pub mod PostLaws
+pub mod RunLaws
 pub mod SeatLaws
+pub mod StepLaws

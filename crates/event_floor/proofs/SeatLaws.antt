@@ -1,24 +1,27 @@
--- The slots at home keep their places.
-use Rattle.std.proofs.Common.{◌≡◌, ℕ, zero, suc, ◌+◌, ◌<◌, ◌≤◌, Bool, true, false, List, ◌∷◌, refl, sym, ap, ◌∙◌, subst, arith, All, drop, ⊎_elim}
+-- A desk stays in its seat, whatever its calls do.
+use Rattle.std.proofs.Common.{◌≡◌, ℕ, zero, suc, ◌+◌, ◌<◌, ◌≤◌, Bool, true, false, List, [], ◌∷◌, ◌++◌, refl, sym, ap, ◌∙◌, subst, arith, All, drop, map, length, get_or, not, ◌==◌, ⊎_elim}
 use Rattle.std.specs.Prelude.{Ok, ◌&&◌, nat_le}
 use Rattle.std.specs.Borrow.{GName}
 use Rattle.std.proofs.lemmas.Bool.{leb-true}
 use Rattle.std.proofs.lemmas.Bool.Decides.{eqb_tells}
-use Rattle.std.proofs.lemmas.List.Elements.{All-append, All-cons, All-nil}
+use Rattle.std.proofs.lemmas.List.Elements.{All-append, All-cons, All-nil, All-map, All-filter}
 use Rattle.std.proofs.lemmas.List.Sorted.{All-permutation}
-use Rattle.region_cut.specs.Classes.{size_of, slots_of}
+use Rattle.std.proofs.lemmas.List.{get_or_append_left, length-append}
+use Rattle.region_cut.specs.Classes.{size_of, slots_of, class_count}
 use Rattle.region_cut.specs.declared.part.Part.{Part}
 use Rattle.slot_chain.specs.Buffer.{Buffer}
 use Rattle.digit_route.specs.Digits.{Scheme}
+use Rattle.digit_route.specs.States.{BatchState, Gives as Routed}
 use Rattle.pool_desk.specs.Homes.{AtHome, Gives, unused_from, slot_at}
 use Rattle.pool_desk.specs.Homes.AtHome.{Kept, Fresh}
 use Rattle.pool_desk.specs.Desks.{DeskState}
-use Rattle.pool_desk.specs.Steps.{Claims, Allocs, Frees, Caches, freed}
+use Rattle.pool_desk.specs.Steps.{Claims, Allocs, Frees, Caches, Handles, freed, passed_on, own, others}
 use Rattle.pool_desk.specs.declared.freed.Freed.{Freed}
 use Rattle.pool_desk.specs.declared.freed.Freed.TheVariants.{Home, Cached, Due}
-use Rattle.event_floor.specs.declared.seat.Seat.TheVariants.{Held}
-use Rattle.event_floor.specs.Seats.{IsNumbered, HasPlace}
-use Rattle.event_floor.specs.Steps.{class_limit}
+use Rattle.event_floor.specs.declared.seat.Seat.{Seat}
+use Rattle.event_floor.specs.declared.seat.Seat.TheVariants.{Idle, Held}
+use Rattle.event_floor.specs.Seats.{IsNumbered, HasPlace, held_by, retired, adopted, home_of, cached_of, Releases}
+use Rattle.event_floor.specs.Floors.{IsKnown, IsSeated}
 
 -- a test holds of each number below n
 abbrev all_below : (ℕ → Bool) → ℕ → Bool
@@ -40,19 +43,26 @@ at_each p (suc n) k e l =
     (λ (other : _). let ne = other.1 in at_each p n k (and_right (p n) (all_below p n) e) (omega (arith, l, ne))) (eqb_tells k n)
 
 -- a chunk has at most 256 slots
-few_slots : (class : ℕ) → class < class_limit → slots_of class ≤ 256
-few_slots class l = leb-true (slots_of class) 256 (at_each (λ k. nat_le (slots_of k) 256) class_limit class refl l)
+few_slots : (class : ℕ) → class < class_count → slots_of class ≤ 256
+few_slots class l = leb-true (slots_of class) 256 (at_each (λ k. nat_le (slots_of k) 256) class_count class refl l)
 
 unused_places : (chunks chunk class : ℕ) (part : GName) (n i : ℕ) (bs : List ℕ) → chunk < chunks → i + n ≤ 256 → All (HasPlace chunks) (unused_from chunk class part n i bs)
 unused_places chunks chunk class part zero i bs l m = All-nil _
 unused_places chunks chunk class part (suc n) i bs l m =
     All-cons (HasPlace chunks) _ _ (l, omega (arith, m)) (unused_places chunks chunk class part n (i + 1) (drop (size_of class) bs) l (omega (arith, m)))
 
-head_of : {X : Type 0} (P : X → Type 0) (x : X) (xs : List X) → All P (x ∷ xs) → P x
+pub head_of : {X : Type 0} (P : X → Type 0) (x : X) (xs : List X) → All P (x ∷ xs) → P x
 head_of P x xs h = h 0 x (omega arith)
 
-tail_of : {X : Type 0} (P : X → Type 0) (x : X) (xs : List X) → All P (x ∷ xs) → All P xs
+pub tail_of : {X : Type 0} (P : X → Type 0) (x : X) (xs : List X) → All P (x ∷ xs) → All P xs
 tail_of P x xs h = λ k d l. h (suc k) d (omega (arith, l))
+
+all_left : {X : Type 0} (P : X → Type 0) (xs ys : List X) → All P (xs ++ ys) → All P xs
+all_left P xs ys h = λ k d l. rw (← get_or_append_left xs ys d k l) (h k d (let e = length-append xs ys in omega (arith, l, e)))
+
+all_right : {X : Type 0} (P : X → Type 0) (xs ys : List X) → All P (xs ++ ys) → All P ys
+all_right P [] ys h = h
+all_right P (x ∷ xs) ys h = all_right P xs ys (tail_of P x (xs ++ ys) h)
 
 same_slot : (s : AtHome) (b : Buffer) → Gives s b → b.slot ≡ slot_at s
 same_slot (Kept a) b g = ap (λ (z : Buffer). z.slot) g
@@ -78,45 +88,106 @@ numbered_cached : (digits : Scheme) (limit a : ℕ) (d d' : DeskState) → IsNum
 numbered_cached digits limit a d d' n same =
     numbered_as digits limit a d d' n (ap (λ (z : DeskState). z.number) same) (ap (λ (z : DeskState). z.limit) same) (ap (λ (z : DeskState). z.digits) same)
 
--- a desk that keeps its number, its limit and its digits, with slots at home that have a place
-pub record StaysPlaced (digits : Scheme) (limit chunks a : ℕ) (d : DeskState) : Type 0 where
-  pub numbered : IsNumbered digits limit a (Held d)
-  pub placed : All (HasPlace chunks) d.home
+-- what the floor knows of a buffer rests neither on its count of forwards
+pub known_freed : (n chunks : ℕ) (b : Buffer) → IsKnown n chunks b → IsKnown n chunks (freed b)
+known_freed n chunks b k = record { owner = k.owner; chunk = k.chunk; index = k.index }
 
-pub claim_stays : (digits : Scheme) (limit chunks a class : ℕ) (part : Part) (d d' : DeskState) → IsNumbered digits limit a (Held d) → All (HasPlace chunks) d.home
-    → class < class_limit → part.chunk < chunks → Claims d part class d' → StaysPlaced digits limit chunks a d'
-claim_stays digits limit chunks a class part d d' n h l m c = record {
-  numbered = numbered_drawn digits limit a d d' n c.same;
+known_passed_on : (n chunks : ℕ) (b : Buffer) → IsKnown n chunks b → IsKnown n chunks (passed_on b)
+known_passed_on n chunks b k = record { owner = k.owner; chunk = k.chunk; index = k.index }
+
+-- the cache, or the slots at home, are the same
+same_cached : (n chunks : ℕ) (xs ys : List Buffer) → ys ≡ xs → All (IsKnown n chunks) xs → All (IsKnown n chunks) ys
+same_cached n chunks xs ys e h = subst (λ z. All (IsKnown n chunks) z) (sym e) h
+
+same_home : (chunks : ℕ) (xs ys : List AtHome) → ys ≡ xs → All (HasPlace chunks) xs → All (HasPlace chunks) ys
+same_home chunks xs ys e h = subst (λ z. All (HasPlace chunks) z) (sym e) h
+
+pub claim_seated : (digits : Scheme) (limit n chunks a class : ℕ) (part : Part) (d d' : DeskState) → IsSeated digits limit n chunks a (Held d)
+    → class < class_count → part.chunk < chunks → Claims d part class d' → IsSeated digits limit n chunks a (Held d')
+claim_seated digits limit n chunks a class part d d' h l m c = record {
+  numbered = numbered_drawn digits limit a d d' h.numbered c.same;
   placed = All-permutation (HasPlace chunks) _ d'.home c.home
       (All-append (HasPlace chunks) (unused_from part.chunk class part.bytes.ghost_name (slots_of class) 0 part.bytes.now) d.home
-      (unused_places chunks part.chunk class part.bytes.ghost_name (slots_of class) 0 part.bytes.now m (let m = few_slots class l in omega (arith, m))) h);
+      (unused_places chunks part.chunk class part.bytes.ghost_name (slots_of class) 0 part.bytes.now m (let m = few_slots class l in omega (arith, m))) h.placed);
+  known = same_cached n chunks d.cached d'.cached (ap (λ (z : DeskState). z.cached) c.same) h.known;
 }
 
-pub alloc_stays : (digits : Scheme) (limit chunks a size : ℕ) (d d' : DeskState) (b : Buffer) → IsNumbered digits limit a (Held d) → All (HasPlace chunks) d.home
-    → Allocs d size (Ok b) d' → StaysPlaced digits limit chunks a d'
-alloc_stays digits limit chunks a size d d' b n h s = record {
-  numbered = numbered_drawn digits limit a d d' n s.2;
-  placed = tail_of (HasPlace chunks) s.1.from d'.home (All-permutation (HasPlace chunks) d.home (s.1.from ∷ d'.home) s.1.others h);
+pub alloc_seated : (digits : Scheme) (limit n chunks a size : ℕ) (d d' : DeskState) (b : Buffer) → IsSeated digits limit n chunks a (Held d)
+    → Allocs d size (Ok b) d' → IsSeated digits limit n chunks a (Held d')
+alloc_seated digits limit n chunks a size d d' b h s = record {
+  numbered = numbered_drawn digits limit a d d' h.numbered s.2;
+  placed = tail_of (HasPlace chunks) s.1.from d'.home (All-permutation (HasPlace chunks) d.home (s.1.from ∷ d'.home) s.1.others h.placed);
+  known = same_cached n chunks d.cached d'.cached (ap (λ (z : DeskState). z.cached) s.2) h.known;
 }
 
 -- the buffer given out has a place
-pub alloc_placed : (chunks size : ℕ) (d d' : DeskState) (b : Buffer) → All (HasPlace chunks) d.home → Allocs d size (Ok b) d' → (b.slot.chunk < chunks) × (b.slot.index < 256)
-alloc_placed chunks size d d' b h s =
+pub alloc_placed : (digits : Scheme) (limit n chunks a size : ℕ) (d d' : DeskState) (b : Buffer) → IsSeated digits limit n chunks a (Held d)
+    → Allocs d size (Ok b) d' → (b.slot.chunk < chunks) × (b.slot.index < 256)
+alloc_placed digits limit n chunks a size d d' b h s =
     rw (same_slot s.1.from b s.1.gives)
-    (head_of (HasPlace chunks) s.1.from d'.home (All-permutation (HasPlace chunks) d.home (s.1.from ∷ d'.home) s.1.others h))
+    (head_of (HasPlace chunks) s.1.from d'.home (All-permutation (HasPlace chunks) d.home (s.1.from ∷ d'.home) s.1.others h.placed))
 
-caches_stays : (digits : Scheme) (limit chunks a : ℕ) (d d' : DeskState) (b : Buffer) → IsNumbered digits limit a (Held d) → All (HasPlace chunks) d.home
-    → Caches d b d' → StaysPlaced digits limit chunks a d'
-caches_stays digits limit chunks a d d' b n h s = record {
-  numbered = numbered_cached digits limit a d d' n s.1;
-  placed = subst (λ z. All (HasPlace chunks) z) (sym (ap (λ (z : DeskState). z.home) s.1)) h;
+caches_seated : (digits : Scheme) (limit n chunks a : ℕ) (d d' : DeskState) (b : Buffer) → IsSeated digits limit n chunks a (Held d)
+    → IsKnown n chunks b → Caches d b d' → IsSeated digits limit n chunks a (Held d')
+caches_seated digits limit n chunks a d d' b h k s = record {
+  numbered = numbered_cached digits limit a d d' h.numbered s.1;
+  placed = same_home chunks d.home d'.home (ap (λ (z : DeskState). z.home) s.1) h.placed;
+  known = All-permutation (IsKnown n chunks) (freed b ∷ d.cached) d'.cached s.2 (All-cons (IsKnown n chunks) (freed b) d.cached (known_freed n chunks b k) h.known);
 }
 
-pub free_stays : (digits : Scheme) (limit chunks a : ℕ) (d d' : DeskState) (b : Buffer) (f : Freed) → IsNumbered digits limit a (Held d) → All (HasPlace chunks) d.home
-    → (b.slot.chunk < chunks) × (b.slot.index < 256) → Frees d b f d' → StaysPlaced digits limit chunks a d'
-free_stays digits limit chunks a d d' b Home n h p s = record {
-  numbered = numbered_home digits limit a d d' n s.1;
-  placed = All-permutation (HasPlace chunks) (Kept (freed b) ∷ d.home) d'.home s.2 (All-cons (HasPlace chunks) (Kept (freed b)) d.home p h);
+pub free_seated : (digits : Scheme) (limit n chunks a : ℕ) (d d' : DeskState) (b : Buffer) (f : Freed) → IsSeated digits limit n chunks a (Held d)
+    → IsKnown n chunks b → Frees d b f d' → IsSeated digits limit n chunks a (Held d')
+free_seated digits limit n chunks a d d' b Home h k s = record {
+  numbered = numbered_home digits limit a d d' h.numbered s.1;
+  placed = All-permutation (HasPlace chunks) (Kept (freed b) ∷ d.home) d'.home s.2 (All-cons (HasPlace chunks) (Kept (freed b)) d.home (k.chunk, k.index) h.placed);
+  known = same_cached n chunks d.cached d'.cached (ap (λ (z : DeskState). z.cached) s.1) h.known;
 }
-free_stays digits limit chunks a d d' b Cached n h p s = caches_stays digits limit chunks a d d' b n h s.0
-free_stays digits limit chunks a d d' b Due n h p s = caches_stays digits limit chunks a d d' b n h s.0
+free_seated digits limit n chunks a d d' b Cached h k s = caches_seated digits limit n chunks a d d' b h k s.0
+free_seated digits limit n chunks a d d' b Due h k s = caches_seated digits limit n chunks a d d' b h k s.0
+
+-- the buffers of a batch that the desk gives are known, and so are those that it keeps
+given_known : (n chunks : ℕ) (s : Scheme) (a : ℕ) (old : List Buffer) (b : BatchState) (new : List Buffer) → All (IsKnown n chunks) old → Routed s a old b new
+    → All (IsKnown n chunks) (b.items ++ new)
+given_known n chunks s a old b new h g = All-permutation (IsKnown n chunks) old (b.items ++ new) g.taken.together h
+
+pub batch_known : (n chunks : ℕ) (s : Scheme) (a : ℕ) (old : List Buffer) (b : BatchState) (new : List Buffer) → All (IsKnown n chunks) old → Routed s a old b new
+    → All (IsKnown n chunks) b.items
+batch_known n chunks s a old b new h g = all_left (IsKnown n chunks) b.items new (given_known n chunks s a old b new h g)
+
+pub send_seated : (digits : Scheme) (limit n chunks a : ℕ) (d d' : DeskState) (s : Scheme) (x : ℕ) (b : BatchState) → IsSeated digits limit n chunks a (Held d)
+    → d' ≡ record d { cached = d'.cached } → Routed s x d.cached b d'.cached → IsSeated digits limit n chunks a (Held d')
+send_seated digits limit n chunks a d d' s x b h same g = record {
+  numbered = numbered_cached digits limit a d d' h.numbered same;
+  placed = same_home chunks d.home d'.home (ap (λ (z : DeskState). z.home) same) h.placed;
+  known = all_right (IsKnown n chunks) b.items d'.cached (given_known n chunks s x d.cached b d'.cached h.known g);
+}
+
+kept_placed : (n chunks : ℕ) (bs : List Buffer) → All (IsKnown n chunks) bs → All (HasPlace chunks) (map (λ (b : Buffer). Kept b) bs)
+kept_placed n chunks bs h = All-map (HasPlace chunks) (λ (b : Buffer). Kept b) bs (λ k d l. let e = h k d l in (e.chunk, e.index))
+
+passed_known : (n chunks : ℕ) (bs : List Buffer) → All (IsKnown n chunks) bs → All (IsKnown n chunks) (map passed_on bs)
+passed_known n chunks bs h = All-map (IsKnown n chunks) passed_on bs (λ k d l. known_passed_on n chunks (get_or bs k d) (h k d l))
+
+pub handle_seated : (digits : Scheme) (limit n chunks a : ℕ) (d d' : DeskState) (bs : List Buffer) → IsSeated digits limit n chunks a (Held d)
+    → All (IsKnown n chunks) bs → Handles d bs d' → IsSeated digits limit n chunks a (Held d')
+handle_seated digits limit n chunks a d d' bs h k s = record {
+  numbered = numbered_as digits limit a d d' h.numbered (ap (λ (z : DeskState). z.number) s.same) (ap (λ (z : DeskState). z.limit) s.same) (ap (λ (z : DeskState). z.digits) s.same);
+  placed = All-permutation (HasPlace chunks) (map (λ (b : Buffer). Kept b) (own d.number bs) ++ d.home) d'.home s.home
+      (All-append (HasPlace chunks) (map (λ (b : Buffer). Kept b) (own d.number bs)) d.home
+      (kept_placed n chunks (own d.number bs) (All-filter (λ (b : Buffer). b.owner == d.number) (IsKnown n chunks) bs k)) h.placed);
+  known = All-permutation (IsKnown n chunks) (map passed_on (others d.number bs) ++ d.cached) d'.cached s.cached
+      (All-append (IsKnown n chunks) (map passed_on (others d.number bs)) d.cached
+      (passed_known n chunks (others d.number bs) (All-filter (λ (b : Buffer). not (b.owner == d.number)) (IsKnown n chunks) bs k)) h.known);
+}
+
+pub adopt_seated : (digits : Scheme) (limit n chunks a worker : ℕ) (s : Seat) → IsSeated digits limit n chunks a s → IsSeated digits limit n chunks a (held_by worker s)
+adopt_seated digits limit n chunks a worker (Idle d) h = record { numbered = h.numbered; placed = h.placed; known = All-nil (IsKnown n chunks) }
+adopt_seated digits limit n chunks a worker (Held d) h = h
+
+pub release_seated : (digits : Scheme) (limit n chunks a : ℕ) (s s' : Seat) (done : Bool) → IsSeated digits limit n chunks a s → Releases s done s'
+    → IsSeated digits limit n chunks a s'
+release_seated digits limit n chunks a (Idle d) s' true h r = absurd r
+release_seated digits limit n chunks a (Idle d) s' false h r = subst (λ z. IsSeated digits limit n chunks a z) (sym r) h
+release_seated digits limit n chunks a (Held d) s' true h r =
+    subst (λ z. IsSeated digits limit n chunks a z) (sym r.1) (record { numbered = h.numbered; placed = h.placed; known = All-nil (IsKnown n chunks) })
+release_seated digits limit n chunks a (Held d) s' false h r = subst (λ z. IsSeated digits limit n chunks a z) (sym r.1) h

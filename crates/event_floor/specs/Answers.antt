@@ -1,4 +1,6 @@
 -- What a desk's answers are called on the floor.
+use Rattle.digit_route.specs.declared.error.RouteError.{RouteError}
+use Rattle.digit_route.specs.declared.error.RouteError.TheVariants.{ToSelf as RouteToSelf, NothingFor as RouteNothingFor, NotAnOwner as RouteNotAnOwner}
 use Rattle.pool_desk.specs.declared.error.DeskError.{DeskError}
 use Rattle.pool_desk.specs.declared.error.DeskError.TheVariants.{TooLarge as DeskTooLarge, NeedChunk as DeskNeedChunk, NotNeeded as DeskNotNeeded, Unsettled as DeskUnsettled, NoMemory as DeskNoMemory}
 use Rattle.pool_desk.specs.declared.freed.Freed.{Freed}
@@ -6,7 +8,7 @@ use Rattle.pool_desk.specs.declared.freed.Freed.TheVariants.{Home as FreedHome, 
 use Rattle.event_floor.specs.declared.reply.Reply.{Reply}
 use Rattle.event_floor.specs.declared.reply.Reply.TheVariants.{Home, Cached, Due}
 use Rattle.event_floor.specs.declared.refusal.Refusal.{Refusal}
-use Rattle.event_floor.specs.declared.refusal.Refusal.TheVariants.{TooLarge, NeedChunk, NotNeeded, Unsettled, NoMemory}
+use Rattle.event_floor.specs.declared.refusal.Refusal.TheVariants.{TooLarge, NeedChunk, NotNeeded, Unsettled, NoMemory, ToSelf, NothingFor, NotAnOwner}
 
 abbrev pub reply_of : Freed → Reply
 reply_of FreedHome = Home
@@ -19,3 +21,8 @@ refusal_of (DeskNeedChunk class) = NeedChunk
 refusal_of DeskNotNeeded = NotNeeded
 refusal_of DeskUnsettled = Unsettled
 refusal_of DeskNoMemory = NoMemory
+
+abbrev pub route_refusal : RouteError → Refusal
+route_refusal RouteToSelf = ToSelf
+route_refusal RouteNothingFor = NothingFor
+route_refusal RouteNotAnOwner = NotAnOwner

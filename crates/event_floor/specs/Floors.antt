@@ -1,15 +1,18 @@
 -- What a contract sees of a floor.
-use Rattle.std.specs.Prelude.{ℕ, ◌≡◌, ◌<◌, ◌≤◌, ◌*◌, List, [], Option, None, IfSome, length, replicate, slice_index_or, slice_set, All}
+use Rattle.std.specs.Prelude.{ℕ, ◌≡◌, ◌<◌, ◌≤◌, ◌+◌, ◌*◌, ◌^◌, List, [], Option, None, IfSome, length, replicate, slice_index_or, slice_set, All}
+use Rattle.region_cut.specs.declared.profile.Profile.{Profile}
 use Rattle.slot_chain.specs.Buffer.{Buffer}
 use Rattle.digit_route.specs.Digits.{Scheme}
+use Rattle.digit_route.specs.Profiles.{profile_of}
 use Rattle.pool_desk.specs.Desks.{IdleState, DeskState}
 use Rattle.event_floor.specs.declared.chunks.Drawn.{Drawn}
 use Rattle.event_floor.specs.declared.seat.Seat.{Seat}
 use Rattle.event_floor.specs.declared.seat.Seat.TheVariants.{Idle, Held}
-use Rattle.event_floor.specs.Seats.{idle_seats, new_desk, home_of, IsNumbered, HasPlace}
+use Rattle.event_floor.specs.Seats.{idle_seats, new_desk, home_of, cached_of, IsNumbered, HasPlace}
+use Rattle.event_floor.specs.Posted.{Posted, inbox_at}
 
 -- how the numbers of desks are read, the limit in bytes of each desk's cache, how many chunks there are, those that are drawn,
--- in the order of their numbers, the desks, and the table of the lent buffers
+-- in the order of their numbers, the desks, the table of the lent buffers, the inbox of each desk, and the number of the next batch
 pub record FloorSeen : Type 0 where
   pub digits : Scheme
   pub limit : ℕ
@@ -17,10 +20,16 @@ pub record FloorSeen : Type 0 where
   pub drawn : List Drawn
   pub desks : List Seat
   pub lent : List (Option Buffer)
+  pub inboxes : List (List Posted)
+  pub next : ℕ
 
 -- how many desks it has
 abbrev pub desk_count : FloorSeen → ℕ
 desk_count v = length v.desks
+
+-- which classes it uses
+abbrev pub profile_seen : FloorSeen → Profile
+profile_seen v = profile_of v.digits.bits
 
 -- numbers of no bit, and a desk that stands for none
 abbrev pub no_digits : Scheme
@@ -40,25 +49,71 @@ IsIdle v a d = (a < desk_count v) × (desk_at v a ≡ Idle d)
 abbrev pub IsHeld : FloorSeen → ℕ → DeskState → Type 0
 IsHeld v a d = (a < desk_count v) × (desk_at v a ≡ Held d)
 
--- the same floor with another desk a
-abbrev pub with_desk : FloorSeen → ℕ → DeskState → FloorSeen
-with_desk v a d = record v { desks = slice_set v.desks a (Held d) }
+-- the same floor with another desk a, in any hands or in those of a worker
+abbrev pub with_seat : FloorSeen → ℕ → Seat → FloorSeen
+with_seat v a s = record v { desks = slice_set v.desks a s }
 
--- a floor with nothing drawn and nothing lent, all desks idle
+abbrev pub with_desk : FloorSeen → ℕ → DeskState → FloorSeen
+with_desk v a d = with_seat v a (Held d)
+
+-- the same floor with another inbox of desk b
+abbrev pub with_inbox : FloorSeen → ℕ → List Posted → FloorSeen
+with_inbox v b posted = record v { inboxes = slice_set v.inboxes b posted }
+
+-- a floor with nothing drawn and nothing lent, all desks idle, no batch numbered
 abbrev pub opening : ℕ → ℕ → Scheme → ℕ → FloorSeen
-opening desks chunks digits limit =
-    record { digits = digits; limit = limit; chunks = chunks; drawn = []; desks = idle_seats digits limit desks; lent = replicate (256 * chunks) None }
+opening desks chunks digits limit = record {
+  digits = digits;
+  limit = limit;
+  chunks = chunks;
+  drawn = [];
+  desks = idle_seats digits limit desks;
+  lent = replicate (256 * chunks) None;
+  inboxes = replicate desks [];
+  next = 1;
+}
 
 -- each lent buffer goes home to one of so many desks
 abbrev pub AreOwned : ℕ → List (Option Buffer) → Type 0
 AreOwned desks lent = (i : ℕ) → IfSome (slice_index_or lent i None) (λ (b : Buffer). b.owner < desks)
 
--- Numbers have 6 bits. Each desk has its number, and the floor's digits and limit; each slot at home has a place in the table,
--- and each lent buffer goes home to a desk of the floor.
-pub record IsFloor (digits : Scheme) (limit chunks : ℕ) (desks : List Seat) (lent : List (Option Buffer)) : Type 0 where
-  pub bits : digits.bits ≡ 6
-  pub few : length desks ≤ 64
+-- the buffer goes home to one of so many desks, and its slot has a place in a table for so many chunks
+pub record IsKnown (desks chunks : ℕ) (b : Buffer) : Type 0 where
+  pub owner : b.owner < desks
+  pub chunk : b.slot.chunk < chunks
+  pub index : b.slot.index < 256
+
+-- desk a of so many: it has its number, and the floor's digits and limit; its slots at home and the buffers in its cache are known
+pub record IsSeated (digits : Scheme) (limit desks chunks a : ℕ) (s : Seat) : Type 0 where
+  pub numbered : IsNumbered digits limit a s
+  pub placed : All (HasPlace chunks) (home_of s)
+  pub known : All (IsKnown desks chunks) (cached_of s)
+
+-- a batch in the inbox of b: it was numbered before, it is addressed to b, it has the floor's digits, and its buffers are known
+pub record IsPostedTo (digits : Scheme) (desks chunks next b : ℕ) (p : Posted) : Type 0 where
+  pub numbered : p.number < next
+  pub address : p.address ≡ b
+  pub sender : p.sender < desks
+  pub digits_are : p.digits ≡ digits
+  pub known : All (IsKnown desks chunks) p.buffers
+
+-- the greatest number that a batch can have
+abbrev pub last_number : ℕ
+last_number = 4294967295
+
+-- A floor of n desks, each with its inbox. There are no more desks than numbers, and the table has 256 places for each chunk.
+pub record IsFloorOf (n : ℕ) (digits : Scheme) (limit chunks : ℕ) (desks : List Seat) (lent : List (Option Buffer)) (inboxes : List (List Posted)) (next : ℕ)
+    : Type 0 where
+  pub count : length desks ≡ n
+  pub few : n ≤ 2 ^ digits.bits
+  pub fewer : n ≤ 4096
   pub table : length lent ≡ 256 * chunks
-  pub numbered : (a : ℕ) → a < length desks → IsNumbered digits limit a (slice_index_or desks a no_desk)
-  pub placed : (a : ℕ) → a < length desks → All (HasPlace chunks) (home_of (slice_index_or desks a no_desk))
-  pub owned : AreOwned (length desks) lent
+  pub owned : AreOwned n lent
+  pub seated : (a : ℕ) → a < n → IsSeated digits limit n chunks a (slice_index_or desks a no_desk)
+  pub boxes : length inboxes ≡ n
+  pub posted : (b : ℕ) → b < n → All (IsPostedTo digits n chunks next b) (inbox_at inboxes b)
+  pub next_low : 1 ≤ next
+  pub next_high : next ≤ last_number + 1
+
+abbrev pub IsFloor : Scheme → ℕ → ℕ → List Seat → List (Option Buffer) → List (List Posted) → ℕ → Type 0
+IsFloor digits limit chunks desks lent inboxes next = IsFloorOf (length desks) digits limit chunks desks lent inboxes next

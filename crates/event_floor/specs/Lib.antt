@@ -2,6 +2,8 @@ pub mod Answers
 pub mod Chunks
 pub mod Floors
 pub mod Lent
+pub mod Posted
 pub mod Refusals
+pub mod Runs
 pub mod Seats
 pub mod Steps

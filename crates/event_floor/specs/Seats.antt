@@ -1,5 +1,5 @@
 -- The desks of a floor.
-use Rattle.std.specs.Prelude.{ℕ, zero, suc, ◌≡◌, ◌<◌, List, [], ◌∷◌, ◌++◌}
+use Rattle.std.specs.Prelude.{ℕ, zero, suc, ◌≡◌, ◌≢◌, ◌<◌, Bool, true, false, List, [], ◌∷◌, ◌++◌}
 use Rattle.slot_chain.specs.Buffer.{Buffer}
 use Rattle.digit_route.specs.Digits.{Scheme}
 use Rattle.pool_desk.specs.Homes.{AtHome, slot_at}
@@ -19,6 +19,10 @@ idle_seats digits limit (suc n) = idle_seats digits limit n ++ Idle (new_desk di
 -- the desk in the hands of a worker, with nothing in its cache
 abbrev pub adopted : ℕ → IdleState → DeskState
 adopted worker d = record { number = d.number; digits = d.digits; limit = d.limit; worker = worker; home = d.home; drawn = d.drawn; cached = [] }
+
+-- the desk without its worker
+abbrev pub retired : DeskState → IdleState
+retired d = record { number = d.number; digits = d.digits; limit = d.limit; home = d.home; drawn = d.drawn }
 
 abbrev pub held_by : ℕ → Seat → Seat
 held_by worker (Idle d) = Held (adopted worker d)
@@ -41,3 +45,10 @@ HasPlace chunks s = ((slot_at s).chunk < chunks) × ((slot_at s).index < 256)
 abbrev pub cached_of : Seat → List Buffer
 cached_of (Idle d) = []
 cached_of (Held d) = d.cached
+
+-- the desk was let go by its worker, where nothing is in its cache; else it stays as it was
+abbrev pub Releases : Seat → Bool → Seat → Type 0
+Releases (Idle d) true new = ⊥
+Releases (Idle d) false new = new ≡ Idle d
+Releases (Held d) true new = (d.cached ≡ []) × (new ≡ Idle (retired d))
+Releases (Held d) false new = (d.cached ≢ []) × (new ≡ Held d)

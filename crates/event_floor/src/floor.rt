@@ -1,31 +1,32 @@
 //! The floor.
-ghost use Rattle.std.specs.Prelude.{◌≡◌, ◌≤◌, ◌<◌, length, is_some, IfOk, IfErr, OnErr, MatchOption};
-ghost use Rattle.std.specs.Prelude.{count_by};
-ghost use Rattle.slot_chain.specs.Counts.{capped};
-ghost use Rattle.event_floor.specs.Chunks.{AreNumbered, class_drawn};
-ghost use Rattle.event_floor.specs.Floors.{desk_count, desk_at, opening};
-ghost use Rattle.event_floor.specs.Seats.{home_of, cached_of};
-ghost use Rattle.event_floor.specs.Steps.{Does, Refuses, class_limit};
-ghost use Rattle.event_floor.specs.declared.request.Request.TheVariants.{Adopt, Claim, Alloc, Free};
+ghost use Rattle.std.specs.Prelude.{◌≡◌, ◌≤◌, ◌^◌, length, IfOk, IfErr, OnErr};
+ghost use Rattle.event_floor.specs.Chunks.{AreNumbered};
+ghost use Rattle.event_floor.specs.Floors.{desk_count, opening};
+ghost use Rattle.event_floor.specs.Runs.{Runs};
+ghost use Rattle.event_floor.specs.Steps.{Does, Refuses};
 
 use crate::chunks::Chunks;
+use crate::inbox::Inbox;
+use crate::inboxes::empty_inboxes;
 use crate::lent::Lent;
-use crate::seat::{Seat, empty_seats, hold};
+use crate::seat::{Seat, empty_seats};
 use crate::{Refusal, Reply, Request};
 use digit_route::Digits;
-use region_cut::{Class, Part, Profile};
+use region_cut::Part;
 use slot_chain::NoMemory;
 use std::alloc::Global;
 use std::marker::Model;
 
-/// All desks of a pool, the chunks that none of them drew, and the lent buffers.
+/// All desks of a pool, the chunks that none of them drew, the lent buffers, and the batches that are on their way.
 #[derive(Drop)]
 pub struct Floor<'r> {
-    digits: Digits,
-    limit: u64,
-    desks: Vec<Seat<'r>>,
-    chunks: Chunks<'r>,
-    lent: Lent<'r>,
+    pub(crate) digits: Digits,
+    pub(crate) limit: u64,
+    pub(crate) desks: Vec<Seat<'r>>,
+    pub(crate) chunks: Chunks<'r>,
+    pub(crate) lent: Lent<'r>,
+    pub(crate) inboxes: Vec<Inbox<'r>>,
+    pub(crate) next: u64,
 }
 
 impl<'r> Model for Floor<'r> {
@@ -33,25 +34,24 @@ impl<'r> Model for Floor<'r> {
 
     ghost Value = { FloorSeen };
 
-    ghost view = { λ f. record { digits = f.digits; limit = f.limit; chunks = f.chunks.count; drawn = f.chunks.drawn; desks = f.desks.items; lent = f.lent } };
+    ghost view = { λ f. record {
+      digits = f.digits;
+      limit = f.limit;
+      chunks = f.chunks.count;
+      drawn = f.chunks.drawn;
+      desks = f.desks.items;
+      lent = f.lent;
+      inboxes = f.inboxes.items;
+      next = f.next;
+    } };
 
-    ghost invariant = { λ f. IsFloor f.digits f.limit f.chunks.count f.desks.items f.lent };
-}
-
-/// The class of a claim: one of those that the profile `Pool` uses.
-fn class_of_pool(number: u32) -> Option<Class>
-    ensures { MatchOption result (class_limit ≤ number) (λ class. (class ≡ number) × (number < class_limit)) }
-{
-    if number < Profile::Pool.classes() {
-        Class::new(number)
-    } else {
-        None
-    }
+    ghost invariant = { λ f. IsFloor f.digits f.limit f.chunks.count f.desks.items f.lent f.inboxes.items f.next };
 }
 
 impl<'r> Floor<'r> {
-    /// A floor of so many desks, 1 to 64, all idle, over the parts that a cut gave of one region. The numbers of desks have 6 bits,
-    /// and are read by `digits`. A desk's cache is due where it has more than `limit` bytes. After a want of memory the parts are given up.
+    /// A floor of so many desks, all idle, over the parts that a cut gave of one region. The profile of `digits` says how many desks
+    /// there may be, 64 or 4,096, which classes are claimed and how large a request may be. A desk's cache is due where it has more
+    /// than `limit` bytes. After a want of memory the parts are given up.
     pub fn new(
         alloc: Global,
         parts: Vec<Part<'r>>,
@@ -60,14 +60,15 @@ impl<'r> Floor<'r> {
         limit: u64,
     ) -> Result<Floor<'r>, NoMemory>
         requires some { 1 ≤ desks }
-        requires few { desks ≤ 64 }
-        requires bits { digits.bits ≡ 6 }
+        requires few { desks ≤ 2 ^ digits.bits }
         requires limit { limit ≤ 1048576 }
         requires parts { AreNumbered parts.items }
         ensures { IfOk result (λ f. f ≡ opening desks (length parts.entry.items) digits limit) }
     {
+        let _profile = digits.profile();
         let lent = Lent::new(alloc, parts.len())?;
         let chunks = Chunks::new(alloc, parts)?;
+        let inboxes = empty_inboxes(alloc, desks)?;
         let desks = empty_seats(alloc, desks, digits, limit)?;
         Ok(Floor {
             digits,
@@ -75,10 +76,14 @@ impl<'r> Floor<'r> {
             desks,
             chunks,
             lent,
+            inboxes,
+            next: 1,
         })
     }
 
-    /// Does what is asked, or refuses and changes nothing. Only `Alloc` takes memory. All requests take constant time.
+    /// Does what is asked, or refuses and changes nothing. Only `Alloc` and `Send` take memory. `Retire` and `Link` look through the
+    /// waiting batches, `Send` and `Take` go over the buffers of their batch and `Send` over those of the cache; all other requests
+    /// take constant time.
     pub fn apply(&mut self, alloc: Global, request: Request) -> Result<Reply, Refusal>
         ensures does { IfOk result (λ reply. Does self.old request reply self.new) }
         ensures refuses { IfErr result (λ refusal. Refuses self.old request refusal) }
@@ -87,148 +92,32 @@ impl<'r> Floor<'r> {
     {
         match request {
             Request::Adopt(a, worker) => self.adopt(a, worker),
+            Request::Retire(a) => self.retire(a),
             Request::Claim(a, class) => self.claim(a, class),
             Request::Alloc(a, size) => self.alloc(alloc, a, size),
             Request::Free(a, (chunk, index)) => self.free(a, chunk, index),
+            Request::Send(a, t) => self.send(a, t),
+            Request::Link(number) => self.link(number),
+            Request::Take(b) => self.take(b),
         }
     }
 
-    fn adopt(&mut self, a: u32, worker: u32) -> Result<Reply, Refusal>
-        ensures does { IfOk result (λ reply. Does self.old (Adopt a worker) reply self.new) }
-        ensures refuses { IfErr result (λ refusal. Refuses self.old (Adopt a worker) refusal) }
+    /// Applies one request after the other, and gives the answers in order. The list of the answers is made first: where there is no
+    /// memory for it, nothing is applied.
+    pub fn run(
+        &mut self,
+        alloc: Global,
+        requests: &[Request],
+    ) -> Result<Vec<Result<Reply, Refusal>>, NoMemory>
+        ensures runs { IfOk result (λ answers. Runs self.old requests.now answers.items self.new) }
         ensures unchanged { OnErr result (self.new ≡ self.old) }
         ensures desks { desk_count self.new ≡ desk_count self.old }
     {
-        let place = a as usize;
-        if place >= self.desks.len() {
-            return Err(Refusal::NoDesk);
+        let mut answers = Vec::with_capacity(alloc, requests.len())?;
+        for request in requests {
+            let answer = self.apply(alloc, *request);
+            answers.push_reserved(answer);
         }
-        if let Seat::Held(_) = &self.desks[place] {
-            return Err(Refusal::Held);
-        }
-        hold(&mut self.desks[place], self.digits, worker);
-        Ok(Reply::Done)
-    }
-
-    fn claim(&mut self, a: u32, class: u32) -> Result<Reply, Refusal>
-        ensures does { IfOk result (λ reply. Does self.old (Claim a class) reply self.new) }
-        ensures refuses { IfErr result (λ refusal. Refuses self.old (Claim a class) refusal) }
-        ensures unchanged { OnErr result (self.new ≡ self.old) }
-        ensures desks { desk_count self.new ≡ desk_count self.old }
-    {
-        let place = a as usize;
-        if place >= self.desks.len() {
-            return Err(Refusal::NoDesk);
-        }
-        let Seat::Held(desk) = &mut self.desks[place] else {
-            return Err(Refusal::Idle);
-        };
-        let Some(class) = class_of_pool(class) else {
-            return Err(Refusal::BadClass);
-        };
-        if desk.has_home(class) {
-            return Err(Refusal::NotNeeded);
-        }
-        let Some(part) = self.chunks.draw(a, class) else {
-            return Err(Refusal::NoChunk);
-        };
-        let chunk = part.chunk();
-        match desk.claim(part, class) {
-            Ok(()) => Ok(Reply::Chunk(chunk)),
-            Err(_) => unreachable!(),
-        }
-    }
-
-    fn alloc(&mut self, alloc: Global, a: u32, size: u32) -> Result<Reply, Refusal>
-        ensures does { IfOk result (λ reply. Does self.old (Alloc a size) reply self.new) }
-        ensures refuses { IfErr result (λ refusal. Refuses self.old (Alloc a size) refusal) }
-        ensures unchanged { OnErr result (self.new ≡ self.old) }
-        ensures desks { desk_count self.new ≡ desk_count self.old }
-    {
-        let place = a as usize;
-        if place >= self.desks.len() {
-            return Err(Refusal::NoDesk);
-        }
-        let Seat::Held(desk) = &mut self.desks[place] else {
-            return Err(Refusal::Idle);
-        };
-        let buf = desk.alloc(alloc, size as usize)?;
-        let slot = buf.slot();
-        self.lent.put(buf);
-        Ok(Reply::Slot(slot))
-    }
-
-    fn free(&mut self, a: u32, chunk: u32, index: u32) -> Result<Reply, Refusal>
-        ensures does { IfOk result (λ reply. Does self.old (Free a (chunk, index)) reply self.new) }
-        ensures refuses { IfErr result (λ refusal. Refuses self.old (Free a (chunk, index)) refusal) }
-        ensures unchanged { OnErr result (self.new ≡ self.old) }
-        ensures desks { desk_count self.new ≡ desk_count self.old }
-    {
-        let place = a as usize;
-        if place >= self.desks.len() {
-            return Err(Refusal::NoDesk);
-        }
-        let Seat::Held(desk) = &mut self.desks[place] else {
-            return Err(Refusal::Idle);
-        };
-        let Some(buf) = self.lent.take(chunk, index) else {
-            return Err(Refusal::NotLent);
-        };
-        Ok(Reply::from(desk.free(buf)))
-    }
-
-    /// How many slots the desk has at home, how many buffers are in its cache, and how many wait in its inbox (none yet).
-    /// Takes time in their number.
-    pub fn counts(&self, a: u32) -> (u64, u64, u64)
-        requires { a < desk_count self.now }
-        ensures home { result.0 ≡ capped (length (home_of (desk_at self.now a))) }
-        ensures cached { result.1 ≡ capped (length (cached_of (desk_at self.now a))) }
-        ensures queued { result.2 ≡ 0 }
-    {
-        match &self.desks[a as usize] {
-            Seat::Idle(desk) => {
-                let (home, cached) = desk.counts();
-                (home, cached, 0)
-            }
-            Seat::Held(desk) => {
-                let (home, cached) = desk.counts();
-                (home, cached, 0)
-            }
-        }
-    }
-
-    /// How many buffers are lent. Takes time in the number of slots.
-    pub fn lent_count(&self) -> u64
-        ensures { result ≡ count_by is_some self.now.lent }
-    {
-        self.lent.count()
-    }
-
-    /// How many chunks are drawn.
-    pub fn drawn_count(&self) -> u64
-        ensures { result ≡ length self.now.drawn }
-    {
-        self.chunks.drawn_count()
-    }
-
-    /// The class of a chunk, or None where it isn't drawn.
-    pub fn class_of(&self, chunk: u32) -> Option<Class>
-        ensures { result ≡ class_drawn self.now.drawn chunk }
-    {
-        self.chunks.class_of(chunk)
-    }
-
-    /// How the numbers of its desks are read.
-    pub fn digits(&self) -> Digits
-        ensures { result ≡ self.now.digits }
-    {
-        self.digits
-    }
-
-    /// The bytes above which a desk's cache is due.
-    pub fn limit(&self) -> u64
-        ensures { result ≡ self.now.limit }
-    {
-        self.limit
+        Ok(answers)
     }
 }

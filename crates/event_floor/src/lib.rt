@@ -6,11 +6,18 @@
 
 mod chunks;
 mod floor;
+mod holding;
+mod inbox;
+mod inboxes;
+mod lending;
 mod lent;
 mod refusal;
 mod reply;
 mod request;
 mod seat;
+mod sending;
+mod telling;
+mod waiting;
 #[cfg(test)]
 mod tests;
 

@@ -1,8 +1,9 @@
 //! Why a floor refuses.
 ghost use Rattle.std.specs.Prelude.{◌≡◌};
-ghost use Rattle.event_floor.specs.Answers.{refusal_of};
+ghost use Rattle.event_floor.specs.Answers.{refusal_of, route_refusal};
 ghost use Rattle.event_floor.specs.Refusals.{number_of, name_of};
 
+use digit_route::RouteError;
 use pool_desk::DeskError;
 use thiserror::Error;
 
@@ -30,7 +31,22 @@ pub enum Refusal {
     /// R07: the slot isn't lent, or there is no such slot.
     #[error("R07 NotLent")]
     NotLent,
-    /// R13: the desk's cache isn't empty, so it can't be retired. No request asks for that yet.
+    /// R08: nothing in the desk's cache goes to the other desk.
+    #[error("R08 NothingFor")]
+    NothingFor,
+    /// R09: the other desk owns none of the buffers that would go to it.
+    #[error("R09 NotAnOwner")]
+    NotAnOwner,
+    /// R10: a desk sends nothing to itself.
+    #[error("R10 ToSelf")]
+    ToSelf,
+    /// R11: no batch of this number waits to be linked.
+    #[error("R11 NoBatch")]
+    NoBatch,
+    /// R12: the inbox is empty, or its front isn't linked.
+    #[error("R12 Nothing")]
+    Nothing,
+    /// R13: the desk's cache isn't empty, or a batch that it sent isn't linked.
     #[error("R13 Unsettled")]
     Unsettled,
     /// R14: a worker holds the desk.
@@ -42,6 +58,9 @@ pub enum Refusal {
     /// R16: no class has this number.
     #[error("R16 BadClass")]
     BadClass,
+    /// R18: every number that a batch can have was given.
+    #[error("R18 Spent")]
+    Spent,
 }
 
 impl Refusal {
@@ -57,10 +76,16 @@ impl Refusal {
             Refusal::NotNeeded => 5,
             Refusal::NoChunk => 6,
             Refusal::NotLent => 7,
+            Refusal::NothingFor => 8,
+            Refusal::NotAnOwner => 9,
+            Refusal::ToSelf => 10,
+            Refusal::NoBatch => 11,
+            Refusal::Nothing => 12,
             Refusal::Unsettled => 13,
             Refusal::Held => 14,
             Refusal::NoMemory => 15,
             Refusal::BadClass => 16,
+            Refusal::Spent => 18,
         }
     }
 
@@ -76,10 +101,16 @@ impl Refusal {
             Refusal::NotNeeded => "NotNeeded",
             Refusal::NoChunk => "NoChunk",
             Refusal::NotLent => "NotLent",
+            Refusal::NothingFor => "NothingFor",
+            Refusal::NotAnOwner => "NotAnOwner",
+            Refusal::ToSelf => "ToSelf",
+            Refusal::NoBatch => "NoBatch",
+            Refusal::Nothing => "Nothing",
             Refusal::Unsettled => "Unsettled",
             Refusal::Held => "Held",
             Refusal::NoMemory => "NoMemory",
             Refusal::BadClass => "BadClass",
+            Refusal::Spent => "Spent",
         }
     }
 }
@@ -94,6 +125,18 @@ impl From<DeskError> for Refusal {
             DeskError::NotNeeded => Refusal::NotNeeded,
             DeskError::Unsettled => Refusal::Unsettled,
             DeskError::NoMemory => Refusal::NoMemory,
+        }
+    }
+}
+
+impl From<RouteError> for Refusal {
+    ghost from_gives = { λ error refusal. refusal ≡ route_refusal error };
+
+    fn from(error: RouteError) -> Refusal {
+        match error {
+            RouteError::ToSelf => Refusal::ToSelf,
+            RouteError::NothingFor => Refusal::NothingFor,
+            RouteError::NotAnOwner => Refusal::NotAnOwner,
         }
     }
 }

@@ -8,7 +8,7 @@ use region_cut::Slot;
 /// What an accepted request gives.
 #[derive(Clone, Copy, Debug, PartialEq, Eq)]
 pub enum Reply {
-    /// The desk is held.
+    /// The desk is held, or idle again, or the batch is linked.
     Done,
     /// The chunk of this number was drawn.
     Chunk(u16),
@@ -20,6 +20,10 @@ pub enum Reply {
     Cached,
     /// The same, and that cache now has more bytes than the floor's limit.
     Due,
+    /// A batch of this number waits to be linked, and it has so many buffers.
+    Batch(u32, u64),
+    /// So many buffers of the batch came home, and so many are passed on.
+    Counts(u64, u64),
 }
 
 impl From<Freed> for Reply {

@@ -1,6 +1,6 @@
 //! A desk's place on the floor.
 ghost use Rattle.std.specs.Prelude.{◌≡◌, ◌<◌, ◌≤◌, ◌^◌, IfOk};
-ghost use Rattle.event_floor.specs.Seats.{idle_seats, held_by};
+ghost use Rattle.event_floor.specs.Seats.{idle_seats, held_by, Releases};
 
 use digit_route::Digits;
 use pool_desk::{Desk, IdleDesk};
@@ -23,7 +23,7 @@ pub(crate) fn empty_seats<'r>(
     digits: Digits,
     limit: u64,
 ) -> Result<Vec<Seat<'r>>, NoMemory>
-    requires few { count ≤ 64 }
+    requires few { count ≤ 4096 }
     requires numbers { count ≤ 2 ^ digits.bits }
     requires limit { limit ≤ 1048576 }
     ensures { IfOk result (λ seats. seats.items ≡ idle_seats digits limit count) }
@@ -46,5 +46,29 @@ pub(crate) fn hold(seat: &mut Seat<'_>, digits: Digits, worker: u32)
     match mem::replace(seat, Seat::Idle(empty)) {
         Seat::Idle(desk) => drop(mem::replace(seat, Seat::Held(desk.adopt(worker)))),
         Seat::Held(desk) => drop(mem::replace(seat, Seat::Held(desk))),
+    }
+}
+
+/// Takes a held desk from its worker, unless its cache has a buffer; then, and where it is idle, it stays as it is.
+pub(crate) fn release(seat: &mut Seat<'_>, digits: Digits) -> bool
+    requires { 0 < 2 ^ digits.bits }
+    ensures { Releases seat.old result seat.new }
+{
+    let empty = IdleDesk::new(0, digits, 0);
+    match mem::replace(seat, Seat::Idle(empty)) {
+        Seat::Held(desk) => match desk.retire() {
+            Ok(idle) => {
+                drop(mem::replace(seat, Seat::Idle(idle)));
+                true
+            }
+            Err(desk) => {
+                drop(mem::replace(seat, Seat::Held(desk)));
+                false
+            }
+        },
+        Seat::Idle(desk) => {
+            drop(mem::replace(seat, Seat::Idle(desk)));
+            false
+        }
     }
 }

@@ -1,8 +1,12 @@
-use Rattle.std.proofs.Common.{◌<◌, length, arith}
-use Rattle.event_floor.proofs.FloorLaws.{adopt_stays}
+use Rattle.std.proofs.Common.{◌<◌, length, arith, sym, subst}
+use Rattle.event_floor.specs.Floors.{IsSeated}
+use Rattle.event_floor.proofs.SeatLaws.{adopt_seated}
+use Rattle.event_floor.proofs.FloorLaws.{floor_settled, floor_seat, seated_read}
 use Rattle.event_floor.proofs.floor.Floor.adopt.Goals as goal
 
 pub invariant_of-self : goal.invariant_of-self
 invariant_of-self c =
     let there : c.args.a < length c.self.inside.desks.items = omega (arith, c.if-place-len.false, c.len.ensures, c.self.inside.desks.ok) in
-    adopt_stays _ _ _ _ _ _ _ _ _ c.self.invariant there c.index_mut.ensures.value c.hold.ensures
+    let f = c.self.invariant in
+    floor_settled (floor_seat c.args.a _ f there
+    (rw c.hold.ensures (adopt_seated _ _ _ _ _ c.args.worker _ (seated_read c.args.a _ f there c.index_mut.ensures.value))))

@@ -1,0 +1,61 @@
+-- The batches that wait in an inbox.
+use Rattle.std.proofs.Common.{◌≡◌, ℕ, ◌+◌, ◌<◌, List, [], ◌∷◌, ◌++◌, length, get_or, set, refl, sym, ap, ◌∙◌, subst, arith, All}
+use Rattle.std.specs.Prelude.{Option}
+use Rattle.std.proofs.lemmas.List.Elements.{All-append, All-cons, All-nil}
+use Rattle.slot_chain.specs.Buffer.{Buffer}
+use Rattle.digit_route.specs.Digits.{Scheme}
+use Rattle.digit_route.specs.States.{BatchState, Gives}
+use Rattle.pool_desk.specs.Desks.{DeskState}
+use Rattle.event_floor.specs.declared.seat.Seat.{Seat}
+use Rattle.event_floor.specs.declared.seat.Seat.TheVariants.{Held}
+use Rattle.event_floor.specs.Posted.{Posted, SendsInto, LeavesFront, inbox_at, sent_as}
+use Rattle.event_floor.specs.Floors.{IsKnown, IsSeated, IsPostedTo, IsFloorOf}
+use Rattle.event_floor.proofs.FloorLaws.{inbox_read}
+use Rattle.event_floor.proofs.SeatLaws.{batch_known, head_of, tail_of}
+
+-- what is known of an inbox that was read
+pub posted_read : {n : ℕ} {digits : Scheme} {limit chunks : ℕ} {desks : List Seat} {lent : List (Option Buffer)} {inboxes : List (List Posted)} {next : ℕ} (b : ℕ) (x : List Posted)
+    → IsFloorOf n digits limit chunks desks lent inboxes next → b < n → x ≡ get_or inboxes b x → All (IsPostedTo digits n chunks next b) x
+posted_read {n} {digits} {limit} {chunks} {desks} {lent} {inboxes} {next} b x f l read =
+    subst (λ z. All (IsPostedTo digits n chunks next b) z) (inbox_read inboxes b x (let e = f.boxes in omega (arith, l, e)) read) (f.posted b l)
+
+-- a desk's batch comes to those that wait
+pub sent_posted : (digits : Scheme) (limit n chunks next a t number count : ℕ) (d d' : DeskState) (old new : List Posted) → All (IsPostedTo digits n chunks next t) old
+    → IsSeated digits limit n chunks a (Held d) → a < n → number < next → SendsInto d t number count old d' new → All (IsPostedTo digits n chunks next t) new
+sent_posted digits limit n chunks next a t number count d d' old new h seat l m s =
+    subst (λ z. All (IsPostedTo digits n chunks next t) z) (sym s.posted)
+    (All-append (IsPostedTo digits n chunks next t) old (sent_as number s.batch ∷ []) h
+    (All-cons (IsPostedTo digits n chunks next t) (sent_as number s.batch) [] (record {
+      numbered = m;
+      address = s.address;
+      sender = rw (s.gives.sender ∙ seat.numbered.0) l;
+      digits_are = s.gives.digits ∙ seat.numbered.2;
+      known = batch_known n chunks d.digits d.number d.cached s.batch d'.cached seat.known s.gives;
+    }) (All-nil (IsPostedTo digits n chunks next t))))
+
+-- the front of an inbox, and those behind it
+pub front_posted : (digits : Scheme) (n chunks next b : ℕ) (batch : BatchState) (x rest : List Posted) (s : LeavesFront batch x rest) → All (IsPostedTo digits n chunks next b) x
+    → IsPostedTo digits n chunks next b s.front
+front_posted digits n chunks next b batch x rest s h =
+    head_of (IsPostedTo digits n chunks next b) s.front rest (subst (λ z. All (IsPostedTo digits n chunks next b) z) s.is_front h)
+
+pub rest_posted : (digits : Scheme) (n chunks next b : ℕ) (batch : BatchState) (x rest : List Posted) → LeavesFront batch x rest → All (IsPostedTo digits n chunks next b) x
+    → All (IsPostedTo digits n chunks next b) rest
+rest_posted digits n chunks next b batch x rest s h =
+    tail_of (IsPostedTo digits n chunks next b) s.front rest (subst (λ z. All (IsPostedTo digits n chunks next b) z) s.is_front h)
+
+-- a batch taken from the inbox of a desk is addressed to it, has its digits, and its buffers are known
+pub taken_address : (digits : Scheme) (limit n chunks next b : ℕ) (d : DeskState) (batch : BatchState) (x rest : List Posted) → IsSeated digits limit n chunks b (Held d)
+    → LeavesFront batch x rest → All (IsPostedTo digits n chunks next b) x → batch.address ≡ d.number
+taken_address digits limit n chunks next b d batch x rest seat s h =
+    s.address ∙ ((front_posted digits n chunks next b batch x rest s h).address ∙ sym seat.numbered.0)
+
+pub taken_digits : (digits : Scheme) (limit n chunks next b : ℕ) (d : DeskState) (batch : BatchState) (x rest : List Posted) → IsSeated digits limit n chunks b (Held d)
+    → LeavesFront batch x rest → All (IsPostedTo digits n chunks next b) x → batch.digits ≡ d.digits
+taken_digits digits limit n chunks next b d batch x rest seat s h =
+    s.digits ∙ ((front_posted digits n chunks next b batch x rest s h).digits_are ∙ sym seat.numbered.2)
+
+pub taken_known : (digits : Scheme) (n chunks next b : ℕ) (batch : BatchState) (x rest : List Posted) → LeavesFront batch x rest → All (IsPostedTo digits n chunks next b) x
+    → All (IsKnown n chunks) batch.items
+taken_known digits n chunks next b batch x rest s h =
+    subst (λ z. All (IsKnown n chunks) z) (sym s.items) (front_posted digits n chunks next b batch x rest s h).known

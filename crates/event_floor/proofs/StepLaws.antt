@@ -1,0 +1,101 @@
+-- What the calls of the parts of a floor come to, in the words of its steps.
+use Rattle.std.proofs.Common.{◌≡◌, ℕ, ◌+◌, ◌<◌, ◌≤◌, List, [], ◌∷◌, ◌++◌, length, refl, sym, ap, ◌∙◌, subst, arith, set, get_or}
+use Rattle.std.specs.Prelude.{Option, Some, None}
+use Rattle.region_cut.specs.declared.part.Part.{Part}
+use Rattle.region_cut.specs.Classes.{classes_of}
+use Rattle.slot_chain.specs.Buffer.{Buffer}
+use Rattle.digit_route.specs.declared.error.RouteError.{RouteError}
+use Rattle.digit_route.specs.declared.error.RouteError.TheVariants.{ToSelf, NothingFor, NotAnOwner}
+use Rattle.digit_route.specs.Digits.{Scheme}
+use Rattle.digit_route.specs.Route.{RouteFault}
+use Rattle.digit_route.specs.States.{BatchState, Gives}
+use Rattle.pool_desk.specs.Desks.{DeskState}
+use Rattle.pool_desk.specs.Steps.{Claims, Handles, Counted}
+use Rattle.pool_desk.specs.declared.counts.Counts.{Counts}
+use Rattle.event_floor.specs.declared.seat.Seat.TheVariants.{Held}
+use Rattle.event_floor.specs.Chunks.{ChunksSeen}
+use Rattle.event_floor.specs.Seats.{IsNumbered}
+use Rattle.event_floor.specs.Posted.{Posted, SendsInto, LeavesFront, IsHalfAt, inbox_at, sent_as, as_linked, no_batch}
+use Rattle.event_floor.specs.Floors.{FloorSeen, IsHeld, with_desk, with_inbox, desk_count, last_number}
+use Rattle.event_floor.specs.Steps.{Refuses, DrawsChunk, SendsBatch, LinksBatch, TakesFront, Routes, class_limit}
+use Rattle.event_floor.specs.Answers.{route_refusal}
+use Rattle.event_floor.specs.declared.request.Request.TheVariants.{Send}
+use Rattle.event_floor.specs.declared.refusal.Refusal.{Refusal}
+use Rattle.event_floor.proofs.FloorLaws.{inbox_read}
+
+pub draws_chunk : (v : FloorSeen) (a class k n : ℕ) (d d' : DeskState) (p : Part) (old new : ChunksSeen)
+    → IsHeld v a d → n ≡ class → class < class_limit v → v.chunks ≡ old.count → v.drawn ≡ old.drawn
+    → p.chunk ≡ length old.drawn → length old.drawn < old.count → new ≡ record old { drawn = old.drawn ++ record { owner = a; class = n } ∷ [] }
+    → Claims d p n d' → k ≡ p.chunk → DrawsChunk v a class k (record (with_desk v a d') { chunks = new.count; drawn = new.drawn })
+draws_chunk v a class k n d d' p old new held same_class few chunks drawn next left is claims k_is = record {
+  before = d;
+  after = d';
+  part = p;
+  held = held;
+  is_class = few;
+  is_next = rw drawn (k_is ∙ next);
+  undrawn = rw (chunks, k_is, next) left;
+  is_part = sym k_is;
+  claims = rw same_class at claims;
+  same = rw (is, same_class, drawn, chunks) refl;
+}
+
+-- a desk in its seat reads numbers as the floor does, and has the seat's number
+pub fault_at : (digits : Scheme) (limit a : ℕ) (d : DeskState) (t : ℕ) (fault : Option RouteError) → IsNumbered digits limit a (Held d)
+    → RouteFault d.digits d.number t d.cached fault → RouteFault digits a t d.cached fault
+fault_at digits limit a d t fault n f =
+    subst (λ (z : ℕ). RouteFault digits z t d.cached fault) n.0 (subst (λ (z : Scheme). RouteFault z d.number t d.cached fault) n.2 f)
+
+gives_at : (digits : Scheme) (limit a : ℕ) (d : DeskState) (b : BatchState) (new : List Buffer) → IsNumbered digits limit a (Held d)
+    → Gives d.digits d.number d.cached b new → Gives digits a d.cached b new
+gives_at digits limit a d b new n g =
+    subst (λ (z : ℕ). Gives digits z d.cached b new) n.0 (subst (λ (z : Scheme). Gives z d.number d.cached b new) n.2 g)
+
+pub sends_batch : (v : FloorSeen) (a t number count : ℕ) (d d' : DeskState) (ps : List Posted) → Routes v a t d None → v.next ≤ last_number → number ≡ v.next
+    → IsNumbered v.digits v.limit a (Held d) → SendsInto d t number count (inbox_at v.inboxes t) d' ps
+    → SendsBatch v a t number count (record (with_inbox (with_desk v a d') t ps) { next = v.next + 1 })
+sends_batch v a t number count d d' ps routes unspent is n s = record {
+  before = d;
+  after = d';
+  batch = s.batch;
+  routes = routes;
+  unspent = unspent;
+  is_next = is;
+  address = s.address;
+  gives = gives_at v.digits v.limit a d s.batch d'.cached n s.gives;
+  same_desk = s.same_desk;
+  counted = s.counted;
+  same = rw s.posted refl;
+}
+
+-- why a desk has no batch is why the floor refuses to send
+refuses_for : (v : FloorSeen) (a t : ℕ) (d : DeskState) (fault : RouteError) → Routes v a t d (Some fault) → Refuses v (Send a t) (route_refusal fault)
+refuses_for v a t d ToSelf r = (d, r)
+refuses_for v a t d NothingFor r = (d, r)
+refuses_for v a t d NotAnOwner r = (d, r)
+
+pub send_refused : (v : FloorSeen) (a t : ℕ) (d : DeskState) (fault : RouteError) (refusal : Refusal) → Routes v a t d (Some fault) → refusal ≡ route_refusal fault
+    → Refuses v (Send a t) refusal
+send_refused v a t d fault refusal r is = subst (λ (z : Refusal). Refuses v (Send a t) z) (sym is) (refuses_for v a t d fault r)
+
+pub links_batch : (v : FloorSeen) (number b k : ℕ) (x y : List Posted) → IsHalfAt v.inboxes number b k → x ≡ get_or v.inboxes b x
+    → y ≡ set x k (as_linked (get_or x k no_batch)) → LinksBatch v number (with_inbox v b y)
+links_batch v number b k x y half read is =
+    let same : inbox_at v.inboxes b ≡ x = inbox_read v.inboxes b x half.0 read in
+    record { inbox = b; place = k; half = half; same = rw (is, same) refl }
+
+pub takes_front : (v : FloorSeen) (b : ℕ) (d d' : DeskState) (batch : BatchState) (x rest : List Posted) (counts : Counts) → IsHeld v b d → inbox_at v.inboxes b ≡ x
+    → LeavesFront batch x rest → Handles d batch.items d' → Counted d.number batch.items counts
+    → TakesFront v b counts.home counts.on (with_inbox (with_desk v b d') b rest)
+takes_front v b d d' batch x rest counts held is left handles counted = record {
+  before = d;
+  after = d';
+  front = left.front;
+  rest = rest;
+  held = held;
+  is_front = is ∙ left.is_front;
+  linked = left.linked;
+  handles = subst (λ z. Handles d z d') left.items handles;
+  counted = subst (λ z. Counted d.number z counts) left.items counted;
+  same = refl;
+}

@@ -1,0 +1,12 @@
+use Rattle.std.proofs.Common.{◌≡◌, ℕ, ◌≤◌, length, take, vec_len, vec_capacity}
+use Rattle.event_floor.specs.Floors.{desk_count}
+use Rattle.event_floor.specs.Runs.{Runs}
+use Rattle.event_floor.proofs.floor.Floor.run.Given as goal
+
+abbrev pub invariant-loop-request : goal.invariant-loop-request
+invariant-loop-request l = record {
+  ran : Runs l.fn.self (take l.request-index l.requests) l.answers.items l.self;
+  count : vec_len l.answers ≡ l.request-index;
+  room : length l.requests ≤ vec_capacity l.answers;
+  desks : desk_count l.self ≡ desk_count l.fn.self;
+}

@@ -1,0 +1,51 @@
+//! Who holds a desk.
+ghost use Rattle.std.specs.Prelude.{◌≡◌, IfOk, IfErr, OnErr};
+ghost use Rattle.event_floor.specs.Floors.{desk_count};
+ghost use Rattle.event_floor.specs.Steps.{Does, Refuses};
+ghost use Rattle.event_floor.specs.declared.request.Request.TheVariants.{Adopt, Retire};
+
+use crate::inboxes::any_half_of;
+use crate::seat::{Seat, hold, release};
+use crate::{Floor, Refusal, Reply};
+
+impl<'r> Floor<'r> {
+    pub(crate) fn adopt(&mut self, a: u32, worker: u32) -> Result<Reply, Refusal>
+        ensures does { IfOk result (λ reply. Does self.old (Adopt a worker) reply self.new) }
+        ensures refuses { IfErr result (λ refusal. Refuses self.old (Adopt a worker) refusal) }
+        ensures unchanged { OnErr result (self.new ≡ self.old) }
+        ensures desks { desk_count self.new ≡ desk_count self.old }
+    {
+        let place = a as usize;
+        if place >= self.desks.len() {
+            return Err(Refusal::NoDesk);
+        }
+        if let Seat::Held(_) = &self.desks[place] {
+            return Err(Refusal::Held);
+        }
+        hold(&mut self.desks[place], self.digits, worker);
+        Ok(Reply::Done)
+    }
+
+    pub(crate) fn retire(&mut self, a: u32) -> Result<Reply, Refusal>
+        ensures does { IfOk result (λ reply. Does self.old (Retire a) reply self.new) }
+        ensures refuses { IfErr result (λ refusal. Refuses self.old (Retire a) refusal) }
+        ensures unchanged { OnErr result (self.new ≡ self.old) }
+        ensures desks { desk_count self.new ≡ desk_count self.old }
+    {
+        let place = a as usize;
+        if place >= self.desks.len() {
+            return Err(Refusal::NoDesk);
+        }
+        if let Seat::Idle(_) = &self.desks[place] {
+            return Err(Refusal::Idle);
+        }
+        if any_half_of(&self.inboxes, a) {
+            return Err(Refusal::Unsettled);
+        }
+        if release(&mut self.desks[place], self.digits) {
+            Ok(Reply::Done)
+        } else {
+            Err(Refusal::Unsettled)
+        }
+    }
+}

@@ -1,0 +1,113 @@
+//! A desk's inbox.
+ghost use Rattle.std.specs.Prelude.{◌≡◌, ◌<◌, ◌∷◌, [], length, slice_index_or, slice_set, All, Any, IfOk, OnErr, None, MatchOption, MatchBool, sum_by};
+ghost use Rattle.slot_chain.specs.Counts.{capped};
+ghost use Rattle.digit_route.specs.Route.{RouteFault};
+ghost use Rattle.event_floor.specs.Posted.{Posted, as_linked, no_batch, IsHalf, IsHalfOf, HasNoFront, LeavesFront, SendsInto};
+
+use crate::waiting::Waiting;
+use digit_route::Batch;
+use pool_desk::Desk;
+use slot_chain::NoMemory;
+use std::alloc::Global;
+use std::collections::VecDeque;
+use std::marker::Model;
+
+/// The batches that wait for a desk, in order of arrival.
+#[derive(Drop)]
+pub(crate) struct Inbox<'r> {
+    batches: VecDeque<Waiting<'r>>,
+}
+
+impl<'r> Model for Inbox<'r> {
+    ghost use Rattle.std.specs.Prelude.{List};
+    ghost use Rattle.event_floor.specs.Posted.{Posted};
+
+    ghost Value = { List Posted };
+
+    ghost view = { λ i. i.batches.items };
+}
+
+impl<'r> Inbox<'r> {
+    /// An inbox with no batch. Takes no memory.
+    pub(crate) fn new(alloc: Global) -> Inbox<'r>
+        ensures { result ≡ [] }
+    {
+        Inbox {
+            batches: VecDeque::new(alloc),
+        }
+    }
+
+    /// The place of the batch of this number, where it waits here and still has to be linked.
+    pub(crate) fn find_half(&self, number: u32) -> Option<usize>
+        ensures { MatchOption result
+            (All (λ (p : Posted). IsHalf number p → ⊥) self.now)
+            (λ i. (i < length self.now) × IsHalf number (slice_index_or self.now i no_batch)) }
+    {
+        for i in 0..self.batches.len() {
+            if self.batches[i].is_half(number) {
+                return Some(i);
+            }
+        }
+        None
+    }
+
+    /// Whether a batch of this sender waits here and still has to be linked.
+    pub(crate) fn has_half_of(&self, sender: u32) -> bool
+        ensures { MatchBool result (Any (IsHalfOf sender) self.now) (All (λ (p : Posted). IsHalfOf sender p → ⊥) self.now) }
+    {
+        for i in 0..self.batches.len() {
+            if self.batches[i].is_half_of(sender) {
+                return true;
+            }
+        }
+        false
+    }
+
+    /// Links the batch at this place.
+    pub(crate) fn link(&mut self, place: usize)
+        requires { place < length self.old }
+        ensures { self.new ≡ slice_set self.old place (as_linked (slice_index_or self.old place no_batch)) }
+    {
+        self.batches[place].link();
+    }
+
+    /// Takes out of the desk's cache all that goes to `t`, and puts it behind all that waits here, as a batch of this number. Room for it
+    /// is made first, so a refusal changes nothing.
+    pub(crate) fn send(
+        &mut self,
+        desk: &mut Desk<'r>,
+        t: u16,
+        number: u32,
+    ) -> Result<u64, NoMemory>
+        requires { RouteFault desk.old.digits desk.old.number t desk.old.cached None }
+        ensures sends { IfOk result (λ count. SendsInto desk.old t number count self.old desk.new self.new) }
+        ensures refused { OnErr result (self.new ≡ self.old) }
+        ensures refused_desk { OnErr result (desk.new ≡ desk.old) }
+    {
+        self.batches.try_reserve(1)?;
+        match desk.batch_for(t) {
+            Ok(batch) => {
+                let count = batch.len();
+                self.batches.push_back_reserved(Waiting::new(number, batch));
+                Ok(count)
+            }
+            Err(_) => unreachable!(),
+        }
+    }
+
+    /// Takes the front, or None where there is none or it still has to be linked.
+    pub(crate) fn take(&mut self) -> Option<Batch<'r>>
+        ensures { MatchOption result (HasNoFront self.old × (self.new ≡ self.old)) (λ b. LeavesFront b self.old self.new) }
+    {
+        match self.batches.front() {
+            Some(front) => {
+                if !front.is_linked() {
+                    return None;
+                }
+            }
+            None => return None,
+        }
+        let front = self.batches.pop_front()?;
+        Some(front.into_batch())
+    }
+}

@@ -1,0 +1,93 @@
+//! What is lent of a desk, and what it is lent from.
+ghost use Rattle.std.specs.Prelude.{◌≡◌, ◌≤◌, ◌<◌, IfOk, IfErr, OnErr, MatchOption};
+ghost use Rattle.region_cut.specs.Classes.{classes_of};
+ghost use Rattle.digit_route.specs.Profiles.{profile_of};
+ghost use Rattle.event_floor.specs.Floors.{desk_count};
+ghost use Rattle.event_floor.specs.Steps.{Does, Refuses};
+ghost use Rattle.event_floor.specs.declared.request.Request.TheVariants.{Claim, Alloc, Free};
+
+use crate::seat::Seat;
+use crate::{Floor, Refusal, Reply};
+use digit_route::Digits;
+use region_cut::Class;
+use std::alloc::Global;
+
+/// The class of a claim: one of those that the profile uses.
+fn class_of(digits: Digits, number: u32) -> Option<Class>
+    ensures { let limit = classes_of (profile_of digits.bits) in MatchOption result (limit ≤ number) (λ class. (class ≡ number) × (number < limit)) }
+{
+    if number < digits.profile().classes() {
+        Class::new(number)
+    } else {
+        None
+    }
+}
+
+impl<'r> Floor<'r> {
+    pub(crate) fn claim(&mut self, a: u32, class: u32) -> Result<Reply, Refusal>
+        ensures does { IfOk result (λ reply. Does self.old (Claim a class) reply self.new) }
+        ensures refuses { IfErr result (λ refusal. Refuses self.old (Claim a class) refusal) }
+        ensures unchanged { OnErr result (self.new ≡ self.old) }
+        ensures desks { desk_count self.new ≡ desk_count self.old }
+    {
+        let place = a as usize;
+        if place >= self.desks.len() {
+            return Err(Refusal::NoDesk);
+        }
+        let Seat::Held(desk) = &mut self.desks[place] else {
+            return Err(Refusal::Idle);
+        };
+        let Some(class) = class_of(self.digits, class) else {
+            return Err(Refusal::BadClass);
+        };
+        if desk.has_home(class) {
+            return Err(Refusal::NotNeeded);
+        }
+        let Some(part) = self.chunks.draw(a, class) else {
+            return Err(Refusal::NoChunk);
+        };
+        let chunk = part.chunk();
+        match desk.claim(part, class) {
+            Ok(()) => Ok(Reply::Chunk(chunk)),
+            Err(_) => unreachable!(),
+        }
+    }
+
+    pub(crate) fn alloc(&mut self, alloc: Global, a: u32, size: u32) -> Result<Reply, Refusal>
+        ensures does { IfOk result (λ reply. Does self.old (Alloc a size) reply self.new) }
+        ensures refuses { IfErr result (λ refusal. Refuses self.old (Alloc a size) refusal) }
+        ensures unchanged { OnErr result (self.new ≡ self.old) }
+        ensures desks { desk_count self.new ≡ desk_count self.old }
+    {
+        let place = a as usize;
+        if place >= self.desks.len() {
+            return Err(Refusal::NoDesk);
+        }
+        let Seat::Held(desk) = &mut self.desks[place] else {
+            return Err(Refusal::Idle);
+        };
+        let buf = desk.alloc(alloc, size as usize)?;
+        let slot = buf.slot();
+        self.lent.put(buf);
+        Ok(Reply::Slot(slot))
+    }
+
+    pub(crate) fn free(&mut self, a: u32, chunk: u32, index: u32) -> Result<Reply, Refusal>
+        ensures does { IfOk result (λ reply. Does self.old (Free a (chunk, index)) reply self.new) }
+        ensures refuses { IfErr result (λ refusal. Refuses self.old (Free a (chunk, index)) refusal) }
+        ensures unchanged { OnErr result (self.new ≡ self.old) }
+        ensures desks { desk_count self.new ≡ desk_count self.old }
+    {
+        let place = a as usize;
+        if place >= self.desks.len() {
+            return Err(Refusal::NoDesk);
+        }
+        let Seat::Held(desk) = &mut self.desks[place] else {
+            return Err(Refusal::Idle);
+        };
+        let Some(buf) = self.lent.take(chunk, index) else {
+            return Err(Refusal::NotLent);
+        };
+        Ok(Reply::from(desk.free(buf)))
+    }
+}

@@ -1,0 +1,78 @@
+//! What desks send one another.
+ghost use Rattle.std.specs.Prelude.{◌≡◌, IfOk, IfErr, OnErr};
+ghost use Rattle.event_floor.specs.Floors.{desk_count};
+ghost use Rattle.event_floor.specs.Steps.{Does, Refuses};
+ghost use Rattle.event_floor.specs.declared.request.Request.TheVariants.{Send, Link, Take};
+
+use crate::inboxes::find_half;
+use crate::seat::Seat;
+use crate::{Floor, Refusal, Reply};
+
+/// The greatest number that a batch can have.
+const LAST_NUMBER: u64 = 4_294_967_295;
+
+impl<'r> Floor<'r> {
+    pub(crate) fn send(&mut self, a: u32, t: u32) -> Result<Reply, Refusal>
+        ensures does { IfOk result (λ reply. Does self.old (Send a t) reply self.new) }
+        ensures refuses { IfErr result (λ refusal. Refuses self.old (Send a t) refusal) }
+        ensures unchanged { OnErr result (self.new ≡ self.old) }
+        ensures desks { desk_count self.new ≡ desk_count self.old }
+    {
+        if a as usize >= self.desks.len() || t as usize >= self.desks.len() {
+            return Err(Refusal::NoDesk);
+        }
+        let Seat::Held(desk) = &mut self.desks[a as usize] else {
+            return Err(Refusal::Idle);
+        };
+        match desk.fault_for(t as u16) {
+            Some(fault) => return Err(Refusal::from(fault)),
+            None => {}
+        }
+        if self.next > LAST_NUMBER {
+            return Err(Refusal::Spent);
+        }
+        let number = self.next as u32;
+        match self.inboxes[t as usize].send(desk, t as u16, number) {
+            Ok(count) => {
+                self.next += 1;
+                Ok(Reply::Batch(number, count))
+            }
+            Err(_) => Err(Refusal::NoMemory),
+        }
+    }
+
+    pub(crate) fn link(&mut self, number: u32) -> Result<Reply, Refusal>
+        ensures does { IfOk result (λ reply. Does self.old (Link number) reply self.new) }
+        ensures refuses { IfErr result (λ refusal. Refuses self.old (Link number) refusal) }
+        ensures unchanged { OnErr result (self.new ≡ self.old) }
+        ensures desks { desk_count self.new ≡ desk_count self.old }
+    {
+        match find_half(&self.inboxes, number) {
+            Some(found) => {
+                self.inboxes[found.inbox].link(found.place);
+                Ok(Reply::Done)
+            }
+            None => Err(Refusal::NoBatch),
+        }
+    }
+
+    pub(crate) fn take(&mut self, b: u32) -> Result<Reply, Refusal>
+        ensures does { IfOk result (λ reply. Does self.old (Take b) reply self.new) }
+        ensures refuses { IfErr result (λ refusal. Refuses self.old (Take b) refusal) }
+        ensures unchanged { OnErr result (self.new ≡ self.old) }
+        ensures desks { desk_count self.new ≡ desk_count self.old }
+    {
+        let place = b as usize;
+        if place >= self.desks.len() {
+            return Err(Refusal::NoDesk);
+        }
+        let Seat::Held(desk) = &mut self.desks[place] else {
+            return Err(Refusal::Idle);
+        };
+        let Some(batch) = self.inboxes[place].take() else {
+            return Err(Refusal::Nothing);
+        };
+        let counts = desk.handle(batch);
+        Ok(Reply::Counts(counts.home, counts.on))
+    }
+}

@@ -1,0 +1,83 @@
+//! A batch that waits in an inbox.
+ghost use Rattle.std.specs.Prelude.{◌≡◌, ◌↔◌, IsTrue, length};
+ghost use Rattle.slot_chain.specs.Counts.{capped};
+ghost use Rattle.event_floor.specs.Posted.{sent_as, as_linked, IsHalf, IsHalfOf};
+
+use digit_route::Batch;
+
+
+use std::marker::Model;
+
+/// A batch with its number, attached or linked.
+#[derive(Drop)]
+pub(crate) struct Waiting<'r> {
+    number: u32,
+    linked: bool,
+    batch: Batch<'r>,
+}
+
+impl<'r> Model for Waiting<'r> {
+    ghost use Rattle.event_floor.specs.Posted.{Posted};
+
+    ghost Value = { Posted };
+
+    ghost view = { λ w. record { number = w.number; sender = w.batch.sender; address = w.batch.address; digits = w.batch.digits; linked = w.linked; buffers = w.batch.items } };
+}
+
+impl<'r> Waiting<'r> {
+    /// The batch as it is sent: it still has to be linked.
+    pub(crate) fn new(number: u32, batch: Batch<'r>) -> Waiting<'r>
+        ensures { result ≡ sent_as number batch.entry }
+    {
+        Waiting {
+            number,
+            linked: false,
+            batch,
+        }
+    }
+
+    /// Whether it is linked.
+    pub(crate) fn is_linked(&self) -> bool
+        ensures { result ≡ self.now.linked }
+    {
+        self.linked
+    }
+
+    /// Whether it has this number and still has to be linked.
+    pub(crate) fn is_half(&self, number: u32) -> bool
+        ensures { IsTrue result ↔ IsHalf number self.now }
+    {
+        self.number == number && !self.linked
+    }
+
+    /// Whether this desk sent it and it still has to be linked.
+    pub(crate) fn is_half_of(&self, sender: u32) -> bool
+        ensures { IsTrue result ↔ IsHalfOf sender self.now }
+    {
+        self.batch.sender() as u32 == sender && !self.linked
+    }
+
+    /// Links it.
+    pub(crate) fn link(&mut self)
+        ensures { self.new ≡ as_linked self.old }
+    {
+        self.linked = true;
+    }
+
+    /// How many buffers it has, by a walk.
+    pub(crate) fn len(&self) -> u64
+        ensures { result ≡ capped (length self.now.buffers) }
+    {
+        self.batch.len()
+    }
+
+    /// The batch alone.
+    pub(crate) fn into_batch(self) -> Batch<'r>
+        ensures sender { result.sender ≡ self.entry.sender }
+        ensures address { result.address ≡ self.entry.address }
+        ensures digits { result.digits ≡ self.entry.digits }
+        ensures items { result.items ≡ self.entry.buffers }
+    {
+        self.batch
+    }
+}
