@@ -10,7 +10,6 @@ mod tallies;
 
 pub use drawn::Drawn;
 pub use fault::Fault;
-
 use region_cut::Slot;
 use std::alloc::Global;
 use strangers::least_stranger;

@@ -8,6 +8,7 @@
 
 mod auditing;
 mod grammar;
+pub mod laws;
 mod lines;
 mod replaying;
 mod report;
@@ -18,5 +19,5 @@ mod wire;
 pub use auditing::{Drawn, Fault, audit};
 pub use grammar::Header;
 pub use replaying::{End, ReplayError, replay};
-pub use report::{Counts, Tally};
+pub use report::Counts;
 pub use wire::{Failed, FromReader, Sink, Source, ToWriter, write_all};

@@ -5,5 +5,5 @@ mod closing;
 mod text;
 
 pub use answers::{line_of_answer, line_of_bad};
-pub use closing::{Counts, Tally, close, tally_of};
+pub use closing::{Counts, close};
 pub use text::Line;

@@ -6,3 +6,4 @@ mod failing;
 mod long;
 mod memory;
 mod rows;
+mod travels;

@@ -36,9 +36,7 @@ impl Drawn {
     pub fn new() -> Drawn
         ensures { (k : ℕ) → class_at result k ≡ None }
     {
-        Drawn {
-            classes: undrawn(),
-        }
+        Drawn { classes: undrawn() }
     }
 
     /// The chunk is drawn for the class.

@@ -1,5 +1,5 @@
 //! All lines behind the header.
-ghost use Rattle.std.specs.Prelude.{◌≡◌, ◌≤◌, false, IfOk, IfErr};
+ghost use Rattle.std.specs.Prelude.{◌≡◌, false, IfOk, IfErr};
 ghost use Rattle.event_floor.specs.Floors.{desk_count};
 ghost use Rattle.trace_audit.specs.Replay.{Failures};
 ghost use Rattle.trace_audit.specs.Steps.{Ended, Stopped};
@@ -22,7 +22,6 @@ pub fn drive<R: Source, W: Sink>(
     writer: &mut W,
 ) -> Result<End, ReplayError>
     requires desks { desks ≡ desk_count floor.old }
-    requires few { desks ≤ 64 }
     requires reader_down { R.has_failed reader.old ≡ false }
     requires writer_down { W.has_failed writer.old ≡ false }
     ensures ended { IfOk result (λ end. Ended (R.remaining reader.old) (R.remaining reader.new) held.old.items floor.old (W.contents writer.old) (W.contents writer.new) end) }

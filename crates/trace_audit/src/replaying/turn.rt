@@ -2,7 +2,7 @@
 ghost use Rattle.std.specs.Prelude.{◌≡◌, ℕ, List, ◌++◌, false, IfOk, IfErr};
 ghost use Rattle.std.specs.Io.KnownBytes.{Consumes, IsAtEnd};
 ghost use Rattle.event_floor.specs.Floors.{desk_count};
-ghost use Rattle.trace_audit.specs.Machine.{Step};
+ghost use Rattle.event_floor.specs.Runs.{Answers};
 ghost use Rattle.trace_audit.specs.Replay.{Failures};
 ghost use Rattle.trace_audit.specs.Steps.{Turned, Broke};
 
@@ -27,7 +27,7 @@ pub enum Turn {
 
 /// Hands the request to the floor.
 fn answer_of(alloc: Global, floor: &mut Floor<'_>, request: Request) -> Result<Reply, Refusal>
-    ensures step { Step floor.old request result floor.new }
+    ensures step { Answers floor.old request result floor.new }
     ensures desks { desk_count floor.new ≡ desk_count floor.old }
 {
     floor.apply(alloc, request)

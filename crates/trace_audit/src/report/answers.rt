@@ -36,6 +36,18 @@ fn push_reply(line: &mut Line, reply: Reply)
         Reply::Home => push_text(line, b"home"),
         Reply::Cached => push_text(line, b"cached"),
         Reply::Due => push_text(line, b"due"),
+        Reply::Batch(number, count) => {
+            push_text(line, b"batch ");
+            push_number(line, u64::from(number));
+            push_text(line, b" ");
+            push_number(line, count);
+        }
+        Reply::Counts(home, on) => {
+            push_text(line, b"home ");
+            push_number(line, home);
+            push_text(line, b" on ");
+            push_number(line, on);
+        }
     }
 }
 

@@ -59,7 +59,12 @@ fn the_least_fault_is_named(rt: HostRuntime) {
 fn the_number_is_not_enough(rt: HostRuntime) {
     let order: [u16; 8] = [7, 6, 5, 4, 3, 2, 0, 0];
     let found = order.map(|index| slot(0, index));
-    answers(&rt, &found, &one_chunk(&rt), Err(Fault::Doubled(slot(0, 0))));
+    answers(
+        &rt,
+        &found,
+        &one_chunk(&rt),
+        Err(Fault::Doubled(slot(0, 0))),
+    );
 }
 
 /// Of the worked table: each class, and how many slots a chunk of it has.

@@ -61,7 +61,7 @@ fn a_read_fails(rt: HostRuntime) -> Result<(), Fail> {
 #[test]
 fn nothing_is_read_behind_a_bad_line(rt: HostRuntime) -> Result<(), Fail> {
     let bad: [(&[u8], u64); 3] = [
-        (b"pool 1 1 2\nadopt 0 0\nretire 0\nadopt 0 0\n", 30),
+        (b"pool 1 1 2\nadopt 0 0\nexpire 0\nadopt 0 0\n", 30),
         (
             b"pool 1 1 2\nadopt 0 0\naaaaaaaaaaaaaaaaaaaaaaaaaaaaaaaaaaaaaaaaaaaaaaaaaaaaaaaaaaaaaaaaaaaaaa\n",
             86,
