@@ -1,5 +1,5 @@
 -- What an audit looks for: each slot of a drawn chunk once, and no other.
-use Rattle.std.specs.Prelude.{ℕ, ◌≡◌, ◌<◌, ◌≤◌, ◌==◌, ◌&&◌, Bool, List, length, count_by, slice_index_or, Option, Some, None}
+use Rattle.std.specs.Prelude.{ℕ, ◌≡◌, ◌<◌, ◌==◌, ◌&&◌, Bool, List, count_by, slice_index_or, Option, Some, None}
 use Rattle.region_cut.specs.Classes.{slots_of}
 use Rattle.region_cut.specs.Slots.{IsBefore}
 use Rattle.region_cut.specs.declared.slot.Slot.{Slot}
@@ -18,11 +18,6 @@ slots_for (Some class) = slots_of class
 -- how many slots the chunk has; none where it isn't drawn
 abbrev pub slots_in : List (Option ℕ) → ℕ → ℕ
 slots_in drawn chunk = slots_for (class_at drawn chunk)
-
--- 1,024 chunks, of which none has more than 256 slots
-pub record IsDrawn (drawn : List (Option ℕ)) : Type 0 where
-  pub chunks : length drawn ≡ 1024
-  pub few : (k : ℕ) → slots_in drawn k ≤ 256
 
 -- the slot is one of a drawn chunk
 abbrev pub IsDrawnSlot : List (Option ℕ) → Slot → Type 0

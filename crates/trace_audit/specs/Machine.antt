@@ -1,11 +1,11 @@
 -- The floor that a trace drives: how it opens, and what is told of it at the end.
-use Rattle.std.specs.Prelude.{ℕ, ◌≡◌, List, length, map, sum_by, count_by, is_some, Result}
+use Rattle.std.specs.Prelude.{ℕ, ◌≡◌, List, length, map, count_by, is_some, Result}
 use Rattle.std.specs.List.{range_with_len}
 use Rattle.region_cut.specs.Classes.{bits_of}
 use Rattle.slot_chain.specs.Counts.{capped}
 use Rattle.digit_route.specs.Digits.{Scheme}
 use Rattle.event_floor.specs.Floors.{FloorSeen, desk_count, desk_at, opening}
-use Rattle.event_floor.specs.Posted.{Posted, inbox_at}
+use Rattle.event_floor.specs.Posted.{buffers_in, inbox_at}
 use Rattle.event_floor.specs.Seats.{home_of, cached_of}
 use Rattle.event_floor.specs.declared.reply.Reply.{Reply}
 use Rattle.event_floor.specs.declared.refusal.Refusal.{Refusal}
@@ -28,7 +28,7 @@ abbrev pub counts_at : FloorSeen → ℕ → Counts
 counts_at v a = record {
   home = capped (length (home_of (desk_at v a)));
   cached = capped (length (cached_of (desk_at v a)));
-  queued = capped (sum_by (λ (p : Posted). length p.buffers) (inbox_at v.inboxes a));
+  queued = capped (length (buffers_in (inbox_at v.inboxes a)));
 }
 
 -- how many chunks are drawn, how many buffers are lent, and the counts of each desk, in order of its number

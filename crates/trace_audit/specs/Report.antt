@@ -1,11 +1,13 @@
 -- The lines of a report.
-use Rattle.std.specs.Prelude.{ℕ, ◌+◌, ◌==◌, ◌&&◌, sum_by, nat_lt, Bool, List, [], ◌∷◌, ◌++◌, codes, decimal, Ok, Err, suc, if◌then◌else◌}
+use Rattle.std.specs.Prelude.{ℕ, ◌+◌, ◌==◌, ◌&&◌, sum_by, nat_lt, Bool, List, [], ◌∷◌, ◌++◌, codes, decimal, Result, Ok, Err, suc, if◌then◌else◌}
 use Rattle.region_cut.specs.Slots.{printed}
 use Rattle.slot_chain.specs.Counts.{capped}
 use Rattle.event_floor.specs.declared.reply.Reply.{Reply}
 use Rattle.event_floor.specs.declared.reply.Reply.TheVariants.{Done, Chunk, Slot, Home, Cached, Due, Batch, Counts as Handled}
 use Rattle.event_floor.specs.declared.refusal.Refusal.{Refusal}
 use Rattle.event_floor.specs.Refusals.{number_of, name_of}
+use Rattle.trace_audit.specs.declared.auditing.fault.Fault.{Fault}
+use Rattle.trace_audit.specs.declared.auditing.fault.Fault.TheVariants.{Stranger, Doubled, Missing, NoMemory}
 use Rattle.trace_audit.specs.declared.report.closing.Counts.{Counts}
 use Rattle.trace_audit.specs.Machine.{Answer, Tally}
 
@@ -34,6 +36,24 @@ answer_text (Err refusal) = refusal_text refusal
 -- the line of an answer; 10 is the line feed
 abbrev pub answer_line : Answer → List ℕ
 answer_line a = answer_text a ++ 10 ∷ []
+
+abbrev pub fault_text : Fault → List ℕ
+fault_text (Stranger s) = codes "stranger " ++ printed s
+fault_text (Doubled s) = codes "doubled " ++ printed s
+fault_text (Missing s) = codes "missing " ++ printed s
+fault_text NoMemory = codes "no memory"
+
+-- what an audit answers
+abbrev pub Verdict : Type 0
+Verdict = Result (Unit {0}) Fault
+
+abbrev pub verdict_text : Verdict → List ℕ
+verdict_text (Ok u) = codes "yes"
+verdict_text (Err fault) = fault_text fault
+
+-- the line of an audit
+abbrev pub audit_line : Verdict → List ℕ
+audit_line v = codes "audit " ++ verdict_text v ++ 10 ∷ []
 
 -- the line of a bad line
 abbrev pub bad_line : ℕ → List ℕ

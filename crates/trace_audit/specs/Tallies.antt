@@ -1,7 +1,12 @@
--- A table that counts slots. Only contracts of private functions speak of it.
-use Rattle.std.specs.Prelude.{ℕ, ◌≡◌, ◌+◌, ◌*◌, List, Option, slice_index, min}
+-- A table that counts slots. Only private functions and the invariant of `Drawn` speak of it.
+use Rattle.std.specs.Prelude.{ℕ, ◌≡◌, ◌≤◌, ◌+◌, ◌*◌, List, Option, length, slice_index, min}
 use Rattle.region_cut.specs.declared.slot.Slot.{Slot}
-use Rattle.trace_audit.specs.Audit.{IsDrawnSlot, times}
+use Rattle.trace_audit.specs.Audit.{slots_in, IsDrawnSlot, times}
+
+-- 1,024 chunks, of which none has more than 256 slots: so a table of 256 places for each chunk has one for each slot
+pub record FitsTable (drawn : List (Option ℕ)) : Type 0 where
+  pub chunks : length drawn ≡ 1024
+  pub few : (k : ℕ) → slots_in drawn k ≤ 256
 
 -- what the table says of the slot
 abbrev pub counted : List ℕ → Slot → ℕ

@@ -34,12 +34,13 @@ fn judge(drawn: &Drawn, found: &[Slot], tallied: &[u8]) -> Result<(), Fault>
 
 /// Whether each slot of each drawn chunk is found once, and nothing else is found.
 ///
-/// `found` lists, in any order, all slots that a pool holds somewhere: at home, lent, in caches, in batches under way.
-/// A slot that was lost is missing from it, one that is held twice is doubled. Where several things are wrong, strangers
-/// come first, then doubled slots, then missing ones, and of each kind the least slot is named, by chunk and then index.
+/// `found` lists, in any order, all slots that a pool holds somewhere: at home, lent, in caches, in
+/// batches under way. A slot that was lost is missing from it, one that is held twice is doubled.
+/// Where several things are wrong, strangers come first, then doubled slots, then missing ones, and
+/// of each kind the least slot is named, by chunk and then index.
 ///
-/// It takes time in the number of slots found, and a table of 262,144 bytes; it answers [`Fault::NoMemory`] only where
-/// that table was refused.
+/// It takes time in the number of slots found, and a table of 262,144 bytes; it answers
+/// [`Fault::NoMemory`] only where that table was refused.
 ///
 /// ```
 /// let mut drawn = Drawn::new();

@@ -2,8 +2,9 @@
 //!
 //! [`audit`] says whether all slots of the chunks that a pool drew are there, each of them once.
 //!
-//! The formats of the trace and of the report stand in `docs/FORMATS.md`. A trace comes from a [`Source`], a report
-//! goes to a [`Sink`]; over readers and writers of std these are [`FromReader`] and [`ToWriter`].
+//! The formats of the trace and of the report stand in `docs/FORMATS.md`. A trace comes from a
+//! [`Source`], a report goes to a [`Sink`]; over readers and writers of std these are
+//! [`FromReader`] and [`ToWriter`].
 #![tactic(auto)]
 
 mod auditing;
@@ -19,5 +20,5 @@ mod wire;
 pub use auditing::{Drawn, Fault, audit};
 pub use grammar::Header;
 pub use replaying::{End, ReplayError, replay};
-pub use report::Counts;
+pub use report::{Counts, write_audit};
 pub use wire::{Failed, FromReader, Sink, Source, ToWriter, write_all};

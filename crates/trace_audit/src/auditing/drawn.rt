@@ -1,12 +1,13 @@
 //! Which chunks are drawn.
-ghost use Rattle.std.specs.Prelude.{◌≡◌, ◌<◌, ℕ, Some, None, slice_set, length};
-ghost use Rattle.trace_audit.specs.Audit.{class_at, slots_in, IsDrawn};
+ghost use Rattle.std.specs.Prelude.{◌≡◌, ◌≢◌, ◌<◌, ℕ, Some, None, length};
+ghost use Rattle.trace_audit.specs.Audit.{class_at, slots_in};
+ghost use Rattle.trace_audit.specs.Tallies.{FitsTable};
 
-use region_cut::{Class, MAX_CHUNKS, Slot};
+use region_cut::{Class, MAX_CHUNKS};
 use std::marker::Model;
 
-/// Which chunks of a region are drawn, and for which class each of them is. Contracts see it as the list of what is
-/// known of each chunk, by its number.
+/// Which chunks of a region are drawn, and for which class each of them is. Contracts see it as the
+/// list of the chunks' classes, by the chunk's number.
 #[derive(Debug, Drop)]
 pub struct Drawn {
     classes: [Option<Class>; MAX_CHUNKS],
@@ -14,13 +15,13 @@ pub struct Drawn {
 
 impl Model for Drawn {
     ghost use Rattle.std.specs.Prelude.{ℕ, Option, List};
-    ghost use Rattle.trace_audit.specs.Audit.{IsDrawn};
+    ghost use Rattle.trace_audit.specs.Tallies.{FitsTable};
 
     ghost Value = { List (Option ℕ) };
 
     ghost view = { λ d. d.classes };
 
-    ghost invariant = { λ d. IsDrawn d.classes };
+    ghost invariant = { λ d. FitsTable d.classes };
 }
 
 /// So many chunks, none of them drawn.
@@ -42,7 +43,8 @@ impl Drawn {
     /// The chunk is drawn for the class.
     pub fn note(&mut self, chunk: u16, class: Class)
         requires { chunk < 1024 }
-        ensures { self.new ≡ slice_set self.old chunk (Some class) }
+        ensures noted { class_at self.new chunk ≡ Some class }
+        ensures others { (k : ℕ) → k ≢ chunk → class_at self.new k ≡ class_at self.old k }
     {
         self.classes[chunk as usize] = Some(class);
     }
@@ -61,7 +63,7 @@ impl Drawn {
     /// How many chunks it tells of.
     pub(crate) fn chunks(&self) -> usize
         ensures value { result ≡ 1024 }
-        ensures shape { IsDrawn self.now }
+        ensures fits { FitsTable self.now }
     {
         let classes = &self.classes;
         classes.len()
@@ -70,7 +72,7 @@ impl Drawn {
     /// How many slots the chunk has: none where it isn't drawn.
     pub(crate) fn slots_in(&self, chunk: u16) -> usize
         ensures value { result ≡ slots_in self.now chunk }
-        ensures shape { IsDrawn self.now }
+        ensures fits { FitsTable self.now }
     {
         let _ = &self.classes;
         match self.class_of(chunk) {

@@ -17,7 +17,8 @@ pub enum Fault {
     /// The slot of a drawn chunk wasn't found. There is no stranger, and no slot is doubled.
     #[error("missing {0}")]
     Missing(Slot),
-    /// The allocator refused the table. Nothing is known of the slots but that no stranger is among them.
+    /// The allocator refused the table. Nothing is known of the slots but that no stranger is among
+    /// them.
     #[error("no memory")]
     NoMemory,
 }

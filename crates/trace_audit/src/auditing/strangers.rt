@@ -1,7 +1,8 @@
 //! Slots that are found and don't belong there.
 ghost use Rattle.std.specs.Prelude.{◌≡◌, ◌⊎◌, ◌↔◌, Some, IsTrue, IfSome, IfNone};
 ghost use Rattle.region_cut.specs.Slots.{IsBefore};
-ghost use Rattle.trace_audit.specs.Audit.{IsDrawn, IsDrawnSlot, IsStranger, IsLeast, IsNowhere};
+ghost use Rattle.trace_audit.specs.Audit.{IsDrawnSlot, IsStranger, IsLeast, IsNowhere};
+ghost use Rattle.trace_audit.specs.Tallies.{FitsTable};
 
 use super::Drawn;
 use region_cut::Slot;
@@ -9,7 +10,7 @@ use region_cut::Slot;
 /// Whether the slot is one of a drawn chunk.
 pub fn is_drawn_slot(drawn: &Drawn, slot: Slot) -> bool
     ensures value { IsTrue result ↔ IsDrawnSlot drawn.now slot }
-    ensures shape { IsDrawn drawn.now }
+    ensures fits { FitsTable drawn.now }
 {
     (slot.index as usize) < drawn.slots_in(slot.chunk)
 }

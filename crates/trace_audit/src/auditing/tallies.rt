@@ -1,7 +1,7 @@
 //! How often each slot of a drawn chunk is found, counted in one table.
 ghost use Rattle.std.specs.Prelude.{◌≡◌, ◌<◌, ◌+◌, ◌*◌, ℕ, length, slice_index, slice_set, min, IfSome, IfNone, IfOk};
-ghost use Rattle.trace_audit.specs.Audit.{IsDrawn, IsDrawnSlot, IsLeast, IsNowhere};
-ghost use Rattle.trace_audit.specs.Tallies.{IsTally, HasCount};
+ghost use Rattle.trace_audit.specs.Audit.{IsDrawnSlot, IsLeast, IsNowhere};
+ghost use Rattle.trace_audit.specs.Tallies.{FitsTable, IsTally, HasCount};
 
 use super::Drawn;
 use super::strangers::is_drawn_slot;
@@ -23,7 +23,7 @@ pub fn zeros(alloc: Global, count: usize) -> Result<Vec<u8>, AllocError>
 fn place_of(drawn: &Drawn, slot: Slot) -> Option<usize>
     ensures some { IfSome result (λ at. IsDrawnSlot drawn.now slot × (at ≡ slot.chunk * 256 + slot.index) × (at < 262144)) }
     ensures none { IfNone result (IsDrawnSlot drawn.now slot → ⊥) }
-    ensures shape { IsDrawn drawn.now }
+    ensures fits { FitsTable drawn.now }
 {
     if is_drawn_slot(drawn, slot) {
         Some(slot.chunk as usize * 256 + slot.index as usize)

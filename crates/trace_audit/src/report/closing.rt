@@ -106,7 +106,8 @@ fn push_counts(line: &mut Line, counts: Counts)
     push_text(line, b"\n");
 }
 
-/// Writes the closing lines of a floor of so many desks. Takes no memory, and time in the number of the floor's slots.
+/// Writes the closing lines of a floor of so many desks. Takes no memory, and time in the number of
+/// the floor's slots.
 pub fn close<W: Sink>(floor: &Floor<'_>, desks: u32, writer: &mut W) -> Result<(), Failed>
     requires desks { desks ≡ desk_count floor.now }
     requires down { W.has_failed writer.old ≡ false }

@@ -1,5 +1,6 @@
-//! What an audit answers.
-use crate::{Drawn, Fault, audit};
+//! What an audit answers, and the line that tells it.
+use super::memory::Kept;
+use crate::{Drawn, Fault, audit, write_audit};
 use region_cut::{Class, Slot};
 use std::process::Abort;
 use std::test::Fail;
@@ -95,6 +96,25 @@ fn a_chunk_of_each_class(rt: HostRuntime) -> Result<(), Fail> {
     let missing = Err(Fault::Missing(slot(1019, 3)));
     answers(&rt, found.as_slice(), &drawn, missing);
     Ok(())
+}
+
+#[test]
+fn the_line_of_an_audit(rt: HostRuntime) {
+    let lines: [(Result<(), Fault>, &[u8]); 5] = [
+        (Ok(()), b"audit yes\n"),
+        (Err(Fault::Stranger(slot(0, 8))), b"audit stranger 0.8\n"),
+        (
+            Err(Fault::Doubled(slot(1023, 255))),
+            b"audit doubled 1023.255\n",
+        ),
+        (Err(Fault::Missing(slot(0, 0))), b"audit missing 0.0\n"),
+        (Err(Fault::NoMemory), b"audit no memory\n"),
+    ];
+    for (answer, line) in lines {
+        let mut writer = Kept::all(rt.alloc());
+        assert!(rt; write_audit(answer, &mut writer) == Ok(()));
+        assert!(rt; writer.bytes.as_slice() == line);
+    }
 }
 
 #[test]

@@ -24,7 +24,8 @@ fn gives(rt: &(impl Abort + AllocGlobal), trace: &str, report: &str) -> Result<(
     Ok(())
 }
 
-/// Owners 7, 11 and 27 are 3,1,0 and 3,2,0 and 3,2,1 in digits of 2 bits: the last buffer is passed on twice.
+/// Owners 7, 11 and 27 are 3,1,0 and 3,2,0 and 3,2,1 in digits of 2 bits: the last buffer is passed
+/// on twice.
 #[test]
 fn a_buffer_is_passed_on(rt: HostRuntime) -> Result<(), Fail> {
     gives(
@@ -99,7 +100,8 @@ fn a_batch_waits_for_those_before_it(rt: HostRuntime) -> Result<(), Fail> {
     )
 }
 
-/// Not while something is in the cache, nor while a batch of the desk isn't linked. Batches of others are no bar.
+/// Not while something is in the cache, nor while a batch of the desk isn't linked. Batches of
+/// others are no bar.
 #[test]
 fn desks_are_retired_and_adopted(rt: HostRuntime) -> Result<(), Fail> {
     gives(
