@@ -1,5 +1,7 @@
 -- The table of the lent buffers.
 use Rattle.std.specs.Prelude.{ℕ, ◌≡◌, ◌<◌, ◌+◌, ◌*◌, List, Option, None, IfSome, slice_index_or, nat_lt, if◌then◌else◌}
+use Rattle.std.specs.List.{flat_map}
+use Rattle.std.specs.Option.{option_to_list}
 use Rattle.region_cut.specs.declared.slot.Slot.{Slot}
 use Rattle.slot_chain.specs.Buffer.{Buffer}
 
@@ -14,3 +16,7 @@ lent_at places chunk index = if nat_lt index 256 then slice_index_or places (256
 -- each buffer lies in the place of its slot
 abbrev pub AreInPlace : List (Option Buffer) → Type 0
 AreInPlace places = (i : ℕ) → IfSome (slice_index_or places i None) (λ (b : Buffer). (place_of b.slot ≡ i) × (b.slot.index < 256))
+
+-- the lent buffers, in the order of their places
+abbrev pub buffers_lent : List (Option Buffer) → List Buffer
+buffers_lent places = flat_map option_to_list places

@@ -1,5 +1,6 @@
 -- The batches that wait in the inboxes.
 use Rattle.std.specs.Prelude.{ℕ, ◌≡◌, ◌<◌, Bool, true, false, List, [], ◌∷◌, ◌++◌, length, slice_index_or, All, Any}
+use Rattle.std.specs.List.{flat_map}
 use Rattle.slot_chain.specs.Buffer.{Buffer}
 use Rattle.digit_route.specs.Digits.{Scheme}
 use Rattle.slot_chain.specs.Counts.{capped}
@@ -29,6 +30,10 @@ no_batch = record { number = 0; sender = 0; address = 0; digits = record { width
 -- the inbox of a desk, in order of arrival
 abbrev pub inbox_at : List (List Posted) → ℕ → List Posted
 inbox_at inboxes b = slice_index_or inboxes b []
+
+-- the buffers of these batches
+abbrev pub buffers_in : List Posted → List Buffer
+buffers_in posted = flat_map (λ (p : Posted). p.buffers) posted
 
 -- it has this number, and still has to be linked
 abbrev pub IsHalf : ℕ → Posted → Type 0

@@ -1,12 +1,14 @@
 //! A desk's inbox.
-ghost use Rattle.std.specs.Prelude.{◌≡◌, ◌<◌, ◌∷◌, [], length, slice_index_or, slice_set, All, Any, IfOk, OnErr, None, MatchOption, MatchBool, sum_by};
+ghost use Rattle.std.specs.Prelude.{◌≡◌, ◌<◌, ◌∷◌, [], length, slice_index_or, slice_set, All, Any, IfOk, OnErr, None, MatchOption, MatchBool, IsPermutation, map};
 ghost use Rattle.slot_chain.specs.Counts.{capped};
 ghost use Rattle.digit_route.specs.Route.{RouteFault};
-ghost use Rattle.event_floor.specs.Posted.{Posted, as_linked, no_batch, IsHalf, IsHalfOf, HasNoFront, LeavesFront, SendsInto};
+ghost use Rattle.digit_route.specs.Slots.{slot_of};
+ghost use Rattle.event_floor.specs.Posted.{Posted, as_linked, no_batch, IsHalf, IsHalfOf, buffers_in, HasNoFront, LeavesFront, SendsInto};
 
 use crate::waiting::Waiting;
 use digit_route::Batch;
 use pool_desk::Desk;
+use region_cut::Slot;
 use slot_chain::NoMemory;
 use std::alloc::Global;
 use std::collections::VecDeque;
@@ -73,12 +75,7 @@ impl<'r> Inbox<'r> {
 
     /// Takes out of the desk's cache all that goes to `t`, and puts it behind all that waits here, as a batch of this number. Room for it
     /// is made first, so a refusal changes nothing.
-    pub(crate) fn send(
-        &mut self,
-        desk: &mut Desk<'r>,
-        t: u16,
-        number: u32,
-    ) -> Result<u64, NoMemory>
+    pub(crate) fn send(&mut self, desk: &mut Desk<'r>, t: u16, number: u32) -> Result<u64, NoMemory>
         requires { RouteFault desk.old.digits desk.old.number t desk.old.cached None }
         ensures sends { IfOk result (λ count. SendsInto desk.old t number count self.old desk.new self.new) }
         ensures refused { OnErr result (self.new ≡ self.old) }
@@ -109,5 +106,27 @@ impl<'r> Inbox<'r> {
         }
         let front = self.batches.pop_front()?;
         Some(front.into_batch())
+    }
+
+    /// How many buffers wait here, by a walk.
+    pub(crate) fn count(&self) -> u64
+        ensures { result ≡ capped (length (buffers_in self.now)) }
+    {
+        let mut count = 0u64;
+        for i in 0..self.batches.len() {
+            count = count.saturating_add(self.batches[i].len());
+        }
+        count
+    }
+
+    /// The slots of the buffers that wait here.
+    pub(crate) fn slots(&self, alloc: Global) -> Result<Vec<Slot>, NoMemory>
+        ensures { IfOk result (λ slots. IsPermutation (map slot_of (buffers_in self.now)) slots.items) }
+    {
+        let mut slots = Vec::new(alloc);
+        for i in 0..self.batches.len() {
+            self.batches[i].list_slots(&mut slots)?;
+        }
+        Ok(slots)
     }
 }

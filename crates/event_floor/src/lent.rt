@@ -1,8 +1,10 @@
 //! The lent buffers, each found by the numbers of its slot.
-ghost use Rattle.std.specs.Prelude.{◌≡◌, ◌<◌, ◌≤◌, ◌*◌, ◌+◌, length, replicate, slice_set, IfOk, MatchOption, Some, None, is_some};
+ghost use Rattle.std.specs.Prelude.{◌≡◌, ◌<◌, ◌≤◌, ◌*◌, ◌+◌, length, replicate, slice_set, IfOk, MatchOption, Some, None, is_some, map};
 ghost use Rattle.std.specs.Prelude.{count_by};
-ghost use Rattle.event_floor.specs.Lent.{lent_at, place_of};
+ghost use Rattle.digit_route.specs.Slots.{slot_of};
+ghost use Rattle.event_floor.specs.Lent.{lent_at, place_of, buffers_lent};
 
+use region_cut::Slot;
 use slot_chain::{Buf, NoMemory};
 use std::alloc::Global;
 use std::marker::Model;
@@ -73,5 +75,18 @@ impl<'r> Lent<'r> {
         ensures { result ≡ count_by is_some self.now }
     {
         self.places.iter().filter(|place| place.is_some()).count() as u64
+    }
+
+    /// The slots of the lent buffers, by a walk over the table.
+    pub(crate) fn slots(&self, alloc: Global) -> Result<Vec<Slot>, NoMemory>
+        ensures { IfOk result (λ slots. slots.items ≡ map slot_of (buffers_lent self.now)) }
+    {
+        let mut slots = Vec::new(alloc);
+        for place in &self.places {
+            if let Some(buf) = place {
+                slots.push(buf.slot())?;
+            }
+        }
+        Ok(slots)
     }
 }

@@ -17,9 +17,9 @@ mod request;
 mod seat;
 mod sending;
 mod telling;
-mod waiting;
 #[cfg(test)]
 mod tests;
+mod waiting;
 
 pub use floor::Floor;
 pub use refusal::Refusal;

@@ -1,35 +1,56 @@
 //! What a floor tells of itself.
-ghost use Rattle.std.specs.Prelude.{◌≡◌, ◌<◌, length, is_some};
+ghost use Rattle.std.specs.Prelude.{◌≡◌, ◌<◌, length, is_some, map, IfOk, IsPermutation};
 ghost use Rattle.std.specs.Prelude.{count_by};
 ghost use Rattle.slot_chain.specs.Counts.{capped};
+ghost use Rattle.digit_route.specs.Slots.{slot_of};
 ghost use Rattle.event_floor.specs.Chunks.{class_drawn};
 ghost use Rattle.event_floor.specs.Floors.{desk_count, desk_at};
+ghost use Rattle.event_floor.specs.Lent.{buffers_lent};
+ghost use Rattle.event_floor.specs.Posted.{buffers_in, inbox_at};
 ghost use Rattle.event_floor.specs.Seats.{home_of, cached_of};
 
 use crate::Floor;
 use crate::seat::Seat;
 use digit_route::Digits;
-use region_cut::Class;
+use region_cut::{Class, Slot};
+use slot_chain::NoMemory;
+use std::alloc::Global;
 
 impl<'r> Floor<'r> {
-    /// How many slots the desk has at home, how many buffers are in its cache, and how many wait in its inbox (none yet).
-    /// Takes time in their number.
+    /// How many slots the desk has at home, how many buffers are in its cache, and how many wait in its inbox, linked
+    /// or not; each at most the greatest `u64`. Takes a walk over them.
     pub fn counts(&self, a: u32) -> (u64, u64, u64)
         requires { a < desk_count self.now }
         ensures home { result.0 ≡ capped (length (home_of (desk_at self.now a))) }
         ensures cached { result.1 ≡ capped (length (cached_of (desk_at self.now a))) }
-        ensures queued { result.2 ≡ 0 }
+        ensures queued { result.2 ≡ capped (length (buffers_in (inbox_at self.now.inboxes a))) }
     {
+        let queued = self.inboxes[a as usize].count();
         match &self.desks[a as usize] {
             Seat::Idle(desk) => {
                 let (home, cached) = desk.counts();
-                (home, cached, 0)
+                (home, cached, queued)
             }
             Seat::Held(desk) => {
                 let (home, cached) = desk.counts();
-                (home, cached, 0)
+                (home, cached, queued)
             }
         }
+    }
+
+    /// The slots of all buffers that wait in the desk's inbox, linked or not, each as often as it is there.
+    pub fn queued(&self, alloc: Global, a: u32) -> Result<Vec<Slot>, NoMemory>
+        requires { a < desk_count self.now }
+        ensures { IfOk result (λ slots. IsPermutation (map slot_of (buffers_in (inbox_at self.now.inboxes a))) slots.items) }
+    {
+        self.inboxes[a as usize].slots(alloc)
+    }
+
+    /// The slots of the lent buffers, in order. Takes time in the number of slots.
+    pub fn lent(&self, alloc: Global) -> Result<Vec<Slot>, NoMemory>
+        ensures { IfOk result (λ slots. slots.items ≡ map slot_of (buffers_lent self.now.lent)) }
+    {
+        self.lent.slots(alloc)
     }
 
     /// How many buffers are lent. Takes time in the number of slots.
@@ -37,6 +58,13 @@ impl<'r> Floor<'r> {
         ensures { result ≡ count_by is_some self.now.lent }
     {
         self.lent.count()
+    }
+
+    /// How many desks it has.
+    pub fn desk_count(&self) -> u32
+        ensures { result ≡ desk_count self.now }
+    {
+        self.desks.len() as u32
     }
 
     /// How many chunks are drawn.

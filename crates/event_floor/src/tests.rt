@@ -1,6 +1,6 @@
 //! What no contract says: which slot comes next, that requests succeed where there is memory, and runs whose answers are
 //! known from outside. Class 0 has 256 slots of 16 bytes, class 2 has 85 of 48, class 15 has 8 of 512.
-ghost use Rattle.std.specs.Prelude.{◌≤◌};
+ghost use Rattle.std.specs.Prelude.{◌≤◌, ◌^◌};
 
 use crate::{Floor, Refusal, Reply, Request};
 use digit_route::Digits;
@@ -8,7 +8,16 @@ use region_cut::{Slot, cut};
 use std::alloc::Global;
 use std::process::Abort;
 
+mod inboxes;
+mod lending;
+mod listing;
+mod profiles;
+mod routing;
+
 type Row = (Request, Result<Reply, Refusal>);
+
+/// A desk's number, and how many slots it has at home, in its cache and in its inbox.
+type Closing = (u32, u64, u64, u64);
 
 fn slot(chunk: u16, index: u16) -> Result<Reply, Refusal> {
     Ok(Reply::Slot(Slot { chunk, index }))
@@ -19,20 +28,33 @@ fn chunks(count: usize) -> usize {
 }
 
 // None where there was no memory.
-fn floor_of<'r>(alloc: Global, region: &'r mut [u8], desks: u32) -> Option<Floor<'r>>
+fn floor_with<'r>(
+    alloc: Global,
+    region: &'r mut [u8],
+    desks: u32,
+    digits: Digits,
+) -> Option<Floor<'r>>
     requires some { 1 ≤ desks }
-    requires few { desks ≤ 64 }
+    requires few { desks ≤ 2 ^ digits.bits }
 {
     let Ok(parts) = cut(alloc, region) else {
-        return None;
-    };
-    let Some(digits) = Digits::new(2) else {
         return None;
     };
     let Ok(floor) = Floor::new(alloc, parts, desks, digits, 4096) else {
         return None;
     };
     Some(floor)
+}
+
+// A floor of at most 64 desks, whose numbers are read in digits of 2 bits.
+fn floor_of<'r>(alloc: Global, region: &'r mut [u8], desks: u32) -> Option<Floor<'r>>
+    requires some { 1 ≤ desks }
+    requires few { desks ≤ 64 }
+{
+    let Some(digits) = Digits::new(2) else {
+        return None;
+    };
+    floor_with(alloc, region, desks, digits)
 }
 
 // After a want of memory the next try has the answer that was due.
@@ -51,205 +73,74 @@ fn ask_all(rt: &impl Abort, alloc: Global, floor: &mut Floor<'_>, rows: &[Row]) 
     }
 }
 
-#[test]
-fn a_buffer_goes_out_and_home(rt: HostRuntime) {
-    let alloc = rt.alloc();
-    let Ok(mut region) = Vec::from_elem(alloc, 0u8, chunks(1)) else {
-        return;
-    };
-    let Some(mut floor) = floor_of(alloc, &mut region, 1) else {
-        return;
-    };
-    let rows = [
-        (Request::Adopt(0, 5), Ok(Reply::Done)),
-        (Request::Claim(0, 0), Ok(Reply::Chunk(0))),
-        (Request::Alloc(0, 16), slot(0, 0)),
-        (Request::Free(0, (0, 0)), Ok(Reply::Home)),
-    ];
-    ask_all(&rt, alloc, &mut floor, &rows);
-    assert_eq!(rt; floor.drawn_count(), 1);
-    assert_eq!(rt; floor.lent_count(), 0);
-}
-
-#[test]
-fn sizes_choose_classes(rt: HostRuntime) {
-    let alloc = rt.alloc();
-    let Ok(mut region) = Vec::from_elem(alloc, 0u8, chunks(2)) else {
-        return;
-    };
-    let Some(mut floor) = floor_of(alloc, &mut region, 1) else {
-        return;
-    };
-    let rows = [
-        (Request::Adopt(0, 0), Ok(Reply::Done)),
-        (Request::Alloc(0, 0), Err(Refusal::NeedChunk)),
-        (Request::Claim(0, 0), Ok(Reply::Chunk(0))),
-        (Request::Claim(0, 15), Ok(Reply::Chunk(1))),
-        (Request::Alloc(0, 0), slot(0, 0)),
-        (Request::Alloc(0, 512), slot(1, 0)),
-        (Request::Alloc(0, 513), Err(Refusal::TooLarge)),
-    ];
-    ask_all(&rt, alloc, &mut floor, &rows);
-    assert_eq!(rt; floor.drawn_count(), 2);
-    assert_eq!(rt; floor.lent_count(), 2);
-}
-
-#[test]
-fn a_chunk_has_its_slots_and_no_more(rt: HostRuntime) {
-    let alloc = rt.alloc();
-    let Ok(mut region) = Vec::from_elem(alloc, 0u8, chunks(1)) else {
-        return;
-    };
-    let Some(mut floor) = floor_of(alloc, &mut region, 1) else {
-        return;
-    };
-    let rows = [
-        (Request::Adopt(0, 0), Ok(Reply::Done)),
-        (Request::Claim(0, 2), Ok(Reply::Chunk(0))),
-    ];
-    ask_all(&rt, alloc, &mut floor, &rows);
-    for index in 0..85u16 {
-        assert_eq!(rt;
-            ask(alloc, &mut floor, Request::Alloc(0, 48)),
-            slot(0, index)
+// The counts of the desks that are named, and no slot at any other one.
+fn closes(rt: &impl Abort, floor: &Floor<'_>, desks: u32, due: &[Closing]) {
+    let mut sums = (0u64, 0u64, 0u64);
+    for closing in due {
+        let (a, home, cached, queued) = *closing;
+        if a < floor.desk_count() {
+            assert_eq!(rt; floor.counts(a), (home, cached, queued), "at desk {a}");
+        }
+        sums = (
+            sums.0.saturating_add(home),
+            sums.1.saturating_add(cached),
+            sums.2.saturating_add(queued),
         );
     }
-    assert_eq!(rt;
-        ask(alloc, &mut floor, Request::Alloc(0, 48)),
-        Err(Refusal::NeedChunk)
-    );
-    assert_eq!(rt; floor.lent_count(), 85);
+    assert_eq!(rt; floor.desk_count(), desks);
+    let mut all = (0u64, 0u64, 0u64);
+    for a in 0..floor.desk_count() {
+        let (home, cached, queued) = floor.counts(a);
+        all = (
+            all.0.saturating_add(home),
+            all.1.saturating_add(cached),
+            all.2.saturating_add(queued),
+        );
+    }
+    assert_eq!(rt; all, sums);
 }
 
-#[test]
-fn refusals_come_in_their_order(rt: HostRuntime) {
-    let alloc = rt.alloc();
-    let Ok(mut region) = Vec::from_elem(alloc, 0u8, chunks(1)) else {
-        return;
-    };
-    let Some(mut floor) = floor_of(alloc, &mut region, 1) else {
-        return;
-    };
-    let rows = [
-        (Request::Claim(0, 16), Err(Refusal::Idle)),
-        (Request::Alloc(0, 513), Err(Refusal::Idle)),
-        (Request::Free(0, (0, 0)), Err(Refusal::Idle)),
-        (Request::Adopt(0, 0), Ok(Reply::Done)),
-        (Request::Adopt(0, 1), Err(Refusal::Held)),
-        (Request::Claim(0, 15), Ok(Reply::Chunk(0))),
-        (Request::Claim(0, 15), Err(Refusal::NotNeeded)),
-        (Request::Claim(0, 14), Err(Refusal::NoChunk)),
-        (Request::Claim(0, 16), Err(Refusal::BadClass)),
-        (Request::Claim(1, 0), Err(Refusal::NoDesk)),
-        (Request::Free(1, (0, 0)), Err(Refusal::NoDesk)),
-        (Request::Free(0, (0, 8)), Err(Refusal::NotLent)),
-        (Request::Free(0, (0, 256)), Err(Refusal::NotLent)),
-        (
-            Request::Free(0, (4_294_967_295, 4_294_967_295)),
-            Err(Refusal::NotLent),
-        ),
-    ];
-    ask_all(&rt, alloc, &mut floor, &rows);
-}
-
-#[test]
-fn the_last_freed_goes_first(rt: HostRuntime) {
-    let alloc = rt.alloc();
-    let Ok(mut region) = Vec::from_elem(alloc, 0u8, chunks(1)) else {
-        return;
-    };
-    let Some(mut floor) = floor_of(alloc, &mut region, 2) else {
-        return;
-    };
-    let rows = [
-        (Request::Adopt(1, 7), Ok(Reply::Done)),
-        (Request::Claim(1, 15), Ok(Reply::Chunk(0))),
-        (Request::Alloc(1, 449), slot(0, 0)),
-        (Request::Alloc(1, 512), slot(0, 1)),
-        (Request::Free(1, (0, 1)), Ok(Reply::Home)),
-        (Request::Free(1, (0, 1)), Err(Refusal::NotLent)),
-        (Request::Free(1, (0, 0)), Ok(Reply::Home)),
-        (Request::Alloc(1, 512), slot(0, 0)),
-        (Request::Alloc(1, 512), slot(0, 1)),
-        (Request::Alloc(1, 512), slot(0, 2)),
-    ];
-    ask_all(&rt, alloc, &mut floor, &rows);
-}
-
-// Frees the slots of a chunk from the first to the last, all with the same answer.
-fn free_all(
+// Asks a new floor over so many chunks, and looks at what it has in the end.
+fn plays(
     rt: &impl Abort,
     alloc: Global,
-    floor: &mut Floor<'_>,
-    desk: u32,
-    count: u32,
-    due: Reply,
-) {
-    for index in 0..count {
-        assert_eq!(rt; ask(alloc, floor, Request::Free(desk, (0, index))), Ok(due));
-    }
+    desks: u32,
+    count: usize,
+    digits: Digits,
+    rows: &[Row],
+    due: &[Closing],
+)
+    requires some { 1 ≤ desks }
+    requires few { desks ≤ 2 ^ digits.bits }
+{
+    let Ok(mut region) = Vec::from_elem(alloc, 0u8, chunks(count)) else {
+        return;
+    };
+    let Some(mut floor) = floor_with(alloc, &mut region, desks, digits) else {
+        return;
+    };
+    ask_all(rt, alloc, &mut floor, rows);
+    closes(rt, &floor, desks, due);
 }
 
-#[test]
-fn a_cache_is_due_above_the_limit(rt: HostRuntime) {
-    let alloc = rt.alloc();
-    let Ok(mut region) = Vec::from_elem(alloc, 0u8, chunks(2)) else {
+// The same for the profile of 64 desks, with digits of so many bits.
+fn plays_pool(
+    rt: &impl Abort,
+    alloc: Global,
+    desks: u32,
+    count: usize,
+    width: u32,
+    rows: &[Row],
+    due: &[Closing],
+)
+    requires some { 1 ≤ desks }
+    requires few { desks ≤ 64 }
+{
+    let Some(digits) = Digits::new(width) else {
+        assert!(rt; false, "no digits of {width} bits");
         return;
     };
-    let Some(mut floor) = floor_of(alloc, &mut region, 2) else {
-        return;
-    };
-    let rows = [
-        (Request::Adopt(0, 0), Ok(Reply::Done)),
-        (Request::Adopt(1, 1), Ok(Reply::Done)),
-        (Request::Claim(1, 15), Ok(Reply::Chunk(0))),
-    ];
-    ask_all(&rt, alloc, &mut floor, &rows);
-    for index in 0..8u16 {
-        assert_eq!(rt;
-            ask(alloc, &mut floor, Request::Alloc(1, 512)),
-            slot(0, index)
-        );
-    }
-    let rows = [
-        (Request::Claim(1, 15), Ok(Reply::Chunk(1))),
-        (Request::Alloc(1, 512), slot(1, 0)),
-    ];
-    ask_all(&rt, alloc, &mut floor, &rows);
-    free_all(&rt, alloc, &mut floor, 0, 8, Reply::Cached);
-    assert_eq!(rt;
-        ask(alloc, &mut floor, Request::Free(0, (1, 0))),
-        Ok(Reply::Due)
-    );
-    assert_eq!(rt; floor.lent_count(), 0);
-}
-
-#[test]
-fn counts_and_classes(rt: HostRuntime) {
-    let alloc = rt.alloc();
-    let Ok(mut region) = Vec::from_elem(alloc, 0u8, chunks(1)) else {
-        return;
-    };
-    let Ok(parts) = cut(alloc, &mut region) else {
-        return;
-    };
-    let Some(digits) = Digits::new(1) else {
-        return;
-    };
-    let Ok(mut floor) = Floor::new(alloc, parts, 2, digits, 4096) else {
-        return;
-    };
-    assert!(rt; floor.class_of(0).is_none());
-    assert_eq!(rt; floor.limit(), 4096);
-    assert!(rt; floor.digits() == digits);
-    let adopted = floor.apply(alloc, Request::Adopt(1, 3));
-    assert_eq!(rt; adopted, Ok(Reply::Done));
-    let drawn = floor.apply(alloc, Request::Claim(1, 2));
-    assert_eq!(rt; drawn, Ok(Reply::Chunk(0)));
-    assert_eq!(rt; floor.counts(0), (0, 0, 0));
-    assert_eq!(rt; floor.counts(1), (85, 0, 0));
-    assert_eq!(rt; floor.class_of(0).map_or(99, |class| class.number()), 2);
-    assert!(rt; floor.class_of(1).is_none());
+    plays(rt, alloc, desks, count, digits, rows, due);
 }
 
 #[test]
@@ -262,10 +153,16 @@ fn refusals_have_numbers_and_names(rt: HostRuntime) {
         (Refusal::NotNeeded, 5, "NotNeeded"),
         (Refusal::NoChunk, 6, "NoChunk"),
         (Refusal::NotLent, 7, "NotLent"),
+        (Refusal::NothingFor, 8, "NothingFor"),
+        (Refusal::NotAnOwner, 9, "NotAnOwner"),
+        (Refusal::ToSelf, 10, "ToSelf"),
+        (Refusal::NoBatch, 11, "NoBatch"),
+        (Refusal::Nothing, 12, "Nothing"),
         (Refusal::Unsettled, 13, "Unsettled"),
         (Refusal::Held, 14, "Held"),
         (Refusal::NoMemory, 15, "NoMemory"),
         (Refusal::BadClass, 16, "BadClass"),
+        (Refusal::Spent, 18, "Spent"),
     ] {
         assert_eq!(rt; refusal.number(), number);
         assert_eq!(rt; refusal.name(), name);

@@ -1,11 +1,12 @@
 //! A batch that waits in an inbox.
-ghost use Rattle.std.specs.Prelude.{◌≡◌, ◌↔◌, IsTrue, length};
+ghost use Rattle.std.specs.Prelude.{◌≡◌, ◌↔◌, IsTrue, OnOk, length};
 ghost use Rattle.slot_chain.specs.Counts.{capped};
+ghost use Rattle.digit_route.specs.Slots.{AddsSlots};
 ghost use Rattle.event_floor.specs.Posted.{sent_as, as_linked, IsHalf, IsHalfOf};
 
 use digit_route::Batch;
-
-
+use region_cut::Slot;
+use slot_chain::NoMemory;
 use std::marker::Model;
 
 /// A batch with its number, attached or linked.
@@ -69,6 +70,13 @@ impl<'r> Waiting<'r> {
         ensures { result ≡ capped (length self.now.buffers) }
     {
         self.batch.len()
+    }
+
+    /// Adds the slot of each buffer to the end of `slots`.
+    pub(crate) fn list_slots(&self, slots: &mut Vec<Slot>) -> Result<(), NoMemory>
+        ensures { OnOk result (AddsSlots self.now.buffers slots.old.items slots.new.items) }
+    {
+        self.batch.list_slots(slots)
     }
 
     /// The batch alone.

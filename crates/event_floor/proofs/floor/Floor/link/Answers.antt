@@ -6,6 +6,6 @@ use Rattle.event_floor.proofs.floor.Floor.link.Goals as goal
 pub returns-in-Some-clause-does : goal.returns-in-Some-clause-does
 returns-in-Some-clause-does c =
     let half : IsHalfAt c.self.inside.inboxes.items c.args.number c.in-Some.found.inbox c.in-Some.found.place =
-        subst (λ z. IsHalfAt z c.args.number c.in-Some.found.inbox c.in-Some.found.place) c.deref.ensures.value c.in-Some.ensures in
+    subst (λ z. IsHalfAt z c.args.number c.in-Some.found.inbox c.in-Some.found.place) c.deref.ensures.value c.in-Some.ensures in
     rw (← c.self.view_is)
     (links_batch _ c.args.number c.in-Some.found.inbox c.in-Some.found.place _ _ half c.index_mut.ensures.value c.link.ensures)

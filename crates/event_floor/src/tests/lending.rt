@@ -1,0 +1,208 @@
+//! Claims, allocations and frees.
+use super::{ask, ask_all, chunks, floor_of, slot};
+use crate::{Floor, Refusal, Reply, Request};
+use digit_route::Digits;
+use region_cut::cut;
+use std::alloc::Global;
+use std::process::Abort;
+
+#[test]
+fn a_buffer_goes_out_and_home(rt: HostRuntime) {
+    let alloc = rt.alloc();
+    let Ok(mut region) = Vec::from_elem(alloc, 0u8, chunks(1)) else {
+        return;
+    };
+    let Some(mut floor) = floor_of(alloc, &mut region, 1) else {
+        return;
+    };
+    let rows = [
+        (Request::Adopt(0, 5), Ok(Reply::Done)),
+        (Request::Claim(0, 0), Ok(Reply::Chunk(0))),
+        (Request::Alloc(0, 16), slot(0, 0)),
+        (Request::Free(0, (0, 0)), Ok(Reply::Home)),
+    ];
+    ask_all(&rt, alloc, &mut floor, &rows);
+    assert_eq!(rt; floor.drawn_count(), 1);
+    assert_eq!(rt; floor.lent_count(), 0);
+}
+
+#[test]
+fn sizes_choose_classes(rt: HostRuntime) {
+    let alloc = rt.alloc();
+    let Ok(mut region) = Vec::from_elem(alloc, 0u8, chunks(2)) else {
+        return;
+    };
+    let Some(mut floor) = floor_of(alloc, &mut region, 1) else {
+        return;
+    };
+    let rows = [
+        (Request::Adopt(0, 0), Ok(Reply::Done)),
+        (Request::Alloc(0, 0), Err(Refusal::NeedChunk)),
+        (Request::Claim(0, 0), Ok(Reply::Chunk(0))),
+        (Request::Claim(0, 15), Ok(Reply::Chunk(1))),
+        (Request::Alloc(0, 0), slot(0, 0)),
+        (Request::Alloc(0, 512), slot(1, 0)),
+        (Request::Alloc(0, 513), Err(Refusal::TooLarge)),
+    ];
+    ask_all(&rt, alloc, &mut floor, &rows);
+    assert_eq!(rt; floor.drawn_count(), 2);
+    assert_eq!(rt; floor.lent_count(), 2);
+}
+
+#[test]
+fn a_chunk_has_its_slots_and_no_more(rt: HostRuntime) {
+    let alloc = rt.alloc();
+    let Ok(mut region) = Vec::from_elem(alloc, 0u8, chunks(1)) else {
+        return;
+    };
+    let Some(mut floor) = floor_of(alloc, &mut region, 1) else {
+        return;
+    };
+    let rows = [
+        (Request::Adopt(0, 0), Ok(Reply::Done)),
+        (Request::Claim(0, 2), Ok(Reply::Chunk(0))),
+    ];
+    ask_all(&rt, alloc, &mut floor, &rows);
+    for index in 0..85u16 {
+        assert_eq!(rt;
+            ask(alloc, &mut floor, Request::Alloc(0, 48)),
+            slot(0, index)
+        );
+    }
+    assert_eq!(rt;
+        ask(alloc, &mut floor, Request::Alloc(0, 48)),
+        Err(Refusal::NeedChunk)
+    );
+    assert_eq!(rt; floor.lent_count(), 85);
+}
+
+#[test]
+fn refusals_come_in_their_order(rt: HostRuntime) {
+    let alloc = rt.alloc();
+    let Ok(mut region) = Vec::from_elem(alloc, 0u8, chunks(1)) else {
+        return;
+    };
+    let Some(mut floor) = floor_of(alloc, &mut region, 1) else {
+        return;
+    };
+    let rows = [
+        (Request::Claim(0, 16), Err(Refusal::Idle)),
+        (Request::Alloc(0, 513), Err(Refusal::Idle)),
+        (Request::Free(0, (0, 0)), Err(Refusal::Idle)),
+        (Request::Adopt(0, 0), Ok(Reply::Done)),
+        (Request::Adopt(0, 1), Err(Refusal::Held)),
+        (Request::Claim(0, 15), Ok(Reply::Chunk(0))),
+        (Request::Claim(0, 15), Err(Refusal::NotNeeded)),
+        (Request::Claim(0, 14), Err(Refusal::NoChunk)),
+        (Request::Claim(0, 16), Err(Refusal::BadClass)),
+        (Request::Claim(1, 0), Err(Refusal::NoDesk)),
+        (Request::Free(1, (0, 0)), Err(Refusal::NoDesk)),
+        (Request::Free(0, (0, 8)), Err(Refusal::NotLent)),
+        (Request::Free(0, (0, 256)), Err(Refusal::NotLent)),
+        (
+            Request::Free(0, (4_294_967_295, 4_294_967_295)),
+            Err(Refusal::NotLent),
+        ),
+    ];
+    ask_all(&rt, alloc, &mut floor, &rows);
+}
+
+#[test]
+fn the_last_freed_goes_first(rt: HostRuntime) {
+    let alloc = rt.alloc();
+    let Ok(mut region) = Vec::from_elem(alloc, 0u8, chunks(1)) else {
+        return;
+    };
+    let Some(mut floor) = floor_of(alloc, &mut region, 2) else {
+        return;
+    };
+    let rows = [
+        (Request::Adopt(1, 7), Ok(Reply::Done)),
+        (Request::Claim(1, 15), Ok(Reply::Chunk(0))),
+        (Request::Alloc(1, 449), slot(0, 0)),
+        (Request::Alloc(1, 512), slot(0, 1)),
+        (Request::Free(1, (0, 1)), Ok(Reply::Home)),
+        (Request::Free(1, (0, 1)), Err(Refusal::NotLent)),
+        (Request::Free(1, (0, 0)), Ok(Reply::Home)),
+        (Request::Alloc(1, 512), slot(0, 0)),
+        (Request::Alloc(1, 512), slot(0, 1)),
+        (Request::Alloc(1, 512), slot(0, 2)),
+    ];
+    ask_all(&rt, alloc, &mut floor, &rows);
+}
+
+// Frees the slots of a chunk from the first to the last, all with the same answer.
+fn free_all(
+    rt: &impl Abort,
+    alloc: Global,
+    floor: &mut Floor<'_>,
+    desk: u32,
+    count: u32,
+    due: Reply,
+) {
+    for index in 0..count {
+        assert_eq!(rt; ask(alloc, floor, Request::Free(desk, (0, index))), Ok(due));
+    }
+}
+
+#[test]
+fn a_cache_is_due_above_the_limit(rt: HostRuntime) {
+    let alloc = rt.alloc();
+    let Ok(mut region) = Vec::from_elem(alloc, 0u8, chunks(2)) else {
+        return;
+    };
+    let Some(mut floor) = floor_of(alloc, &mut region, 2) else {
+        return;
+    };
+    let rows = [
+        (Request::Adopt(0, 0), Ok(Reply::Done)),
+        (Request::Adopt(1, 1), Ok(Reply::Done)),
+        (Request::Claim(1, 15), Ok(Reply::Chunk(0))),
+    ];
+    ask_all(&rt, alloc, &mut floor, &rows);
+    for index in 0..8u16 {
+        assert_eq!(rt;
+            ask(alloc, &mut floor, Request::Alloc(1, 512)),
+            slot(0, index)
+        );
+    }
+    let rows = [
+        (Request::Claim(1, 15), Ok(Reply::Chunk(1))),
+        (Request::Alloc(1, 512), slot(1, 0)),
+    ];
+    ask_all(&rt, alloc, &mut floor, &rows);
+    free_all(&rt, alloc, &mut floor, 0, 8, Reply::Cached);
+    assert_eq!(rt;
+        ask(alloc, &mut floor, Request::Free(0, (1, 0))),
+        Ok(Reply::Due)
+    );
+    assert_eq!(rt; floor.lent_count(), 0);
+}
+
+#[test]
+fn counts_and_classes(rt: HostRuntime) {
+    let alloc = rt.alloc();
+    let Ok(mut region) = Vec::from_elem(alloc, 0u8, chunks(1)) else {
+        return;
+    };
+    let Ok(parts) = cut(alloc, &mut region) else {
+        return;
+    };
+    let Some(digits) = Digits::new(1) else {
+        return;
+    };
+    let Ok(mut floor) = Floor::new(alloc, parts, 2, digits, 4096) else {
+        return;
+    };
+    assert!(rt; floor.class_of(0).is_none());
+    assert_eq!(rt; floor.limit(), 4096);
+    assert!(rt; floor.digits() == digits);
+    let adopted = floor.apply(alloc, Request::Adopt(1, 3));
+    assert_eq!(rt; adopted, Ok(Reply::Done));
+    let drawn = floor.apply(alloc, Request::Claim(1, 2));
+    assert_eq!(rt; drawn, Ok(Reply::Chunk(0)));
+    assert_eq!(rt; floor.counts(0), (0, 0, 0));
+    assert_eq!(rt; floor.counts(1), (85, 0, 0));
+    assert_eq!(rt; floor.class_of(0).map_or(99, |class| class.number()), 2);
+    assert!(rt; floor.class_of(1).is_none());
+}

@@ -1,0 +1,62 @@
+//! The profile of 4,096 desks and 20 classes. In digits of 6 bits desks 65 and 129 are 1,1 and 1,2.
+use super::{plays, plays_pool, slot};
+use crate::{Refusal, Reply, Request};
+use digit_route::Digits;
+
+#[test]
+fn numbers_of_twelve_bits(rt: HostRuntime) {
+    let rows = [
+        (Request::Adopt(0, 0), Ok(Reply::Done)),
+        (Request::Adopt(65, 1), Ok(Reply::Done)),
+        (Request::Adopt(129, 2), Ok(Reply::Done)),
+        (Request::Claim(65, 19), Ok(Reply::Chunk(0))),
+        (Request::Claim(129, 16), Ok(Reply::Chunk(1))),
+        (Request::Alloc(65, 1024), slot(0, 0)),
+        (Request::Alloc(129, 513), slot(1, 0)),
+        (Request::Free(0, (0, 0)), Ok(Reply::Cached)),
+        (Request::Free(0, (1, 0)), Ok(Reply::Cached)),
+        (Request::Send(0, 65), Ok(Reply::Batch(1, 2))),
+        (Request::Link(1), Ok(Reply::Done)),
+        (Request::Take(65), Ok(Reply::Counts(1, 1))),
+        (Request::Send(65, 129), Ok(Reply::Batch(2, 1))),
+        (Request::Link(2), Ok(Reply::Done)),
+        (Request::Take(129), Ok(Reply::Counts(1, 0))),
+    ];
+    let due = [(65, 4, 0, 0), (129, 6, 0, 0)];
+    let Some(digits) = Digits::new2(6) else {
+        assert!(rt; false, "no digits of 6 bits");
+        return;
+    };
+    plays(&rt, rt.alloc(), 4096, 8, digits, &rows, &due);
+}
+
+#[test]
+fn four_more_classes(rt: HostRuntime) {
+    let rows = [
+        (Request::Adopt(0, 0), Ok(Reply::Done)),
+        (Request::Claim(0, 17), Ok(Reply::Chunk(0))),
+        (Request::Claim(0, 18), Ok(Reply::Chunk(1))),
+        (Request::Claim(0, 20), Err(Refusal::BadClass)),
+        (Request::Alloc(0, 1024), Err(Refusal::NeedChunk)),
+        (Request::Alloc(0, 768), slot(0, 0)),
+        (Request::Alloc(0, 897), Err(Refusal::NeedChunk)),
+        (Request::Alloc(0, 1025), Err(Refusal::TooLarge)),
+    ];
+    let due = [(0, 8, 0, 0)];
+    let Some(digits) = Digits::new2(2) else {
+        assert!(rt; false, "no digits of 2 bits");
+        return;
+    };
+    plays(&rt, rt.alloc(), 1, 5, digits, &rows, &due);
+}
+
+#[test]
+fn they_are_none_of_the_smaller_profile(rt: HostRuntime) {
+    let rows = [
+        (Request::Adopt(0, 0), Ok(Reply::Done)),
+        (Request::Claim(0, 16), Err(Refusal::BadClass)),
+        (Request::Alloc(0, 513), Err(Refusal::TooLarge)),
+    ];
+    let due = [];
+    plays_pool(&rt, rt.alloc(), 1, 1, 2, &rows, &due);
+}

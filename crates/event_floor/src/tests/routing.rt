@@ -1,0 +1,171 @@
+//! Which way batches go. Desks 0, 7, 11 and 27 are read in digits of 2 bits as 0,0,0, 3,1,0, 3,2,0 and 3,2,1, the least digit
+//! first; in digits of 4 bits desks 17 and 33 are 1,1 and 1,2.
+use super::{Row, chunks, closes, floor_of, plays_pool, slot};
+use crate::{Refusal, Reply, Request};
+use std::alloc::Global;
+use std::process::Abort;
+
+#[test]
+fn a_buffer_is_passed_on_digit_by_digit(rt: HostRuntime) {
+    let rows = [
+        (Request::Adopt(0, 0), Ok(Reply::Done)),
+        (Request::Adopt(7, 1), Ok(Reply::Done)),
+        (Request::Adopt(11, 2), Ok(Reply::Done)),
+        (Request::Adopt(27, 3), Ok(Reply::Done)),
+        (Request::Claim(7, 15), Ok(Reply::Chunk(0))),
+        (Request::Claim(11, 15), Ok(Reply::Chunk(1))),
+        (Request::Claim(27, 15), Ok(Reply::Chunk(2))),
+        (Request::Alloc(7, 512), slot(0, 0)),
+        (Request::Alloc(11, 512), slot(1, 0)),
+        (Request::Alloc(27, 512), slot(2, 0)),
+        (Request::Free(0, (0, 0)), Ok(Reply::Cached)),
+        (Request::Free(0, (1, 0)), Ok(Reply::Cached)),
+        (Request::Free(0, (2, 0)), Ok(Reply::Cached)),
+        (Request::Send(0, 7), Ok(Reply::Batch(1, 3))),
+        (Request::Link(1), Ok(Reply::Done)),
+        (Request::Take(7), Ok(Reply::Counts(1, 2))),
+        (Request::Send(7, 11), Ok(Reply::Batch(2, 2))),
+        (Request::Link(2), Ok(Reply::Done)),
+        (Request::Take(11), Ok(Reply::Counts(1, 1))),
+        (Request::Send(11, 27), Ok(Reply::Batch(3, 1))),
+        (Request::Link(3), Ok(Reply::Done)),
+        (Request::Take(27), Ok(Reply::Counts(1, 0))),
+    ];
+    let due = [(7, 8, 0, 0), (11, 8, 0, 0), (27, 8, 0, 0)];
+    plays_pool(&rt, rt.alloc(), 64, 8, 2, &rows, &due);
+}
+
+#[test]
+fn with_one_digit_nothing_is_passed_on(rt: HostRuntime) {
+    let rows = [
+        (Request::Adopt(0, 0), Ok(Reply::Done)),
+        (Request::Adopt(7, 1), Ok(Reply::Done)),
+        (Request::Adopt(11, 2), Ok(Reply::Done)),
+        (Request::Adopt(27, 3), Ok(Reply::Done)),
+        (Request::Claim(7, 15), Ok(Reply::Chunk(0))),
+        (Request::Claim(11, 15), Ok(Reply::Chunk(1))),
+        (Request::Claim(27, 15), Ok(Reply::Chunk(2))),
+        (Request::Alloc(7, 512), slot(0, 0)),
+        (Request::Alloc(11, 512), slot(1, 0)),
+        (Request::Alloc(27, 512), slot(2, 0)),
+        (Request::Free(0, (0, 0)), Ok(Reply::Cached)),
+        (Request::Free(0, (1, 0)), Ok(Reply::Cached)),
+        (Request::Free(0, (2, 0)), Ok(Reply::Cached)),
+        (Request::Send(0, 7), Ok(Reply::Batch(1, 1))),
+        (Request::Link(1), Ok(Reply::Done)),
+        (Request::Take(7), Ok(Reply::Counts(1, 0))),
+        (Request::Send(0, 11), Ok(Reply::Batch(2, 1))),
+        (Request::Link(2), Ok(Reply::Done)),
+        (Request::Take(11), Ok(Reply::Counts(1, 0))),
+        (Request::Send(0, 27), Ok(Reply::Batch(3, 1))),
+        (Request::Link(3), Ok(Reply::Done)),
+        (Request::Take(27), Ok(Reply::Counts(1, 0))),
+    ];
+    let due = [(7, 8, 0, 0), (11, 8, 0, 0), (27, 8, 0, 0)];
+    plays_pool(&rt, rt.alloc(), 64, 8, 6, &rows, &due);
+}
+
+#[test]
+fn two_digits_of_four_bits(rt: HostRuntime) {
+    let rows = [
+        (Request::Adopt(0, 0), Ok(Reply::Done)),
+        (Request::Adopt(17, 1), Ok(Reply::Done)),
+        (Request::Adopt(33, 2), Ok(Reply::Done)),
+        (Request::Claim(17, 0), Ok(Reply::Chunk(0))),
+        (Request::Claim(33, 0), Ok(Reply::Chunk(1))),
+        (Request::Alloc(17, 1), slot(0, 0)),
+        (Request::Alloc(33, 1), slot(1, 0)),
+        (Request::Free(0, (0, 0)), Ok(Reply::Cached)),
+        (Request::Free(0, (1, 0)), Ok(Reply::Cached)),
+        (Request::Send(0, 17), Ok(Reply::Batch(1, 2))),
+        (Request::Link(1), Ok(Reply::Done)),
+        (Request::Take(17), Ok(Reply::Counts(1, 1))),
+        (Request::Send(17, 33), Ok(Reply::Batch(2, 1))),
+        (Request::Link(2), Ok(Reply::Done)),
+        (Request::Take(33), Ok(Reply::Counts(1, 0))),
+    ];
+    let due = [(17, 256, 0, 0), (33, 256, 0, 0)];
+    plays_pool(&rt, rt.alloc(), 64, 8, 4, &rows, &due);
+}
+
+#[test]
+fn sends_are_refused_in_their_order(rt: HostRuntime) {
+    let rows = [
+        (Request::Adopt(0, 0), Ok(Reply::Done)),
+        (Request::Adopt(27, 1), Ok(Reply::Done)),
+        (Request::Claim(27, 15), Ok(Reply::Chunk(0))),
+        (Request::Alloc(27, 500), slot(0, 0)),
+        (Request::Free(0, (0, 0)), Ok(Reply::Cached)),
+        (Request::Send(0, 3), Err(Refusal::NotAnOwner)),
+        (Request::Send(0, 2), Err(Refusal::NothingFor)),
+        (Request::Send(0, 0), Err(Refusal::ToSelf)),
+        (Request::Send(0, 64), Err(Refusal::NoDesk)),
+        (Request::Send(3, 0), Err(Refusal::Idle)),
+    ];
+    let due = [(0, 0, 1, 0), (27, 7, 0, 0)];
+    plays_pool(&rt, rt.alloc(), 64, 8, 2, &rows, &due);
+}
+
+// The same as one list of requests: the answers are those of the requests one by one.
+#[test]
+fn a_run_gives_the_answers_of_its_requests(rt: HostRuntime) {
+    let rows = [
+        (Request::Adopt(0, 0), Ok(Reply::Done)),
+        (Request::Adopt(7, 1), Ok(Reply::Done)),
+        (Request::Adopt(11, 2), Ok(Reply::Done)),
+        (Request::Adopt(27, 3), Ok(Reply::Done)),
+        (Request::Claim(7, 15), Ok(Reply::Chunk(0))),
+        (Request::Claim(11, 15), Ok(Reply::Chunk(1))),
+        (Request::Claim(27, 15), Ok(Reply::Chunk(2))),
+        (Request::Alloc(7, 512), slot(0, 0)),
+        (Request::Alloc(11, 512), slot(1, 0)),
+        (Request::Alloc(27, 512), slot(2, 0)),
+        (Request::Free(0, (0, 0)), Ok(Reply::Cached)),
+        (Request::Free(0, (1, 0)), Ok(Reply::Cached)),
+        (Request::Free(0, (2, 0)), Ok(Reply::Cached)),
+        (Request::Send(0, 7), Ok(Reply::Batch(1, 3))),
+        (Request::Link(1), Ok(Reply::Done)),
+        (Request::Take(7), Ok(Reply::Counts(1, 2))),
+        (Request::Send(7, 11), Ok(Reply::Batch(2, 2))),
+        (Request::Link(2), Ok(Reply::Done)),
+        (Request::Take(11), Ok(Reply::Counts(1, 1))),
+        (Request::Send(11, 27), Ok(Reply::Batch(3, 1))),
+        (Request::Link(3), Ok(Reply::Done)),
+        (Request::Take(27), Ok(Reply::Counts(1, 0))),
+    ];
+    runs(&rt, rt.alloc(), &rows);
+}
+
+fn runs(rt: &impl Abort, alloc: Global, rows: &[Row]) {
+    let Ok(mut region) = Vec::from_elem(alloc, 0u8, chunks(8)) else {
+        return;
+    };
+    let Some(mut floor) = floor_of(alloc, &mut region, 64) else {
+        return;
+    };
+    let mut requests = Vec::new(alloc);
+    for row in rows {
+        if requests.push(row.0).is_err() {
+            return;
+        }
+    }
+    let Ok(answers) = floor.run(alloc, &requests) else {
+        closes(rt, &floor, 64, &[]);
+        return;
+    };
+    assert_eq!(rt; answers.len(), rows.len());
+    for (i, row) in rows.iter().enumerate() {
+        let answer = answers.get(i).copied();
+        // where memory was refused, the answers that follow are those of another run
+        if answer == Some(Err(Refusal::NoMemory)) {
+            return;
+        }
+        assert_eq!(rt; answer, Some(row.1), "at row {i}");
+    }
+    closes(
+        rt,
+        &floor,
+        64,
+        &[(7, 8, 0, 0), (11, 8, 0, 0), (27, 8, 0, 0)],
+    );
+}
