@@ -1,7 +1,6 @@
 //! From the header on.
 ghost use Rattle.std.specs.Prelude.{◌≡◌, ◌≤◌, ◌*◌, ◌↔◌, length, false, IfOk, IfErr, IfSome, IsSome};
 ghost use Rattle.std.specs.Io.KnownBytes.{Appends};
-ghost use Rattle.event_floor.specs.Floors.{desk_count};
 ghost use Rattle.trace_audit.specs.Machine.{Opens, digits_of};
 ghost use Rattle.trace_audit.specs.Grammar.{IsHeader};
 ghost use Rattle.trace_audit.specs.Replay.{Failures, Fails, Reports, ReportsTrace};
@@ -49,8 +48,7 @@ fn floor_over<'r>(
 ) -> Result<Floor<'r>, NoMemory>
     requires header { IsHeader header }
     requires region { length region.old ≡ header.chunks * 4096 }
-    ensures opens { IfOk result (λ floor. Opens header floor) }
-    ensures desks { IfOk result (λ floor. desk_count floor ≡ header.desks) }
+    ensures { IfOk result (λ floor. Opens header floor) }
 {
     let Some(digits) = digits_of(header) else {
         unreachable!()
@@ -83,7 +81,7 @@ fn on_floor<R: Source, W: Sink>(
             match floor_over(alloc, region.as_mut_slice(), header) {
                 Ok(made) => {
                     let mut floor = made;
-                    drive(alloc, &mut floor, header.desks, held, reader, writer)
+                    drive(alloc, &mut floor, held, reader, writer)
                 }
                 Err(_) => only(writer, b"R15 NoMemory\n", End::NoRoom),
             }

@@ -54,10 +54,10 @@ fn counts_of(floor: &Floor<'_>, desk: u32) -> Counts
 }
 
 /// The sum over all desks.
-fn total(floor: &Floor<'_>, desks: u32) -> Counts
-    requires { desks ≡ desk_count floor.now }
+fn total(floor: &Floor<'_>) -> Counts
     ensures { result ≡ total (told floor.now).desks }
 {
+    let desks = floor.desk_count();
     let mut sum = Counts::default();
     for desk in 0..desks {
         sum = sum.plus(counts_of(floor, desk));
@@ -79,8 +79,7 @@ fn line_of_desk(desk: u32, counts: Counts) -> Line
 }
 
 /// The last line.
-fn line_of_end(floor: &Floor<'_>, desks: u32) -> Line
-    requires { desks ≡ desk_count floor.now }
+fn line_of_end(floor: &Floor<'_>) -> Line
     ensures { result.items ≡ end_line (told floor.now) }
 {
     let mut line = Line::new();
@@ -88,7 +87,7 @@ fn line_of_end(floor: &Floor<'_>, desks: u32) -> Line
     push_number(&mut line, floor.drawn_count());
     push_text(&mut line, b" lent ");
     push_number(&mut line, floor.lent_count());
-    push_counts(&mut line, total(floor, desks));
+    push_counts(&mut line, total(floor));
     line
 }
 
@@ -106,13 +105,12 @@ fn push_counts(line: &mut Line, counts: Counts)
     push_text(line, b"\n");
 }
 
-/// Writes the closing lines of a floor of so many desks. Takes no memory, and time in the number of
-/// the floor's slots.
-pub fn close<W: Sink>(floor: &Floor<'_>, desks: u32, writer: &mut W) -> Result<(), Failed>
-    requires desks { desks ≡ desk_count floor.now }
-    requires down { W.has_failed writer.old ≡ false }
+/// Writes the closing lines. Takes no memory, and time in the number of the floor's slots.
+pub fn close<W: Sink>(floor: &Floor<'_>, writer: &mut W) -> Result<(), Failed>
+    requires { W.has_failed writer.old ≡ false }
     ensures { Writes (W.contents writer.old) (W.contents writer.new) (W.has_failed writer.new) (closing (told floor.now)) result }
 {
+    let desks = floor.desk_count();
     for desk in 0..desks {
         let line = line_of_desk(desk, counts_of(floor, desk));
         match write_all(writer, line.as_slice()) {
@@ -120,6 +118,6 @@ pub fn close<W: Sink>(floor: &Floor<'_>, desks: u32, writer: &mut W) -> Result<(
             Err(failed) => return Err(failed),
         }
     }
-    let line = line_of_end(floor, desks);
+    let line = line_of_end(floor);
     write_all(writer, line.as_slice())
 }

@@ -80,6 +80,47 @@ fn a_read_fails(rt: HostRuntime) -> Result<(), Fail> {
     Ok(())
 }
 
+/// Whether the bytes are the report of `TRACE`.
+fn is_report(bytes: &[u8]) -> bool {
+    let mut rest = bytes;
+    for line in REPORT {
+        match rest.strip_prefix(line) {
+            Some(more) => rest = more,
+            None => return false,
+        }
+    }
+    rest.is_empty()
+}
+
+/// Whether the replay says that a growth was refused: its own, or one of the test's writer.
+fn is_refused(end: Result<End, ReplayError>, bytes: &[u8]) -> bool {
+    match end {
+        Ok(End::NoRoom) => bytes == b"R15 NoMemory\n".as_slice(),
+        Ok(End::Whole) => bytes.windows(13).any(|w| w == b"R15 NoMemory\n".as_slice()),
+        Ok(End::BadLine(_)) => false,
+        Err(error) => error == ReplayError::Write,
+    }
+}
+
+/// Whichever one growth is refused, of two replays one has the whole report, and the other too, or
+/// it says so.
+#[test]
+fn a_growth_is_refused(rt: HostRuntime) {
+    let (first, one) = replayed(rt.alloc(), TRACE);
+    let (second, two) = replayed(rt.alloc(), TRACE);
+    let first_whole = first == Ok(End::Whole) && is_report(one.as_slice());
+    let second_whole = second == Ok(End::Whole) && is_report(two.as_slice());
+    assert!(rt; first_whole || second_whole);
+    assert!(rt;
+        first_whole || is_refused(first, one.as_slice()),
+        "{first:?}: {one:?}"
+    );
+    assert!(rt;
+        second_whole || is_refused(second, two.as_slice()),
+        "{second:?}: {two:?}"
+    );
+}
+
 /// Cut off behind each byte: within a line that line is bad, and else the report is that of the
 /// lines which are whole.
 #[test]

@@ -4,18 +4,18 @@ use Rattle.trace_audit.proofs.report.closing.close.Goals as goal
 
 pub returns-in-Err : goal.returns-in-Err
 returns-in-Err g c = (
-  told_cut _ _ _ c.args.floor.now c.loop-desk.desk c.args.desks _ _ c.requires.desks c.loop-desk-test.true c.counts_of.ensures
+  told_cut _ _ _ c.args.floor.now c.loop-desk.desk c.desk_count-desks.result _ _ c.desk_count-desks.ensures c.loop-desk-test.true c.counts_of.ensures
       (c.as_slice.ensures.value ∙ c.line_of_desk-line.ensures) c.loop-desk.invariant.0 c.in-Err.ensures.0,
   c.in-Err.ensures.1,
 )
 
 pub loop-desk-preserved : goal.loop-desk-preserved
 loop-desk-preserved g c = (
-  told_more _ _ _ c.args.floor.now c.loop-desk.desk c.args.desks _ _ c.requires.desks c.loop-desk-test.true c.counts_of.ensures
+  told_more _ _ _ c.args.floor.now c.loop-desk.desk c.desk_count-desks.result _ _ c.desk_count-desks.ensures c.loop-desk-test.true c.counts_of.ensures
       (c.as_slice.ensures.value ∙ c.line_of_desk-line.ensures) c.loop-desk.invariant.0 c.in-Ok.ensures.0,
   c.in-Ok.ensures.1,
 )
 
 pub returns : goal.returns
-returns g c = told_closed _ _ _ _ c.args.floor.now c.loop-desk.desk c.args.desks _ c.write_all-2.result c.requires.desks c.loop-desk-test.false
+returns g c = told_closed _ _ _ _ c.args.floor.now c.loop-desk.desk c.desk_count-desks.result _ c.write_all-2.result c.desk_count-desks.ensures c.loop-desk-test.false
     (c.as_slice-2.ensures.value ∙ c.line_of_end-line.ensures) c.loop-desk.invariant.0 c.write_all-2.ensures
