@@ -1,12 +1,19 @@
 -- The closing lines.
-use Rattle.std.proofs.Common.{◌≡◌, ℕ, suc, ◌+◌, ◌<◌, ◌≤◌, List, [], ◌∷◌, ◌++◌, length, take, drop, get_or, Option, Bool, Result, Ok, Err, sym, ◌∙◌, ap, subst, arith, append_assoc, append-nil, add-one, length-take-le, take_all}
+use Rattle.std.proofs.Common.{refl, ◌≡◌, ℕ, suc, ◌+◌, ◌<◌, ◌≤◌, List, [], ◌∷◌, ◌++◌, length, take, drop, get_or, Option, Bool, Result, Ok, Err, sym, ◌∙◌, ap, subst, arith, append_assoc, append-nil, add-one, length-take-le, take_all}
 use Rattle.std.proofs.Math.Seq.{split_at, take-suc}
+use Rattle.std.specs.Prelude.{sum_by}
+use Rattle.std.specs.List.{range_with_len}
+use Rattle.std.proofs.lemmas.List.{length-map}
+use Rattle.std.proofs.lemmas.List.Sums.{sum_by-append}
+use Rattle.std.proofs.lemmas.List.FromFn.{length-range_with_len, get_or-map-range_with_len}
+use Rattle.slot_chain.specs.Counts.{capped}
+use Rattle.event_floor.specs.Floors.{FloorSeen, desk_count}
 use Rattle.std.specs.Io.KnownBytes.{Appends}
 use Rattle.std.proofs.KnownBytes.{Appends-trans}
-use Rattle.trace_audit.specs.Report.{closing, desk_line, desk_lines, end_line}
+use Rattle.trace_audit.specs.Machine.{Tally, counts_at, told}
+use Rattle.trace_audit.specs.Report.{closing, desk_line, desk_lines, end_line, plus, total}
 use Rattle.trace_audit.specs.Wire.{Begins, Writes}
 use Rattle.trace_audit.specs.declared.report.closing.Counts.{Counts}
-use Rattle.trace_audit.specs.declared.report.closing.Tally.{Tally}
 
 desk_lines-append : (a : ℕ) (xs ys : List Counts) → desk_lines a (xs ++ ys) ≡ desk_lines a xs ++ desk_lines (a + length xs) ys
 desk_lines-append a [] ys = let e : a ≡ a + 0 = omega arith in ap (λ n. desk_lines n ys) e
@@ -25,7 +32,7 @@ lines_more xs i d low =
     ∙ ap (λ l. desk_lines 0 (take i xs) ++ l) (append-nil (desk_line i (get_or xs i d)))
 
 -- the writer gave up within the line of desk i
-pub close_cut : (old mid new : Option (List ℕ)) (t : Tally) (xs : List Counts) (i : ℕ) (d : Counts) (text : List ℕ) → xs ≡ t.desks.items → i < length xs → text ≡ desk_line i (get_or xs i d)
+pub close_cut : (old mid new : Option (List ℕ)) (t : Tally) (xs : List Counts) (i : ℕ) (d : Counts) (text : List ℕ) → xs ≡ t.desks → i < length xs → text ≡ desk_line i (get_or xs i d)
     → Appends old mid (desk_lines 0 (take i xs)) → Begins mid new text → Begins old new (closing t)
 close_cut old mid new t xs i d text same low is before (front, back, cut, wrote) =
     let behind : List ℕ = desk_lines (suc i) (drop (suc i) xs) ++ end_line t in
@@ -42,11 +49,11 @@ writes_behind old mid new failed x y (Err e) h ((front, back, cut, wrote), up) =
     ((x ++ front, back, ap (λ w. x ++ w) cut ∙ sym (append_assoc x front back), Appends-trans old mid new x front h wrote), up)
 
 -- the last line was written, or a beginning of it
-pub closed : {E : Type 0} → (old mid new : Option (List ℕ)) (failed : Bool) (t : Tally) (xs : List Counts) (i : ℕ) (text : List ℕ) (r : Result (Unit {0}) E) → xs ≡ t.desks.items → length xs ≤ i → text ≡ end_line t
+pub closed : {E : Type 0} → (old mid new : Option (List ℕ)) (failed : Bool) (t : Tally) (xs : List Counts) (i : ℕ) (text : List ℕ) (r : Result (Unit {0}) E) → xs ≡ t.desks → length xs ≤ i → text ≡ end_line t
     → Appends old mid (desk_lines 0 (take i xs)) → Writes mid new failed text r → Writes old new failed (closing t) r
 closed old mid new failed t xs i text r same all is before after =
-    let whole : take i xs ≡ t.desks.items = take_all i xs all ∙ same in
-    writes_behind old mid new failed (desk_lines 0 t.desks.items) (end_line t) r
+    let whole : take i xs ≡ t.desks = take_all i xs all ∙ same in
+    writes_behind old mid new failed (desk_lines 0 t.desks) (end_line t) r
     (subst (λ (l : List Counts). Appends old mid (desk_lines 0 l)) whole before) (subst (λ (w : List ℕ). Writes mid new failed w r) is after)
 
 -- the line of desk i was written
@@ -54,3 +61,58 @@ pub close_more : (old mid new : Option (List ℕ)) (xs : List Counts) (i : ℕ) 
     → Appends old mid (desk_lines 0 (take i xs)) → Appends mid new text → Appends old new (desk_lines 0 (take (i + 1) xs))
 close_more old mid new xs i d text low is before after =
     subst (λ (w : List ℕ). Appends old new w) (ap (λ w. desk_lines 0 (take i xs) ++ w) is ∙ sym (lines_more xs i d low)) (Appends-trans old mid new (desk_lines 0 (take i xs)) text before after)
+
+-- what is told of the desks
+
+nothing : Counts
+nothing = record { home = 0; cached = 0; queued = 0 }
+
+pub length-told : (v : FloorSeen) → length (told v).desks ≡ desk_count v
+length-told v = length-map (range_with_len 0 (desk_count v)) (counts_at v) ∙ length-range_with_len 0 (desk_count v)
+
+told_at : (v : FloorSeen) (i : ℕ) (d : Counts) → i < desk_count v → get_or (told v).desks i d ≡ counts_at v i
+told_at v i d low = get_or-map-range_with_len (counts_at v) 0 (desk_count v) i i d low (omega arith)
+
+-- the line of a desk, from its counts
+told_line : (v : FloorSeen) (i : ℕ) (c : Counts) (text : List ℕ) → i < desk_count v → c ≡ counts_at v i → text ≡ desk_line i c → text ≡ desk_line i (get_or (told v).desks i nothing)
+told_line v i c text low is line = line ∙ ap (desk_line i) (is ∙ sym (told_at v i nothing low))
+
+pub told_cut : (old mid new : Option (List ℕ)) (v : FloorSeen) (i n : ℕ) (c : Counts) (text : List ℕ) → n ≡ desk_count v → i < n → c ≡ counts_at v i → text ≡ desk_line i c
+    → Appends old mid (desk_lines 0 (take i (told v).desks)) → Begins mid new text → Begins old new (closing (told v))
+told_cut old mid new v i n c text count low is line before after =
+    close_cut old mid new (told v) (told v).desks i nothing text refl (omega (arith, length-told v)) (told_line v i c text (omega arith) is line) before after
+
+pub told_more : (old mid new : Option (List ℕ)) (v : FloorSeen) (i n : ℕ) (c : Counts) (text : List ℕ) → n ≡ desk_count v → i < n → c ≡ counts_at v i → text ≡ desk_line i c
+    → Appends old mid (desk_lines 0 (take i (told v).desks)) → Appends mid new text → Appends old new (desk_lines 0 (take (i + 1) (told v).desks))
+told_more old mid new v i n c text count low is line before after =
+    close_more old mid new (told v).desks i nothing text (omega (arith, length-told v)) (told_line v i c text (omega arith) is line) before after
+
+pub told_closed : {E : Type 0} → (old mid new : Option (List ℕ)) (failed : Bool) (v : FloorSeen) (i n : ℕ) (text : List ℕ) (r : Result (Unit {0}) E) → n ≡ desk_count v → n ≤ i → text ≡ end_line (told v)
+    → Appends old mid (desk_lines 0 (take i (told v).desks)) → Writes mid new failed text r → Writes old new failed (closing (told v)) r
+told_closed old mid new failed v i n text r count all line before after =
+    closed old mid new failed (told v) (told v).desks i text r refl (omega (arith, length-told v)) line before after
+
+-- the sums
+
+capped_more : (a b : ℕ) → capped (capped a + b) ≡ capped (a + b)
+capped_more a b = grind arith
+
+sum_by_push : (f : Counts → ℕ) (xs : List Counts) (x : Counts) → sum_by f (xs ++ x ∷ []) ≡ sum_by f xs + f x
+sum_by_push f xs x = let e : sum_by f (x ∷ []) ≡ f x = omega arith in sum_by-append f xs (x ∷ []) ∙ ap (λ n. sum_by f xs + n) e
+
+sum_more : (f : Counts → ℕ) (xs : List Counts) (i : ℕ) (d : Counts) → i < length xs → capped (capped (sum_by f (take i xs)) + f (get_or xs i d)) ≡ capped (sum_by f (take (i + 1) xs))
+sum_more f xs i d low = capped_more (sum_by f (take i xs)) (f (get_or xs i d)) ∙ ap capped (sym (ap (λ n. sum_by f (take n xs)) (add-one i) ∙ ap (sum_by f) (take-suc xs i d low) ∙ sum_by_push f (take i xs) (get_or xs i d)))
+
+total_more : (xs : List Counts) (i : ℕ) (d : Counts) → i < length xs → plus (total (take i xs)) (get_or xs i d) ≡ total (take (i + 1) xs)
+total_more xs i d low = λ z. record {
+  home = sum_more (λ c. c.home) xs i d low z;
+  cached = sum_more (λ c. c.cached) xs i d low z;
+  queued = sum_more (λ c. c.queued) xs i d low z;
+}
+
+pub told_total : (v : FloorSeen) (i n : ℕ) (sum c : Counts) → n ≡ desk_count v → i < n → sum ≡ total (take i (told v).desks) → c ≡ counts_at v i → plus sum c ≡ total (take (i + 1) (told v).desks)
+told_total v i n sum c count low so_far is =
+    rw (so_far, is ∙ sym (told_at v i nothing (omega arith))) (total_more (told v).desks i nothing (omega (arith, length-told v)))
+
+pub told_all : (v : FloorSeen) (i n : ℕ) (sum : Counts) → n ≡ desk_count v → n ≤ i → sum ≡ total (take i (told v).desks) → sum ≡ total (told v).desks
+told_all v i n sum count all so_far = so_far ∙ ap total (take_all i (told v).desks (omega (arith, length-told v)))

@@ -1,13 +1,15 @@
-use Rattle.std.proofs.Common.{◌≡◌, ℕ, zero, suc, ◌<◌, ◌==◌, List, [], ◌∷◌, ◌++◌, Option, Some, None, refl, sym, ◌∙◌, ap, subst, arith, Bool, true, false, cond, decimal, codes}
+use Rattle.std.proofs.Common.{length, ◌≤◌, ◌≡◌, ℕ, zero, suc, ◌<◌, ◌==◌, List, [], ◌∷◌, ◌++◌, Option, Some, None, refl, sym, ◌∙◌, ap, subst, arith, Bool, true, false, cond, decimal, codes}
 use Rattle.std.proofs.lemmas.Bool.Decides.{nat_tests}
-use Rattle.trace_audit.specs.Grammar.{IsWord, Lacks, pair, verb_text, verb_of, words_of, spelling, IsRequest, header_text, header_words, AreWords, IsHeader}
+use Rattle.trace_audit.specs.Grammar.{IsWord, Lacks, pair, verb_text, verb_of, words_of, spelling, IsRequest, profile_text, header_text, header_words, AreWords, IsHeader, desks_of}
+use Rattle.region_cut.specs.declared.profile.Profile.{Profile}
+use Rattle.region_cut.specs.declared.profile.Profile.TheVariants.{Pool, Pool2}
 use Rattle.trace_audit.specs.declared.grammar.header.Header.{Header}
 use Rattle.std.proofs.lemmas.Fmt.{decimal_injective}
 use Rattle.trace_audit.proofs.Numbers.{decimal_lacks}
 use Rattle.event_floor.specs.declared.request.Request.{Request}
-use Rattle.event_floor.specs.declared.request.Request.TheVariants.{Adopt, Claim, Alloc, Free}
+use Rattle.event_floor.specs.declared.request.Request.TheVariants.{Adopt, Retire, Claim, Alloc, Free, Send, Link, Take}
 use Rattle.trace_audit.specs.declared.grammar.request.Verb.{Verb}
-use Rattle.trace_audit.specs.declared.grammar.request.Verb.TheVariants.{Adopts, Claims, Allocs, Frees}
+use Rattle.trace_audit.specs.declared.grammar.request.Verb.TheVariants.{Adopts, Retires, Claims, Allocs, Frees, Sends, Links, Takes}
 
 abbrev pub lacks : ℕ → List ℕ → Bool
 lacks mark [] = true
@@ -44,10 +46,15 @@ verb_lacks Adopts = lacks_tested 32 (verb_text Adopts) refl
 verb_lacks Claims = lacks_tested 32 (verb_text Claims) refl
 verb_lacks Allocs = lacks_tested 32 (verb_text Allocs) refl
 verb_lacks Frees = lacks_tested 32 (verb_text Frees) refl
+verb_lacks Retires = lacks_tested 32 (verb_text Retires) refl
+verb_lacks Sends = lacks_tested 32 (verb_text Sends) refl
+verb_lacks Links = lacks_tested 32 (verb_text Links) refl
+verb_lacks Takes = lacks_tested 32 (verb_text Takes) refl
 
 -- the verb, by its first two letters
 abbrev pub verb_at : ℕ → ℕ → Option Verb
-verb_at x y = cond (x == 97) (cond (y == 100) (Some Adopts) (Some Allocs)) (cond (x == 99) (Some Claims) (Some Frees))
+verb_at x y = cond (x == 97) (cond (y == 100) (Some Adopts) (Some Allocs)) (cond (x == 99) (Some Claims) (cond (x == 102) (Some Frees)
+    (cond (x == 114) (Some Retires) (cond (x == 115) (Some Sends) (cond (x == 108) (Some Links) (Some Takes))))))
 
 abbrev pub verb_from : List ℕ → Option Verb
 verb_from [] = None
@@ -59,6 +66,10 @@ verb_again Adopts = refl
 verb_again Claims = refl
 verb_again Allocs = refl
 verb_again Frees = refl
+verb_again Retires = refl
+verb_again Sends = refl
+verb_again Links = refl
+verb_again Takes = refl
 
 pub same_verb : (v w : Verb) → verb_text v ≡ verb_text w → v ≡ w
 same_verb v w e = let both : Some v ≡ Some w = sym (verb_again v) ∙ ap verb_from e ∙ verb_again w in cc
@@ -81,12 +92,20 @@ HasWords Adopts w = HasTwo 32 w
 HasWords Claims w = HasTwo 32 w
 HasWords Allocs w = HasTwo 32 w
 HasWords Frees w = HasThree w
+HasWords Retires w = HasOne w
+HasWords Sends w = HasTwo 32 w
+HasWords Links w = HasOne w
+HasWords Takes w = HasOne w
 
 words_fit : (r : Request) → IsRequest r → HasWords (verb_of r) (words_of r)
 words_fit (Adopt a b) h = (a, b, h.0, h.1, refl)
 words_fit (Claim a b) h = (a, b, h.0, h.1, refl)
 words_fit (Alloc a b) h = (a, b, h.0, h.1, refl)
 words_fit (Free a s) h = (a, pair 46 s.0 s.1, h.0, (s.0, s.1, h.1, h.2, refl), refl)
+words_fit (Retire a) h = (a, h, refl)
+words_fit (Send a b) h = (a, b, h.0, h.1, refl)
+words_fit (Link a) h = (a, h, refl)
+words_fit (Take a) h = (a, h, refl)
 
 -- a line that spells a request has good words behind its verb
 pub line_has : (line word rest : List ℕ) (v : Verb) → line ≡ word ++ 32 ∷ rest → Lacks 32 word → word ≡ verb_text v → (r : Request) → IsRequest r → line ≡ spelling r → HasWords v rest
@@ -115,17 +134,31 @@ same_header h k fh fk e =
       decimal_injective h.width k.width (omega (arith, fh.2)) (omega (arith, fk.2)) inner.1,
     )
 
-pub header_words_fit : (h : Header) → IsHeader h → AreWords h
-header_words_fit h r = (omega (arith, r.few_desks), omega (arith, r.few_chunks), omega (arith, r.small_width))
+few_desks : (p : Profile) (n : ℕ) → n ≤ desks_of p → IsWord n
+few_desks Pool n h = omega (arith, h)
+few_desks Pool2 n h = omega (arith, h)
 
-pub in_range_again : (h k : Header) → (h.desks ≡ k.desks) × (h.chunks ≡ k.chunks) × (h.width ≡ k.width) → IsHeader k → IsHeader h
-in_range_again h k e r = record {
+pub header_words_fit : (h : Header) → IsHeader h → AreWords h
+header_words_fit h r = (few_desks h.profile h.desks r.few_desks, omega (arith, r.few_chunks), omega (arith, r.small_width))
+
+pub in_range_again : (h k : Header) → h.profile ≡ k.profile → (h.desks ≡ k.desks) × (h.chunks ≡ k.chunks) × (h.width ≡ k.width) → IsHeader k → IsHeader h
+in_range_again h k same e r = record {
   some_desk = omega (arith, e.0, r.some_desk);
-  few_desks = omega (arith, e.0, r.few_desks);
+  few_desks = rw (same, e.0) r.few_desks;
   few_chunks = omega (arith, e.1, r.few_chunks);
   some_width = omega (arith, e.2, r.some_width);
   small_width = omega (arith, e.2, r.small_width);
 }
 
-pub header_line_cut : (line word rest : List ℕ) (h : Header) → line ≡ word ++ 32 ∷ rest → Lacks 32 word → line ≡ header_text h → (word ≡ codes "pool") × (rest ≡ header_words h)
-header_line_cut line word rest h e lacks is = cut_once 32 word rest (codes "pool") (header_words h) lacks (lacks_tested 32 (codes "pool") refl) (sym e ∙ is)
+pub profile_lacks : (p : Profile) → Lacks 32 (profile_text p)
+profile_lacks Pool = lacks_tested 32 (profile_text Pool) refl
+profile_lacks Pool2 = lacks_tested 32 (profile_text Pool2) refl
+
+pub same_profile : (p q : Profile) → profile_text p ≡ profile_text q → p ≡ q
+same_profile Pool Pool e = refl
+same_profile Pool Pool2 e = absurd (let l = ap length e in omega (arith, l))
+same_profile Pool2 Pool e = absurd (let l = ap length e in omega (arith, l))
+same_profile Pool2 Pool2 e = refl
+
+pub header_line_cut : (line word rest : List ℕ) (h : Header) → line ≡ word ++ 32 ∷ rest → Lacks 32 word → line ≡ header_text h → (word ≡ profile_text h.profile) × (rest ≡ header_words h)
+header_line_cut line word rest h e lacks is = cut_once 32 word rest (profile_text h.profile) (header_words h) lacks (profile_lacks h.profile) (sym e ∙ is)

@@ -2,15 +2,19 @@ use Rattle.std.proofs.Common.{◌≡◌, ◌⊎◌, inl, inr, ℕ, zero, suc, �
 use Rattle.std.proofs.Math.Seq.{get_or-append_seam}
 use Rattle.std.proofs.Math.ListN.{get_or-append}
 use Rattle.std.proofs.lemmas.Fmt.{length-decimal-le}
-use Rattle.trace_audit.specs.Grammar.{IsWord, Lacks, pair, verb_text, verb_of, words_of, spelling, IsRequest}
-use Rattle.trace_audit.specs.Replay.{IsBadFront, request_line}
+use Rattle.trace_audit.specs.Grammar.{IsWord, Lacks, pair, verb_text, verb_of, words_of, spelling, IsRequest, profile_text, header_text, header_words, IsHeader}
+use Rattle.trace_audit.specs.Trace.{request_line}
+use Rattle.trace_audit.specs.Replay.{IsBadFront}
 use Rattle.trace_audit.specs.Wire.{Begins}
 use Rattle.trace_audit.proofs.Numbers.{decimal_lacks}
-use Rattle.trace_audit.proofs.Cuts.{cut_once, marked, lacks_tested}
+use Rattle.trace_audit.proofs.Cuts.{cut_once, marked, lacks_tested, header_words_fit}
+use Rattle.region_cut.specs.declared.profile.Profile.{Profile}
+use Rattle.region_cut.specs.declared.profile.Profile.TheVariants.{Pool, Pool2}
+use Rattle.trace_audit.specs.declared.grammar.header.Header.{Header}
 use Rattle.event_floor.specs.declared.request.Request.{Request}
-use Rattle.event_floor.specs.declared.request.Request.TheVariants.{Adopt, Claim, Alloc, Free}
+use Rattle.event_floor.specs.declared.request.Request.TheVariants.{Adopt, Retire, Claim, Alloc, Free, Send, Link, Take}
 use Rattle.trace_audit.specs.declared.grammar.request.Verb.{Verb}
-use Rattle.trace_audit.specs.declared.grammar.request.Verb.TheVariants.{Adopts, Claims, Allocs, Frees}
+use Rattle.trace_audit.specs.declared.grammar.request.Verb.TheVariants.{Adopts, Retires, Claims, Allocs, Frees, Sends, Links, Takes}
 
 pub lacks_head : (mark x : ℕ) (xs : List ℕ) → (x ≡ mark → ⊥) → Lacks mark xs → Lacks mark (x ∷ xs)
 lacks_head mark x xs other h zero k = other
@@ -28,12 +32,20 @@ words_lack (Adopt a b) h = pair_lacks 32 a b (λ e. omega (arith, e)) h.0 h.1
 words_lack (Claim a b) h = pair_lacks 32 a b (λ e. omega (arith, e)) h.0 h.1
 words_lack (Alloc a b) h = pair_lacks 32 a b (λ e. omega (arith, e)) h.0 h.1
 words_lack (Free a s) h = lacks_both 10 (decimal a) (32 ∷ pair 46 s.0 s.1) (decimal_lacks 10 a (omega arith) h.0) (lacks_head 10 32 (pair 46 s.0 s.1) (λ e. omega (arith, e)) (pair_lacks 46 s.0 s.1 (λ e. omega (arith, e)) h.1 h.2))
+words_lack (Retire a) h = decimal_lacks 10 a (omega arith) h
+words_lack (Send a b) h = pair_lacks 32 a b (λ e. omega (arith, e)) h.0 h.1
+words_lack (Link a) h = decimal_lacks 10 a (omega arith) h
+words_lack (Take a) h = decimal_lacks 10 a (omega arith) h
 
 verb_lack : (v : Verb) → Lacks 10 (verb_text v)
 verb_lack Adopts = lacks_tested 10 (verb_text Adopts) refl
 verb_lack Claims = lacks_tested 10 (verb_text Claims) refl
 verb_lack Allocs = lacks_tested 10 (verb_text Allocs) refl
 verb_lack Frees = lacks_tested 10 (verb_text Frees) refl
+verb_lack Retires = lacks_tested 10 (verb_text Retires) refl
+verb_lack Sends = lacks_tested 10 (verb_text Sends) refl
+verb_lack Links = lacks_tested 10 (verb_text Links) refl
+verb_lack Takes = lacks_tested 10 (verb_text Takes) refl
 
 -- no spelling has a line feed
 pub spelling_lacks : (r : Request) → IsRequest r → Lacks 10 (spelling r)
@@ -50,16 +62,44 @@ words_short (Adopt a b) h = omega (arith, short_pair 32 a b h.0 h.1)
 words_short (Claim a b) h = omega (arith, short_pair 32 a b h.0 h.1)
 words_short (Alloc a b) h = omega (arith, short_pair 32 a b h.0 h.1)
 words_short (Free a s) h = omega (arith, length-append (decimal a) (32 ∷ pair 46 s.0 s.1), short a h.0, short_pair 46 s.0 s.1 h.1 h.2)
+words_short (Retire a) h = omega (arith, short a h)
+words_short (Send a b) h = omega (arith, short_pair 32 a b h.0 h.1)
+words_short (Link a) h = omega (arith, short a h)
+words_short (Take a) h = omega (arith, short a h)
 
 verb_short : (v : Verb) → length (verb_text v) ≤ 6
 verb_short Adopts = omega arith
 verb_short Claims = omega arith
 verb_short Allocs = omega arith
 verb_short Frees = omega arith
+verb_short Retires = omega arith
+verb_short Sends = omega arith
+verb_short Links = omega arith
+verb_short Takes = omega arith
 
 -- a line of 65 bytes or more is no spelling
 pub spelling_short : (r : Request) → IsRequest r → length (spelling r) ≤ 39
 spelling_short r h = omega (arith, length-append (verb_text (verb_of r)) (32 ∷ words_of r), verb_short (verb_of r), words_short r h)
+
+profile_lack : (p : Profile) → Lacks 10 (profile_text p)
+profile_lack Pool = lacks_tested 10 (profile_text Pool) refl
+profile_lack Pool2 = lacks_tested 10 (profile_text Pool2) refl
+
+profile_short : (p : Profile) → length (profile_text p) ≤ 5
+profile_short Pool = omega arith
+profile_short Pool2 = omega arith
+
+-- nor has a header's text
+pub header_lacks : (h : Header) → IsHeader h → Lacks 10 (header_text h)
+header_lacks h fits = let w = header_words_fit h fits in
+    lacks_both 10 (profile_text h.profile) (32 ∷ header_words h) (profile_lack h.profile)
+    (lacks_head 10 32 (header_words h) (λ e. omega (arith, e))
+    (lacks_both 10 (decimal h.desks) (32 ∷ pair 32 h.chunks h.width) (decimal_lacks 10 h.desks (omega arith) w.0)
+    (lacks_head 10 32 (pair 32 h.chunks h.width) (λ e. omega (arith, e)) (pair_lacks 32 h.chunks h.width (λ e. omega (arith, e)) w.1 w.2))))
+
+pub header_short : (h : Header) → IsHeader h → length (header_text h) ≤ 38
+header_short h fits = let w = header_words_fit h fits in
+    omega (arith, length-append (profile_text h.profile) (32 ∷ header_words h), profile_short h.profile, length-append (decimal h.desks) (32 ∷ pair 32 h.chunks h.width), short h.desks w.0, short_pair 32 h.chunks h.width w.1 w.2)
 
 -- a whole line that is no spelling
 pub bad_text : (bytes text held : List ℕ) (at_end : Type 0) → bytes ≡ text ++ 10 ∷ held → Lacks 10 text → ((r : Request) → IsRequest r → text ≡ spelling r → ⊥) → IsBadFront bytes at_end

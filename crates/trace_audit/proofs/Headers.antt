@@ -7,9 +7,10 @@ use Rattle.std.proofs.lemmas.Fmt.{decimal_digit}
 use Rattle.std.proofs.KnownBytes.{Consumes-trans}
 use Rattle.event_floor.specs.Floors.{FloorSeen}
 use Rattle.trace_audit.specs.Grammar.{Lacks, pair, header_text, header_words, IsHeader}
-use Rattle.trace_audit.specs.Machine.{Opens}
+use Rattle.trace_audit.specs.Machine.{Opens, told}
 use Rattle.trace_audit.specs.Report.{bad_line, no_memory_line}
-use Rattle.trace_audit.specs.Replay.{header_line, Traced, EndsEarly, Reports, Fails, tail_text, IsBadHeader}
+use Rattle.trace_audit.specs.Trace.{header_line}
+use Rattle.trace_audit.specs.Replay.{Traced, EndsEarly, Reports, Fails, tail_text, IsBadHeader}
 use Rattle.trace_audit.specs.Steps.{Played, Stopped, Houses, FailsHousing}
 use Rattle.trace_audit.specs.Wire.{Begins}
 use Rattle.trace_audit.specs.declared.grammar.header.Header.{Header}
@@ -19,18 +20,7 @@ use Rattle.trace_audit.specs.declared.replaying.ending.ReplayError.{ReplayError}
 use Rattle.trace_audit.specs.declared.replaying.ending.ReplayError.TheVariants.{Read, Write}
 use Rattle.trace_audit.proofs.Numbers.{decimal_lacks}
 use Rattle.trace_audit.proofs.Cuts.{cut_once, marked, lacks_tested, header_words_fit}
-use Rattle.trace_audit.proofs.Fronts.{lacks_head, lacks_both, pair_lacks, short, short_pair}
-
-header_lacks : (h : Header) → IsHeader h → Lacks 10 (header_text h)
-header_lacks h fits = let w = header_words_fit h fits in
-    lacks_both 10 (codes "pool") (32 ∷ header_words h) (lacks_tested 10 (codes "pool") refl)
-    (lacks_head 10 32 (header_words h) (λ e. omega (arith, e))
-    (lacks_both 10 (decimal h.desks) (32 ∷ pair 32 h.chunks h.width) (decimal_lacks 10 h.desks (omega arith) w.0)
-    (lacks_head 10 32 (pair 32 h.chunks h.width) (λ e. omega (arith, e)) (pair_lacks 32 h.chunks h.width (λ e. omega (arith, e)) w.1 w.2))))
-
-header_short : (h : Header) → IsHeader h → length (header_text h) ≤ 37
-header_short h fits = let w = header_words_fit h fits in
-    omega (arith, length-append (codes "pool") (32 ∷ header_words h), length-append (decimal h.desks) (32 ∷ pair 32 h.chunks h.width), short h.desks w.0, short_pair 32 h.chunks h.width w.1 w.2)
+use Rattle.trace_audit.proofs.Fronts.{header_lacks, header_short}
 
 pub header_bad_text : (bytes text held : List ℕ) (at_end : Type 0) → bytes ≡ text ++ 10 ∷ held → Lacks 10 text → ((h : Header) → IsHeader h → text ≡ header_text h → ⊥) → IsBadHeader bytes at_end
 header_bad_text bytes text held at_end e lacks none = inl (λ more (h, rest, fits, is).
@@ -39,7 +29,7 @@ header_bad_text bytes text held at_end e lacks none = inl (λ more (h, rest, fit
 
 header_bad_long : (bytes : List ℕ) (at_end : Type 0) → Lacks 10 bytes → 65 ≤ length bytes → IsBadHeader bytes at_end
 header_bad_long bytes at_end lacks long = inl (λ more (h, rest, fits, is).
-    let low : length (header_text h) ≤ 37 = header_short h fits in
+    let low : length (header_text h) ≤ 38 = header_short h fits in
     let here : get_or (header_text h ++ 10 ∷ rest) (length (header_text h)) 0 ≡ 10 = get_or-append_seam (header_text h) 10 rest 0 in
     let there : get_or (bytes ++ more) (length (header_text h)) 0 ≡ get_or bytes (length (header_text h)) 0 = get_or-append bytes more 0 (length (header_text h)) (omega arith) in
     lacks (length (header_text h)) (omega arith) (sym there ∙ ap (λ w. get_or w (length (header_text h)) 0) is ∙ here))
@@ -95,8 +85,8 @@ no_room left0 left left' h held P fits first read is same p = (h, first, held, f
 -- a floor was driven behind the header, or there was no room for one
 pub reports_housed : (left0 left left' out0 out : Option (List ℕ)) (h : Header) (held : List ℕ) (end : End)
     → IsHeader h → (first : List ℕ) → Consumes left0 left first → first ≡ header_line h ++ held → Houses left left' held h out0 out end → Reports left0 left' (Appends out0 out) end
-reports_housed left0 left left' out0 out h held end fits first read is (inl (start, opens, (now, tally, n, rest, p, tells, ends))) =
-    inl (h, now, tally, n, rest, traced left0 left left' h held rest start now n (tail_text tally end) (Appends out0 out) fits opens first read is p, tells, ends)
+reports_housed left0 left left' out0 out h held end fits first read is (inl (start, opens, (now, n, rest, p, ends))) =
+    inl (h, now, n, rest, traced left0 left left' h held rest start now n (tail_text (told now) end) (Appends out0 out) fits opens first read is p, ends)
 reports_housed left0 left left' out0 out h held end fits first read is (inr (none, same, wrote)) =
     subst (λ (w : End). Reports left0 left' (Appends out0 out) w) (sym none) (inr (no_room left0 left left' h held (Appends out0 out) fits first read is same wrote))
 
@@ -114,18 +104,16 @@ fails_driven left0 left left' out0 out h held start Write fits opens first read 
           (subst (λ (w : List ℕ). Played left left' held rest start now n w (Begins out0 out)) none p),
       low,
     )
-fails_driven left0 left left' out0 out h held start Write fits opens first read is (now, n, rest, tail, p, low, inr (end, tally, ends, tells, tails)) =
+fails_driven left0 left left' out0 out h held start Write fits opens first read is (now, n, rest, tail, p, low, inr (end, ends, tails)) =
     inr (
       end,
       inl (
         h,
         now,
-        tally,
         n,
         rest,
-        traced left0 left left' h held rest start now n (tail_text tally end) (Begins out0 out) fits opens first read is
+        traced left0 left left' h held rest start now n (tail_text (told now) end) (Begins out0 out) fits opens first read is
             (subst (λ (w : List ℕ). Played left left' held rest start now n w (Begins out0 out)) tails p),
-        tells,
         ends,
       ),
     )

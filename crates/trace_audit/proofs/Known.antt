@@ -5,10 +5,10 @@ use Rattle.std.specs.List.{flat_map}
 use Rattle.std.specs.Io.KnownBytes.{Consumes, IsAtEnd}
 use Rattle.event_floor.specs.Floors.{FloorSeen}
 use Rattle.trace_audit.specs.Grammar.{header_text}
-use Rattle.trace_audit.specs.Machine.{Tells}
-use Rattle.trace_audit.specs.Replay.{request_line, header_line, Traced, EndsSo, EndsTrace, IsTrace, ReportsLines, ReportsTrace, Reports, BeginsWithRequest, BeginsWithHeader, IsBadFront, IsBadHeader, tail_text}
+use Rattle.trace_audit.specs.Machine.{told}
+use Rattle.trace_audit.specs.Trace.{request_line, header_line, EndsTrace, IsTrace, BeginsWithRequest, BeginsWithHeader}
+use Rattle.trace_audit.specs.Replay.{Traced, EndsSo, ReportsLines, ReportsTrace, Reports, IsBadFront, IsBadHeader, tail_text}
 use Rattle.trace_audit.specs.declared.grammar.header.Header.{Header}
-use Rattle.trace_audit.specs.declared.report.closing.Tally.{Tally}
 use Rattle.trace_audit.specs.declared.replaying.ending.End.{End}
 use Rattle.trace_audit.specs.declared.replaying.ending.End.TheVariants.{Whole, BadLine, NoRoom}
 
@@ -58,22 +58,22 @@ is_trace bytes left h rest now n tail P end t ends =
       ends = rw t.number (trace_ends n rest l.0 left end l.1 ends);
     }
 
-reports_lines : (bytes : List ℕ) (left : Option (List ℕ)) (h : Header) (rest : List ℕ) (now : FloorSeen) (tally : Tally) (n : ℕ) (P : List ℕ → Type 0) (end : End)
-    → Traced (Some bytes) left h rest now n (tail_text tally end) P → Tells now tally → EndsSo n rest (IsAtEnd left) end → ReportsLines bytes P end
-reports_lines bytes left h rest now tally n P end t tells ends = record {
+reports_lines : (bytes : List ℕ) (left : Option (List ℕ)) (h : Header) (rest : List ℕ) (now : FloorSeen) (n : ℕ) (P : List ℕ → Type 0) (end : End)
+    → Traced (Some bytes) left h rest now n (tail_text (told now) end) P → EndsSo n rest (IsAtEnd left) end → ReportsLines bytes P end
+reports_lines bytes left h rest now n P end t ends = record {
   header = h;
   requests = t.requests;
   answers = t.answers;
-  tally = tally;
-  trace = is_trace bytes left h rest now n (tail_text tally end) P end t ends;
-  answered = record { start = t.start; now = now; opens = t.opens; run = t.run; tells = tells };
+  now = now;
+  trace = is_trace bytes left h rest now n (tail_text (told now) end) P end t ends;
+  answered = record { start = t.start; opens = t.opens; run = t.run };
   wrote = t.wrote;
 }
 
 reports : (bytes : List ℕ) (left : Option (List ℕ)) (P : List ℕ → Type 0) (end : End) → Reports (Some bytes) left P end → ReportsTrace bytes P end
-reports bytes left P Whole (inl (h, now, tally, n, rest, t, tells, ends)) = reports_lines bytes left h rest now tally n P Whole t tells ends
-reports bytes left P (BadLine k) (inl (h, now, tally, n, rest, t, tells, ends)) = inl (reports_lines bytes left h rest now tally n P (BadLine k) t tells ends)
-reports bytes left P NoRoom (inl (h, now, tally, n, rest, t, tells, ends)) = absurd ends
+reports bytes left P Whole (inl (h, now, n, rest, t, ends)) = reports_lines bytes left h rest now n P Whole t ends
+reports bytes left P (BadLine k) (inl (h, now, n, rest, t, ends)) = inl (reports_lines bytes left h rest now n P (BadLine k) t ends)
+reports bytes left P NoRoom (inl (h, now, n, rest, t, ends)) = absurd ends
 reports bytes left P Whole (inr early) = absurd early
 reports bytes left P (BadLine k) (inr (first, given, read, bad, wrote)) =
     let l = left_of bytes left given read in

@@ -7,4 +7,6 @@ mod Fronts
 mod Openings
 mod Plays
 mod Headers
+mod Readings
 pub mod Known
+mod Undrawn

@@ -1,24 +1,17 @@
 -- The floor of a header.
-use Rattle.std.proofs.Common.{◌≡◌, ℕ, zero, suc, ◌+◌, ◌*◌, ◌/◌, List, length, Result, Ok, Err, IfOk, refl, sym, ◌∙◌, ap, arith, length-append}
+use Rattle.std.proofs.Common.{◌≡◌, ℕ, zero, suc, ◌+◌, ◌*◌, ◌/◌, List, length, Result, Ok, Err, IfOk, refl, sym, ◌∙◌, ap, arith}
 use Rattle.std.proofs.lemmas.List.{length-map}
 use Rattle.std.proofs.Math.Nat.{mul-div_cancel}
 use Rattle.region_cut.specs.declared.part.Part.{Part}
 use Rattle.region_cut.specs.Parts.{ArePartsOf, number_of, numbers_from}
 use Rattle.digit_route.specs.Digits.{Scheme}
-use Rattle.event_floor.specs.Floors.{FloorSeen, desk_count, opening}
-use Rattle.event_floor.specs.Seats.{idle_seats}
+use Rattle.event_floor.specs.Floors.{FloorSeen, opening}
 use Rattle.trace_audit.specs.Machine.{Opens, digits_of}
 use Rattle.trace_audit.specs.declared.grammar.header.Header.{Header}
 
 length-numbers_from : (k n : ℕ) → length (numbers_from k n) ≡ n
 length-numbers_from k zero = refl
 length-numbers_from k (suc n) = ap suc (length-numbers_from (k + 1) n)
-
-length-idle_seats : (digits : Scheme) (limit n : ℕ) → length (idle_seats digits limit n) ≡ n
-unfolding idle_seats
-length-idle_seats digits limit zero = refl
-length-idle_seats digits limit (suc n) =
-    length-append (idle_seats digits limit n) _ ∙ (let e : length (idle_seats digits limit n) + 1 ≡ suc n = omega (arith, length-idle_seats digits limit n) in e)
 
 -- as many parts as the region has whole chunks
 parts_count : (bs : List ℕ) (ps : List Part) → ArePartsOf bs ps → length ps ≡ length bs / 4096
@@ -30,8 +23,3 @@ opens h bs ps digits (Ok f) size are reads e =
     e ∙ (ap (λ s. opening h.desks (length ps) s 4096) reads
     ∙ ap (λ n. opening h.desks n (digits_of h) 4096) (parts_count bs ps are ∙ ap (λ n. n / 4096) size ∙ mul-div_cancel h.chunks (omega arith)))
 opens h bs ps digits (Err e) size are reads k = tt
-
-pub as_many_desks : {E : Type 0} → (desks chunks : ℕ) (digits : Scheme) (r : Result FloorSeen E)
-    → IfOk r (λ f. f ≡ opening desks chunks digits 4096) → IfOk r (λ f. desk_count f ≡ desks)
-as_many_desks desks chunks digits (Ok f) e = ap desk_count e ∙ length-idle_seats digits 4096 desks
-as_many_desks desks chunks digits (Err e) k = tt

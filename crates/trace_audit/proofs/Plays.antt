@@ -7,12 +7,13 @@ use Rattle.std.proofs.KnownBytes.{Appends-nil, Appends-trans, Consumes-nil, Cons
 use Rattle.event_floor.specs.Floors.{FloorSeen}
 use Rattle.event_floor.specs.declared.request.Request.{Request}
 use Rattle.trace_audit.specs.Grammar.{IsRequest}
-use Rattle.trace_audit.specs.Machine.{Answer, Step, Run}
+use Rattle.event_floor.specs.Runs.{Answers, Runs}
+use Rattle.trace_audit.specs.Machine.{Answer, Tally, told}
 use Rattle.trace_audit.specs.Report.{answer_line, bad_line, closing}
-use Rattle.trace_audit.specs.Replay.{request_line, EndsSo, tail_text}
+use Rattle.trace_audit.specs.Trace.{request_line}
+use Rattle.trace_audit.specs.Replay.{EndsSo, tail_text}
 use Rattle.trace_audit.specs.Steps.{Played, Broke, Ended, Stopped, Finishes}
 use Rattle.trace_audit.specs.Wire.{Begins}
-use Rattle.trace_audit.specs.declared.report.closing.Tally.{Tally}
 use Rattle.trace_audit.specs.declared.replaying.ending.End.{End}
 use Rattle.trace_audit.specs.declared.replaying.ending.End.TheVariants.{Whole, BadLine, NoRoom}
 use Rattle.trace_audit.specs.declared.replaying.ending.ReplayError.{ReplayError}
@@ -20,8 +21,9 @@ use Rattle.trace_audit.specs.declared.replaying.ending.ReplayError.TheVariants.{
 use Rattle.trace_audit.proofs.Bytes.{consumes_kept}
 
 -- a run goes on by one step
-run_more : (a b c : FloorSeen) (rs : List Request) (xs : List Answer) (r : Request) (x : Answer) → Run a rs xs b → Step b r x c → Run a (rs ++ r ∷ []) (xs ++ x ∷ []) c
-run_more a b c [] [] r x h s = (c, subst (λ (w : FloorSeen). Step w r x c) h s, refl)
+run_more : (a b c : FloorSeen) (rs : List Request) (xs : List Answer) (r : Request) (x : Answer) → Runs a rs xs b → Answers b r x c → Runs a (rs ++ r ∷ []) (xs ++ x ∷ []) c
+unfolding Runs
+run_more a b c [] [] r x h s = (c, subst (λ (w : FloorSeen). Answers w r x c) h s, refl)
 run_more a b c [] (y ∷ xs) r x h s = absurd h
 run_more a b c (q ∷ rs) [] r x h s = absurd h
 run_more a b c (q ∷ rs) (y ∷ xs) r x (mid, one, more) s = (mid, one, run_more mid b c rs xs r x more s)
@@ -39,6 +41,7 @@ regroup held0 given more front held rest e k =
     sym (append_assoc held0 given more) ∙ ap (λ w. w ++ more) e ∙ append_assoc front held more ∙ ap (λ w. front ++ w) k
 
 pub played_start : (left0 : Option (List ℕ)) (held0 : List ℕ) (start : FloorSeen) (out0 : Option (List ℕ)) → Played left0 left0 held0 held0 start start 0 [] (Appends out0 out0)
+unfolding Runs
 played_start left0 held0 start out0 = record {
   given = [];
   requests = [];
@@ -54,7 +57,7 @@ played_start left0 held0 start out0 = record {
 -- one line more
 pub played_more : (left0 left left' : Option (List ℕ)) (held0 held held' : List ℕ) (start now new : FloorSeen) (n m : ℕ) (P P' : List ℕ → Type 0)
     → Played left0 left held0 held start now n [] P → n + 1 ≡ m → (more : List ℕ) (r : Request) (x : Answer) → Consumes left left' more
-    → held ++ more ≡ request_line r ++ held' → IsRequest r → Step now r x new → ((text : List ℕ) → P text → P' (text ++ answer_line x))
+    → held ++ more ≡ request_line r ++ held' → IsRequest r → Answers now r x new → ((text : List ℕ) → P text → P' (text ++ answer_line x))
     → Played left0 left' held0 held' start new m [] P'
 played_more left0 left left' held0 held held' start now new n m P P' p e more r x read lines fits step wrote = record {
   given = p.given ++ more;
@@ -84,7 +87,7 @@ played_tail left0 left left' held0 held rest start now new n tail P P' p more re
   lines = regroup held0 p.given more (flat_map request_line p.requests) held rest p.lines lines;
   good = p.good;
   number = p.number;
-  run = subst (λ (w : FloorSeen). Run start p.requests p.answers w) (sym same) p.run;
+  run = subst (λ (w : FloorSeen). Runs start p.requests p.answers w) (sym same) p.run;
   wrote = subst (λ (w : List ℕ). P' (w ++ tail)) (append-nil (flat_map answer_line p.answers)) (wrote (flat_map answer_line p.answers ++ []) p.wrote);
 }
 
@@ -100,15 +103,13 @@ few n rest at_end NoRoom h = absurd h
 pub end_ok : (left0 left left' out0 out out1 out' : Option (List ℕ)) (held0 held rest : List ℕ) (start now new : FloorSeen) (n : ℕ) (failed : Bool) (end : End) (r : Result End ReplayError)
     → Played left0 left held0 held start now n [] (Appends out0 out) → (more : List ℕ) → Consumes left left' more → held ++ more ≡ rest → new ≡ now → out1 ≡ out
     → EndsSo n rest (IsAtEnd left') end → Finishes new end out1 out' failed r → IfOk r (λ e. Ended left0 left' held0 start out0 out' e)
-end_ok left0 left left' out0 out out1 out' held0 held rest start now new n failed end (Ok e) p more read lines same kept ends (is, down, tally, tells, wrote) =
+end_ok left0 left left' out0 out out1 out' held0 held rest start now new n failed end (Ok e) p more read lines same kept ends (is, down, wrote) =
     subst (λ (w : End). Ended left0 left' held0 start out0 out' w) (sym is) (
       new,
-      tally,
       n,
       rest,
-      played_tail left0 left left' held0 held rest start now new n (tail_text tally end) (Appends out0 out) (Appends out0 out') p more read lines same
-          (λ text h. Appends-trans out0 out out' text (tail_text tally end) h (subst (λ (w : Option (List ℕ)). Appends w out' (tail_text tally end)) kept wrote)),
-      tells,
+      played_tail left0 left left' held0 held rest start now new n (tail_text (told new) end) (Appends out0 out) (Appends out0 out') p more read lines same
+          (λ text h. Appends-trans out0 out out' text (tail_text (told new) end) h (subst (λ (w : Option (List ℕ)). Appends w out' (tail_text (told new) end)) kept wrote)),
       ends,
     )
 end_ok left0 left left' out0 out out1 out' held0 held rest start now new n failed end (Err e) p more read lines same kept ends f = tt
@@ -117,16 +118,16 @@ pub end_err : (left0 left left' out0 out out1 out' : Option (List ℕ)) (held0 h
     → Played left0 left held0 held start now n [] (Appends out0 out) → (more : List ℕ) → Consumes left left' more → held ++ more ≡ rest → new ≡ now → out1 ≡ out
     → EndsSo n rest (IsAtEnd left') end → Finishes new end out1 out' failed r → IfErr r (λ e. Stopped left0 left' held0 start out0 out' e)
 end_err left0 left left' out0 out out1 out' held0 held rest start now new n failed end (Ok e) p more read lines same kept ends f = tt
-end_err left0 left left' out0 out out1 out' held0 held rest start now new n failed end (Err e) p more read lines same kept ends (is, up, tally, tells, wrote) =
+end_err left0 left left' out0 out out1 out' held0 held rest start now new n failed end (Err e) p more read lines same kept ends (is, up, wrote) =
     subst (λ (w : ReplayError). Stopped left0 left' held0 start out0 out' w) (sym is) (
       new,
       n,
       rest,
-      tail_text tally end,
-      played_tail left0 left left' held0 held rest start now new n (tail_text tally end) (Appends out0 out) (Begins out0 out') p more read lines same
-          (λ text h. begins_more out0 out out' text (tail_text tally end) h (subst (λ (w : Option (List ℕ)). Begins w out' (tail_text tally end)) kept wrote)),
+      tail_text (told new) end,
+      played_tail left0 left left' held0 held rest start now new n (tail_text (told new) end) (Appends out0 out) (Begins out0 out') p more read lines same
+          (λ text h. begins_more out0 out out' text (tail_text (told new) end) h (subst (λ (w : Option (List ℕ)). Begins w out' (tail_text (told new) end)) kept wrote)),
       few n rest (IsAtEnd left') end ends,
-      inr (end, tally, ends, tells, refl),
+      inr (end, ends, refl),
     )
 
 -- the reader or the writer failed within a line

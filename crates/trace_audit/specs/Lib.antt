@@ -1,6 +1,10 @@
 pub mod Wire
 pub mod Grammar
+pub mod Trace
 pub mod Machine
 pub mod Report
 pub mod Replay
 pub mod Steps
+pub mod Laws
+pub mod Audit
+pub mod Tallies

@@ -1,47 +1,46 @@
--- The floor that a trace drives: how it opens, what it answers, and what is told of it at the end.
-use Rattle.std.specs.Prelude.{◌≡◌, List, [], ◌∷◌, length, map, count_by, is_some, Result, Ok, Err}
+-- The floor that a trace drives: how it opens, and what is told of it at the end.
+use Rattle.std.specs.Prelude.{ℕ, ◌≡◌, List, length, map, count_by, is_some, Result}
+use Rattle.std.specs.List.{range_with_len}
+use Rattle.region_cut.specs.Classes.{bits_of}
 use Rattle.slot_chain.specs.Counts.{capped}
 use Rattle.digit_route.specs.Digits.{Scheme}
-use Rattle.event_floor.specs.Floors.{FloorSeen, opening}
+use Rattle.event_floor.specs.Floors.{FloorSeen, desk_count, desk_at, opening}
+use Rattle.event_floor.specs.Posted.{buffers_in, inbox_at}
 use Rattle.event_floor.specs.Seats.{home_of, cached_of}
-use Rattle.event_floor.specs.Steps.{Does, Refuses}
-use Rattle.event_floor.specs.declared.seat.Seat.{Seat}
 use Rattle.event_floor.specs.declared.reply.Reply.{Reply}
 use Rattle.event_floor.specs.declared.refusal.Refusal.{Refusal}
-use Rattle.event_floor.specs.declared.request.Request.{Request}
 use Rattle.trace_audit.specs.declared.grammar.header.Header.{Header}
 use Rattle.trace_audit.specs.declared.report.closing.Counts.{Counts}
-use Rattle.trace_audit.specs.declared.report.closing.Tally.{Tally}
 
 abbrev pub Answer : Type 0
 Answer = Result Reply Refusal
 
--- the numbers of desks have 6 bits, and digits of the header's width
+-- the numbers of desks have the profile's bits, and digits of the header's width
 abbrev pub digits_of : Header → Scheme
-digits_of h = record { width = h.width; bits = 6 }
+digits_of h = record { width = h.width; bits = bits_of h.profile }
 
 -- the floor as it is behind its header: its limit is 4,096 bytes
 abbrev pub Opens : Header → FloorSeen → Type 0
 Opens h start = start ≡ opening h.desks h.chunks (digits_of h) 4096
 
--- from old, the floor may give this answer to the request and go on to new
-unfoldable pub Step : FloorSeen → Request → Answer → FloorSeen → Type 0
-Step old request (Ok reply) new = Does old request reply new
-Step old request (Err refusal) new = Refuses old request refusal × (new ≡ old)
+-- how many slots a desk has at home, in its cache, and in the batches in its inbox
+abbrev pub counts_at : FloorSeen → ℕ → Counts
+counts_at v a = record {
+  home = capped (length (home_of (desk_at v a)));
+  cached = capped (length (cached_of (desk_at v a)));
+  queued = capped (length (buffers_in (inbox_at v.inboxes a)));
+}
 
--- one answer for each request, in order, each by a step
-abbrev pub Run : FloorSeen → List Request → List Answer → FloorSeen → Type 0
-Run old [] [] new = new ≡ old
-Run old (r ∷ rs) (x ∷ xs) new = (mid : FloorSeen) × Step old r x mid × Run mid rs xs new
-Run old [] (x ∷ xs) new = ⊥
-Run old (r ∷ rs) [] new = ⊥
+-- how many chunks are drawn, how many buffers are lent, and the counts of each desk, in order of its number
+pub record Tally : Type 0 where
+  pub chunks : ℕ
+  pub lent : ℕ
+  pub desks : List Counts
 
--- how many slots a desk has at home and in its cache; no desk has an inbox so far
-abbrev pub counts_of : Seat → Counts
-counts_of s = record { home = capped (length (home_of s)); cached = capped (length (cached_of s)); queued = 0 }
-
--- the tally counts the drawn chunks, the lent buffers, and the slots of each desk
-pub record Tells (now : FloorSeen) (tally : Tally) : Type 0 where
-  pub drawn : tally.chunks ≡ length now.drawn
-  pub lends : tally.lent ≡ count_by is_some now.lent
-  pub counts : tally.desks.items ≡ map counts_of now.desks
+-- what a floor has to tell
+abbrev pub told : FloorSeen → Tally
+told v = record {
+  chunks = length v.drawn;
+  lent = count_by is_some v.lent;
+  desks = map (counts_at v) (range_with_len 0 (desk_count v));
+}

@@ -5,57 +5,24 @@ use Rattle.std.specs.Io.KnownBytes.{Appends, Consumes, IsAtEnd}
 use Rattle.event_floor.specs.Floors.{FloorSeen}
 use Rattle.event_floor.specs.declared.request.Request.{Request}
 use Rattle.trace_audit.specs.Grammar.{Lacks, spelling, IsRequest, header_text, IsHeader}
-use Rattle.trace_audit.specs.Machine.{Answer, Opens, Run, Tells}
+use Rattle.event_floor.specs.Runs.{Runs}
+use Rattle.trace_audit.specs.Machine.{Answer, Opens, Tally, told}
+use Rattle.trace_audit.specs.Trace.{header_line, request_line, BeginsWithHeader, BeginsWithRequest, IsTrace}
 use Rattle.trace_audit.specs.Report.{answer_line, bad_line, closing, no_memory_line}
 use Rattle.trace_audit.specs.Wire.{Begins}
 use Rattle.trace_audit.specs.declared.grammar.header.Header.{Header}
-use Rattle.trace_audit.specs.declared.report.closing.Tally.{Tally}
 use Rattle.trace_audit.specs.declared.replaying.ending.End.{End}
 use Rattle.trace_audit.specs.declared.replaying.ending.End.TheVariants.{Whole, BadLine, NoRoom}
 use Rattle.trace_audit.specs.declared.replaying.ending.ReplayError.{ReplayError}
 use Rattle.trace_audit.specs.declared.replaying.ending.ReplayError.TheVariants.{Read, Write}
 
--- Lines: 10 is the line feed.
-
-abbrev pub header_line : Header → List ℕ
-header_line h = header_text h ++ 10 ∷ []
-
-abbrev pub request_line : Request → List ℕ
-request_line r = spelling r ++ 10 ∷ []
-
--- a good header line stands at the front
-abbrev pub BeginsWithHeader : List ℕ → Type 0
-BeginsWithHeader bytes = (h : Header) × (more : List ℕ) × IsHeader h × (bytes ≡ header_text h ++ 10 ∷ more)
-
--- a good request line stands at the front
-abbrev pub BeginsWithRequest : List ℕ → Type 0
-BeginsWithRequest bytes = (r : Request) × (more : List ℕ) × IsRequest r × (bytes ≡ spelling r ++ 10 ∷ more)
-
--- A trace: a good header line, good request lines, 1,000,000 lines at most, and a rest. Nothing is left; or no good
--- line stands at the front of what is left, or as many lines as there may be stand before it: then the next line is bad.
-
-abbrev pub EndsTrace : ℕ → List ℕ → End → Type 0
-EndsTrace n rest Whole = rest ≡ []
-EndsTrace n rest (BadLine k) = (rest ≢ []) × (k ≡ n + 2) × ((BeginsWithRequest rest → ⊥) ⊎ (n ≡ 999999))
-EndsTrace n rest NoRoom = ⊥
-
-pub record IsTrace (bytes : List ℕ) (h : Header) (requests : List Request) (end : End) : Type 0 where
-  pub header : IsHeader h
-  pub rest : List ℕ
-  pub lines : bytes ≡ header_line h ++ (flat_map request_line requests ++ rest)
-  pub good : AllByRecursion IsRequest requests
-  pub few : length requests ≤ 999999
-  pub ends : EndsTrace (length requests) rest end
-
 -- The report.
 
--- the floor of this header answers the requests so, and this is told of it afterwards
-pub record IsAnswered (h : Header) (requests : List Request) (answers : List Answer) (tally : Tally) : Type 0 where
+-- the floor of this header answers the requests so, and is this afterwards
+pub record IsAnswered (h : Header) (requests : List Request) (answers : List Answer) (now : FloorSeen) : Type 0 where
   pub start : FloorSeen
-  pub now : FloorSeen
   pub opens : Opens h start
-  pub run : Run start requests answers now
-  pub tells : Tells now tally
+  pub run : Runs start requests answers now
 
 -- the lines behind the answers
 abbrev pub tail_text : Tally → End → List ℕ
@@ -68,10 +35,10 @@ pub record ReportsLines (bytes : List ℕ) (P : List ℕ → Type 0) (end : End)
   pub header : Header
   pub requests : List Request
   pub answers : List Answer
-  pub tally : Tally
+  pub now : FloorSeen
   pub trace : IsTrace bytes header requests end
-  pub answered : IsAnswered header requests answers tally
-  pub wrote : P (flat_map answer_line answers ++ tail_text tally end)
+  pub answered : IsAnswered header requests answers now
+  pub wrote : P (flat_map answer_line answers ++ tail_text (told now) end)
 
 -- The bytes have this end, and P holds of their report and of nothing else: the lines of the answers, that of the bad
 -- line and the closing lines; or one line alone where no good header line stands first, or where there is no room.
@@ -107,7 +74,7 @@ pub record Traced (left0 left : Option (List ℕ)) (h : Header) (rest : List ℕ
   pub good : AllByRecursion IsRequest requests
   pub number : length requests ≡ n
   pub opens : Opens h start
-  pub run : Run start requests answers now
+  pub run : Runs start requests answers now
   pub wrote : P (flat_map answer_line answers ++ tail)
 
 -- how the bytes given end behind a header and n request lines
@@ -124,8 +91,8 @@ EndsEarly left0 left P NoRoom = (h : Header) × (given : List ℕ) × (rest : Li
 
 -- P holds of the report of the bytes given, which have this end
 abbrev pub Reports : Option (List ℕ) → Option (List ℕ) → (List ℕ → Type 0) → End → Type 0
-Reports left0 left P end = ((h : Header) × (now : FloorSeen) × (tally : Tally) × (n : ℕ) × (rest : List ℕ)
-    × Traced left0 left h rest now n (tail_text tally end) P × Tells now tally × EndsSo n rest (IsAtEnd left) end)
+Reports left0 left P end = ((h : Header) × (now : FloorSeen) × (n : ℕ) × (rest : List ℕ)
+    × Traced left0 left h rest now n (tail_text (told now) end) P × EndsSo n rest (IsAtEnd left) end)
     ⊎ EndsEarly left0 left P end
 
 -- Read: no bad line was known; the lines of the answers to all whole lines were written, and nothing else; nothing at

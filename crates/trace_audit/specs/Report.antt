@@ -1,14 +1,15 @@
 -- The lines of a report.
-use Rattle.std.specs.Prelude.{ℕ, ◌+◌, ◌==◌, ◌&&◌, sum_by, nat_lt, Bool, List, [], ◌∷◌, ◌++◌, codes, decimal, Ok, Err, suc, if◌then◌else◌}
+use Rattle.std.specs.Prelude.{ℕ, ◌+◌, ◌==◌, ◌&&◌, sum_by, nat_lt, Bool, List, [], ◌∷◌, ◌++◌, codes, decimal, Result, Ok, Err, suc, if◌then◌else◌}
 use Rattle.region_cut.specs.Slots.{printed}
 use Rattle.slot_chain.specs.Counts.{capped}
 use Rattle.event_floor.specs.declared.reply.Reply.{Reply}
-use Rattle.event_floor.specs.declared.reply.Reply.TheVariants.{Done, Chunk, Slot, Home, Cached, Due}
+use Rattle.event_floor.specs.declared.reply.Reply.TheVariants.{Done, Chunk, Slot, Home, Cached, Due, Batch, Counts as Handled}
 use Rattle.event_floor.specs.declared.refusal.Refusal.{Refusal}
 use Rattle.event_floor.specs.Refusals.{number_of, name_of}
+use Rattle.trace_audit.specs.declared.auditing.fault.Fault.{Fault}
+use Rattle.trace_audit.specs.declared.auditing.fault.Fault.TheVariants.{Stranger, Doubled, Missing, NoMemory}
 use Rattle.trace_audit.specs.declared.report.closing.Counts.{Counts}
-use Rattle.trace_audit.specs.declared.report.closing.Tally.{Tally}
-use Rattle.trace_audit.specs.Machine.{Answer}
+use Rattle.trace_audit.specs.Machine.{Answer, Tally}
 
 abbrev pub reply_text : Reply → List ℕ
 reply_text Done = codes "ok"
@@ -17,6 +18,8 @@ reply_text (Slot s) = codes "slot " ++ printed s
 reply_text Home = codes "home"
 reply_text Cached = codes "cached"
 reply_text Due = codes "due"
+reply_text (Batch number count) = codes "batch " ++ decimal number ++ codes " " ++ decimal count
+reply_text (Handled home on) = codes "home " ++ decimal home ++ codes " on " ++ decimal on
 
 -- a number below 100, with two digits
 abbrev pub two_digits : ℕ → List ℕ
@@ -33,6 +36,24 @@ answer_text (Err refusal) = refusal_text refusal
 -- the line of an answer; 10 is the line feed
 abbrev pub answer_line : Answer → List ℕ
 answer_line a = answer_text a ++ 10 ∷ []
+
+abbrev pub fault_text : Fault → List ℕ
+fault_text (Stranger s) = codes "stranger " ++ printed s
+fault_text (Doubled s) = codes "doubled " ++ printed s
+fault_text (Missing s) = codes "missing " ++ printed s
+fault_text NoMemory = codes "no memory"
+
+-- what an audit answers
+abbrev pub Verdict : Type 0
+Verdict = Result (Unit {0}) Fault
+
+abbrev pub verdict_text : Verdict → List ℕ
+verdict_text (Ok u) = codes "yes"
+verdict_text (Err fault) = fault_text fault
+
+-- the line of an audit
+abbrev pub audit_line : Verdict → List ℕ
+audit_line v = codes "audit " ++ verdict_text v ++ 10 ∷ []
 
 -- the line of a bad line
 abbrev pub bad_line : ℕ → List ℕ
@@ -67,8 +88,8 @@ abbrev pub total : List Counts → Counts
 total cs = record { home = capped (sum_by (λ c. c.home) cs); cached = capped (sum_by (λ c. c.cached) cs); queued = capped (sum_by (λ c. c.queued) cs) }
 
 abbrev pub end_line : Tally → List ℕ
-end_line t = codes "end chunks " ++ decimal t.chunks ++ codes " lent " ++ decimal t.lent ++ counts_text (total t.desks.items)
+end_line t = codes "end chunks " ++ decimal t.chunks ++ codes " lent " ++ decimal t.lent ++ counts_text (total t.desks)
 
 -- the closing lines
 abbrev pub closing : Tally → List ℕ
-closing t = desk_lines 0 t.desks.items ++ end_line t
+closing t = desk_lines 0 t.desks ++ end_line t

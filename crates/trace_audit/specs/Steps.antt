@@ -5,12 +5,13 @@ use Rattle.std.specs.Io.KnownBytes.{Appends, Consumes, IsAtEnd}
 use Rattle.event_floor.specs.Floors.{FloorSeen}
 use Rattle.event_floor.specs.declared.request.Request.{Request}
 use Rattle.trace_audit.specs.Grammar.{Lacks, IsRequest}
-use Rattle.trace_audit.specs.Machine.{Answer, Opens, Step, Run, Tells}
+use Rattle.event_floor.specs.Runs.{Answers, Runs}
+use Rattle.trace_audit.specs.Machine.{Answer, Opens, told}
 use Rattle.trace_audit.specs.Report.{answer_line, no_memory_line}
-use Rattle.trace_audit.specs.Replay.{request_line, IsBadFront, IsPartial, EndsSo, tail_text}
+use Rattle.trace_audit.specs.Trace.{request_line}
+use Rattle.trace_audit.specs.Replay.{IsBadFront, IsPartial, EndsSo, tail_text}
 use Rattle.trace_audit.specs.Wire.{Begins}
 use Rattle.trace_audit.specs.declared.grammar.header.Header.{Header}
-use Rattle.trace_audit.specs.declared.report.closing.Tally.{Tally}
 use Rattle.trace_audit.specs.declared.lines.Next.{Next}
 use Rattle.trace_audit.specs.declared.lines.Next.TheVariants.{Text, Over, Bad}
 use Rattle.trace_audit.specs.declared.replaying.turn.Turn.{Turn}
@@ -28,14 +29,14 @@ Took bytes held at_end Bad = (bytes ≡ held) × Lacks 10 held × ((65 ≤ lengt
 
 -- what one line came to: the floor goes from old to new, the writer's bytes from out0 to out
 abbrev pub Turned : List ℕ → List ℕ → Type 0 → FloorSeen → FloorSeen → Option (List ℕ) → Option (List ℕ) → Turn → Type 0
-Turned bytes held at_end old new out0 out turns.Answered = (r : Request) × (x : Answer) × IsRequest r × (bytes ≡ request_line r ++ held) × Step old r x new × Appends out0 out (answer_line x)
+Turned bytes held at_end old new out0 out turns.Answered = (r : Request) × (x : Answer) × IsRequest r × (bytes ≡ request_line r ++ held) × Answers old r x new × Appends out0 out (answer_line x)
 Turned bytes held at_end old new out0 out turns.Over = (bytes ≡ []) × (held ≡ []) × at_end × (new ≡ old) × (out ≡ out0)
 Turned bytes held at_end old new out0 out turns.Bad = (bytes ≢ []) × IsBadFront bytes at_end × (new ≡ old) × (out ≡ out0)
 
 -- where the reader or the writer failed within a line
 abbrev pub Broke : List ℕ → List ℕ → FloorSeen → FloorSeen → Option (List ℕ) → Option (List ℕ) → ReplayError → Type 0
 Broke bytes held old new out0 out Read = (bytes ≡ held) × IsPartial held × (new ≡ old) × (out ≡ out0)
-Broke bytes held old new out0 out Write = (r : Request) × (x : Answer) × IsRequest r × (bytes ≡ request_line r ++ held) × Step old r x new × Begins out0 out (answer_line x)
+Broke bytes held old new out0 out Write = (r : Request) × (x : Answer) × IsRequest r × (bytes ≡ request_line r ++ held) × Answers old r x new × Begins out0 out (answer_line x)
 
 -- What was held and what was read are n request lines and a rest; the floor was driven by them, and P holds of the
 -- lines of its answers, with the tail behind them.
@@ -47,13 +48,13 @@ pub record Played (left0 left : Option (List ℕ)) (held0 rest : List ℕ) (star
   pub lines : held0 ++ given ≡ flat_map request_line requests ++ rest
   pub good : AllByRecursion IsRequest requests
   pub number : length requests ≡ n
-  pub run : Run start requests answers now
+  pub run : Runs start requests answers now
   pub wrote : P (flat_map answer_line answers ++ tail)
 
 -- the request lines were read to an end, and the report was written
 abbrev pub Ended : Option (List ℕ) → Option (List ℕ) → List ℕ → FloorSeen → Option (List ℕ) → Option (List ℕ) → End → Type 0
-Ended left0 left held0 start out0 out end = (now : FloorSeen) × (tally : Tally) × (n : ℕ) × (rest : List ℕ)
-    × Played left0 left held0 rest start now n (tail_text tally end) (Appends out0 out) × Tells now tally × EndsSo n rest (IsAtEnd left) end
+Ended left0 left held0 start out0 out end = (now : FloorSeen) × (n : ℕ) × (rest : List ℕ)
+    × Played left0 left held0 rest start now n (tail_text (told now) end) (Appends out0 out) × EndsSo n rest (IsAtEnd left) end
 
 -- the reader or the writer failed before
 abbrev pub Stopped : Option (List ℕ) → Option (List ℕ) → List ℕ → FloorSeen → Option (List ℕ) → Option (List ℕ) → ReplayError → Type 0
@@ -61,12 +62,12 @@ Stopped left0 left held0 start out0 out Read = (now : FloorSeen) × (n : ℕ) ×
     × Played left0 left held0 rest start now n [] (Appends out0 out) × (n ≤ 999999) × IsPartial rest × (n ≡ 999999 → rest ≡ [])
 Stopped left0 left held0 start out0 out Write = (now : FloorSeen) × (n : ℕ) × (rest : List ℕ) × (tail : List ℕ)
     × Played left0 left held0 rest start now n tail (Begins out0 out) × (n ≤ 999999)
-    × ((tail ≡ []) ⊎ ((end : End) × (tally : Tally) × EndsSo n rest (IsAtEnd left) end × Tells now tally × (tail ≡ tail_text tally end)))
+    × ((tail ≡ []) ⊎ ((end : End) × EndsSo n rest (IsAtEnd left) end × (tail ≡ tail_text (told now) end)))
 
 -- the tail of an end was written, or a beginning of it
 abbrev pub Finishes : FloorSeen → End → Option (List ℕ) → Option (List ℕ) → Bool → Result End ReplayError → Type 0
-Finishes floor end old new failed (Ok e) = (e ≡ end) × (failed ≡ false) × (tally : Tally) × Tells floor tally × Appends old new (tail_text tally end)
-Finishes floor end old new failed (Err e) = (e ≡ Write) × (failed ≡ true) × (tally : Tally) × Tells floor tally × Begins old new (tail_text tally end)
+Finishes floor end old new failed (Ok e) = (e ≡ end) × (failed ≡ false) × Appends old new (tail_text (told floor) end)
+Finishes floor end old new failed (Err e) = (e ≡ Write) × (failed ≡ true) × Begins old new (tail_text (told floor) end)
 
 -- a floor of the header was driven to the end, or there is no room for one and the reader was left alone
 abbrev pub Houses : Option (List ℕ) → Option (List ℕ) → List ℕ → Header → Option (List ℕ) → Option (List ℕ) → End → Type 0

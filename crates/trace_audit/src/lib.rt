@@ -1,10 +1,15 @@
 //! Traces of a buffer pool: [`replay`] reads one, drives a floor with it, and writes a report.
 //!
-//! The formats of the trace and of the report stand in `docs/FORMATS.md`. A trace comes from a [`Source`], a report
-//! goes to a [`Sink`]; over readers and writers of std these are [`FromReader`] and [`ToWriter`].
+//! [`audit`] says whether all slots of the chunks that a pool drew are there, each of them once.
+//!
+//! The formats of the trace and of the report stand in `docs/FORMATS.md`. A trace comes from a
+//! [`Source`], a report goes to a [`Sink`]; over readers and writers of std these are
+//! [`FromReader`] and [`ToWriter`].
 #![tactic(auto)]
 
+mod auditing;
 mod grammar;
+pub mod laws;
 mod lines;
 mod replaying;
 mod report;
@@ -12,7 +17,8 @@ mod report;
 mod tests;
 mod wire;
 
+pub use auditing::{Drawn, Fault, audit};
 pub use grammar::Header;
 pub use replaying::{End, ReplayError, replay};
-pub use report::{Counts, Tally};
+pub use report::{Counts, write_audit};
 pub use wire::{Failed, FromReader, Sink, Source, ToWriter, write_all};

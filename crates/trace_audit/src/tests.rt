@@ -1,7 +1,9 @@
-//! Traces and their reports, byte for byte.
+//! Traces and their reports, byte for byte, and what an audit answers.
 
+mod audits;
 mod bad_lines;
 mod failing;
 mod long;
 mod memory;
 mod rows;
+mod travels;

@@ -1,14 +1,18 @@
 //! The header line.
-ghost use Rattle.std.specs.Prelude.{◌≡◌, ◌↔◌, IsTrue, IfSome, IfNone, codes};
+ghost use Rattle.std.specs.Prelude.{◌≡◌, ◌↔◌, IsTrue, IfSome, IfNone};
+ghost use Rattle.region_cut.specs.declared.profile.Profile.{Profile};
 ghost use Rattle.trace_audit.specs.declared.grammar.header.Header.{Header};
-ghost use Rattle.trace_audit.specs.Grammar.{header_text, header_words, AreWords, IsHeader};
+ghost use Rattle.trace_audit.specs.Grammar.{profile_text, desks_of, header_text, header_words, AreWords, IsHeader};
 
 use super::words::{cut_at, number, two};
+use region_cut::Profile;
 
 /// The numbers of a header line.
-#[derive(Clone, Copy, Debug, PartialEq, Eq, Drop)]
+#[derive(Clone, Copy, Debug, PartialEq, Eq)]
 pub struct Header {
-    /// How many desks the floor has, 1 to 64.
+    /// How many bits the number of a desk has, and which classes are used: `pool` or `pool2`.
+    pub profile: Profile,
+    /// How many desks the floor has, 1 to 64, or to 4,096 for `pool2`.
     pub desks: u32,
     /// How many chunks of 4,096 bytes the region has, at most 1,024.
     pub chunks: u32,
@@ -16,12 +20,24 @@ pub struct Header {
     pub width: u32,
 }
 
-fn is_pool(word: &[u8]) -> bool
-    ensures { IsTrue result ↔ (word.now ≡ codes "pool") }
+fn read_profile(word: &[u8]) -> Option<Profile>
+    ensures found { IfSome result (λ p. word.now ≡ profile_text p) }
+    ensures none { IfNone result ((p : Profile) → word.now ≡ profile_text p → ⊥) }
 {
     match word {
-        b"pool" => true,
-        _ => false,
+        b"pool" => Some(Profile::Pool),
+        b"pool2" => Some(Profile::Pool2),
+        _ => None,
+    }
+}
+
+/// How many desks a floor may have.
+fn most_desks(profile: Profile) -> u32
+    ensures { result ≡ desks_of profile }
+{
+    match profile {
+        Profile::Pool => 64,
+        Profile::Pool2 => 4096,
     }
 }
 
@@ -29,36 +45,37 @@ fn is_in_range(header: Header) -> bool
     ensures { IsTrue result ↔ IsHeader header }
 {
     header.desks >= 1
-        && header.desks <= 64
+        && header.desks <= most_desks(header.profile)
         && header.chunks <= 1024
         && header.width >= 1
         && header.width <= 6
 }
 
-fn header_numbers(bytes: &[u8]) -> Option<Header>
-    ensures found { IfSome result (λ h. AreWords h × (bytes.now ≡ header_words h)) }
+/// The header of these words behind the first.
+fn header_numbers(profile: Profile, bytes: &[u8]) -> Option<Header>
+    ensures found { IfSome result (λ h. AreWords h × (h.profile ≡ profile) × (bytes.now ≡ header_words h)) }
     ensures none { IfNone result ((h : Header) → AreWords h → bytes.now ≡ header_words h → ⊥) }
 {
     let (front, back) = cut_at(bytes, b' ')?;
     let desks = number(front)?;
     let (chunks, width) = two(back, b' ')?;
     Some(Header {
+        profile,
         desks,
         chunks,
         width,
     })
 }
 
-/// The header that the line spells, with its numbers in their ranges. The line comes without its line feed.
+/// The header that the line spells, with its numbers in their ranges. The line comes without its
+/// line feed.
 pub fn read_header(line: &[u8]) -> Option<Header>
     ensures found { IfSome result (λ h. IsHeader h × (line.now ≡ header_text h)) }
     ensures none { IfNone result ((h : Header) → IsHeader h → line.now ≡ header_text h → ⊥) }
 {
     let (word, rest) = cut_at(line, b' ')?;
-    if !is_pool(word) {
-        return None;
-    }
-    let header = header_numbers(rest)?;
+    let profile = read_profile(word)?;
+    let header = header_numbers(profile, rest)?;
     if !is_in_range(header) {
         return None;
     }

@@ -11,9 +11,13 @@ use event_floor::Request;
 #[derive(Clone, Copy, Debug, PartialEq, Eq, Drop)]
 pub enum Verb {
     Adopts,
+    Retires,
     Claims,
     Allocs,
     Frees,
+    Sends,
+    Links,
+    Takes,
 }
 
 fn read_verb(word: &[u8]) -> Option<Verb>
@@ -22,9 +26,13 @@ fn read_verb(word: &[u8]) -> Option<Verb>
 {
     match word {
         b"adopt" => Some(Verb::Adopts),
+        b"retire" => Some(Verb::Retires),
         b"claim" => Some(Verb::Claims),
         b"alloc" => Some(Verb::Allocs),
         b"free" => Some(Verb::Frees),
+        b"send" => Some(Verb::Sends),
+        b"link" => Some(Verb::Links),
+        b"take" => Some(Verb::Takes),
         _ => None,
     }
 }
@@ -41,6 +49,10 @@ pub fn read_request(line: &[u8]) -> Option<Request>
             let (desk, worker) = two(rest, b' ')?;
             Some(Request::Adopt(desk, worker))
         }
+        Verb::Retires => {
+            let desk = number(rest)?;
+            Some(Request::Retire(desk))
+        }
         Verb::Claims => {
             let (desk, class) = two(rest, b' ')?;
             Some(Request::Claim(desk, class))
@@ -54,6 +66,18 @@ pub fn read_request(line: &[u8]) -> Option<Request>
             let desk = number(front)?;
             let (chunk, index) = two(slot, b'.')?;
             Some(Request::Free(desk, (chunk, index)))
+        }
+        Verb::Sends => {
+            let (desk, to) = two(rest, b' ')?;
+            Some(Request::Send(desk, to))
+        }
+        Verb::Links => {
+            let batch = number(rest)?;
+            Some(Request::Link(batch))
+        }
+        Verb::Takes => {
+            let desk = number(rest)?;
+            Some(Request::Take(desk))
         }
     }
 }

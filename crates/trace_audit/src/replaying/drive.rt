@@ -1,6 +1,5 @@
 //! All lines behind the header.
-ghost use Rattle.std.specs.Prelude.{◌≡◌, ◌≤◌, false, IfOk, IfErr};
-ghost use Rattle.event_floor.specs.Floors.{desk_count};
+ghost use Rattle.std.specs.Prelude.{◌≡◌, false, IfOk, IfErr};
 ghost use Rattle.trace_audit.specs.Replay.{Failures};
 ghost use Rattle.trace_audit.specs.Steps.{Ended, Stopped};
 
@@ -16,13 +15,10 @@ use std::alloc::Global;
 pub fn drive<R: Source, W: Sink>(
     alloc: Global,
     floor: &mut Floor<'_>,
-    desks: u32,
     held: &mut Held,
     reader: &mut R,
     writer: &mut W,
 ) -> Result<End, ReplayError>
-    requires desks { desks ≡ desk_count floor.old }
-    requires few { desks ≤ 64 }
     requires reader_down { R.has_failed reader.old ≡ false }
     requires writer_down { W.has_failed writer.old ≡ false }
     ensures ended { IfOk result (λ end. Ended (R.remaining reader.old) (R.remaining reader.new) held.old.items floor.old (W.contents writer.old) (W.contents writer.new) end) }
@@ -33,14 +29,14 @@ pub fn drive<R: Source, W: Sink>(
     for number in 2..1_000_001u32 {
         match one_line(alloc, floor, held, reader, writer) {
             Ok(Turn::Answered) => {}
-            Ok(Turn::Over) => return finish(floor, desks, writer, End::Whole),
-            Ok(Turn::Bad) => return finish(floor, desks, writer, End::BadLine(number)),
+            Ok(Turn::Over) => return finish(floor, writer, End::Whole),
+            Ok(Turn::Bad) => return finish(floor, writer, End::BadLine(number)),
             Err(error) => return Err(error),
         }
     }
     match is_over(held, reader) {
-        Ok(true) => finish(floor, desks, writer, End::Whole),
-        Ok(false) => finish(floor, desks, writer, End::BadLine(1_000_001)),
+        Ok(true) => finish(floor, writer, End::Whole),
+        Ok(false) => finish(floor, writer, End::BadLine(1_000_001)),
         Err(_) => Err(ReplayError::Read),
     }
 }

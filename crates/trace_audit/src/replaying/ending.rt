@@ -1,11 +1,10 @@
 //! How a replay ends.
-ghost use Rattle.std.specs.Prelude.{◌≡◌, ◌≤◌, true, false, IfOk, IfErr};
+ghost use Rattle.std.specs.Prelude.{◌≡◌, true, false, IfOk, IfErr};
 ghost use Rattle.std.specs.Io.KnownBytes.{Appends};
-ghost use Rattle.event_floor.specs.Floors.{desk_count};
 ghost use Rattle.trace_audit.specs.Steps.{Finishes};
 ghost use Rattle.trace_audit.specs.Wire.{Begins};
 
-use crate::report::{close, line_of_bad, tally_of};
+use crate::report::{close, line_of_bad};
 use crate::wire::{Sink, write_all};
 use event_floor::Floor;
 use thiserror::Error;
@@ -33,27 +32,19 @@ pub enum ReplayError {
 }
 
 /// Writes what stands behind the answers.
-pub fn finish<W: Sink>(
-    floor: &Floor<'_>,
-    desks: u32,
-    writer: &mut W,
-    end: End,
-) -> Result<End, ReplayError>
-    requires desks { desks ≡ desk_count floor.now }
-    requires few { desks ≤ 64 }
-    requires down { W.has_failed writer.old ≡ false }
+pub fn finish<W: Sink>(floor: &Floor<'_>, writer: &mut W, end: End) -> Result<End, ReplayError>
+    requires { W.has_failed writer.old ≡ false }
     ensures { Finishes floor.now end (W.contents writer.old) (W.contents writer.new) (W.has_failed writer.new) result }
 {
-    let tally = tally_of(floor, desks);
     match end {
-        End::Whole => match close(&tally, writer) {
+        End::Whole => match close(floor, writer) {
             Ok(()) => Ok(end),
             Err(_) => Err(ReplayError::Write),
         },
         End::BadLine(number) => {
             let line = line_of_bad(number);
             match write_all(writer, line.as_slice()) {
-                Ok(()) => match close(&tally, writer) {
+                Ok(()) => match close(floor, writer) {
                     Ok(()) => Ok(end),
                     Err(_) => Err(ReplayError::Write),
                 },

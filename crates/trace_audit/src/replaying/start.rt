@@ -1,8 +1,7 @@
 //! From the header on.
-ghost use Rattle.std.specs.Prelude.{◌≡◌, ◌≤◌, ◌*◌, length, false, IfOk, IfErr, IfSome};
+ghost use Rattle.std.specs.Prelude.{◌≡◌, ◌≤◌, ◌*◌, ◌↔◌, length, false, IfOk, IfErr, IfSome, IsSome};
 ghost use Rattle.std.specs.Io.KnownBytes.{Appends};
-ghost use Rattle.event_floor.specs.Floors.{desk_count};
-ghost use Rattle.trace_audit.specs.Machine.{Opens};
+ghost use Rattle.trace_audit.specs.Machine.{Opens, digits_of};
 ghost use Rattle.trace_audit.specs.Grammar.{IsHeader};
 ghost use Rattle.trace_audit.specs.Replay.{Failures, Fails, Reports, ReportsTrace};
 ghost use Rattle.trace_audit.specs.Steps.{Houses, FailsHousing};
@@ -15,7 +14,7 @@ use crate::lines::{Held, Next, next_line};
 use crate::wire::{Sink, Source};
 use digit_route::Digits;
 use event_floor::Floor;
-use region_cut::{CHUNK, cut};
+use region_cut::{CHUNK, Profile, cut};
 use slot_chain::NoMemory;
 use std::alloc::{AllocError, Global};
 
@@ -30,6 +29,17 @@ fn region_of(alloc: Global, chunks: u32) -> Result<Vec<u8>, AllocError>
     vec![in alloc; 0u8; chunks as usize * CHUNK]
 }
 
+/// How the numbers of the header's desks are read.
+fn digits_of(header: Header) -> Option<Digits>
+    ensures some { IsSome result ↔ ((1 ≤ header.width) × (header.width ≤ 6)) }
+    ensures value { IfSome result (λ digits. digits ≡ digits_of header) }
+{
+    match header.profile {
+        Profile::Pool => Digits::new(header.width),
+        Profile::Pool2 => Digits::new2(header.width),
+    }
+}
+
 /// The floor of the header over the region's chunks.
 fn floor_over<'r>(
     alloc: Global,
@@ -38,10 +48,9 @@ fn floor_over<'r>(
 ) -> Result<Floor<'r>, NoMemory>
     requires header { IsHeader header }
     requires region { length region.old ≡ header.chunks * 4096 }
-    ensures opens { IfOk result (λ floor. Opens header floor) }
-    ensures desks { IfOk result (λ floor. desk_count floor ≡ header.desks) }
+    ensures { IfOk result (λ floor. Opens header floor) }
 {
-    let Some(digits) = Digits::new(header.width) else {
+    let Some(digits) = digits_of(header) else {
         unreachable!()
     };
     match cut(alloc, region) {
@@ -72,7 +81,7 @@ fn on_floor<R: Source, W: Sink>(
             match floor_over(alloc, region.as_mut_slice(), header) {
                 Ok(made) => {
                     let mut floor = made;
-                    drive(alloc, &mut floor, header.desks, held, reader, writer)
+                    drive(alloc, &mut floor, held, reader, writer)
                 }
                 Err(_) => only(writer, b"R15 NoMemory\n", End::NoRoom),
             }

@@ -1,8 +1,7 @@
 //! One line of a trace.
 ghost use Rattle.std.specs.Prelude.{◌≡◌, ℕ, List, ◌++◌, false, IfOk, IfErr};
 ghost use Rattle.std.specs.Io.KnownBytes.{Consumes, IsAtEnd};
-ghost use Rattle.event_floor.specs.Floors.{desk_count};
-ghost use Rattle.trace_audit.specs.Machine.{Step};
+ghost use Rattle.event_floor.specs.Runs.{Answers};
 ghost use Rattle.trace_audit.specs.Replay.{Failures};
 ghost use Rattle.trace_audit.specs.Steps.{Turned, Broke};
 
@@ -27,8 +26,7 @@ pub enum Turn {
 
 /// Hands the request to the floor.
 fn answer_of(alloc: Global, floor: &mut Floor<'_>, request: Request) -> Result<Reply, Refusal>
-    ensures step { Step floor.old request result floor.new }
-    ensures desks { desk_count floor.new ≡ desk_count floor.old }
+    ensures { Answers floor.old request result floor.new }
 {
     floor.apply(alloc, request)
 }
@@ -47,7 +45,6 @@ pub fn one_line<R: Source, W: Sink>(
     ensures down { IfOk result (λ _. (R.has_failed reader.new ≡ false) × (W.has_failed writer.new ≡ false)) }
     ensures broke { IfErr result (λ e. (given : List ℕ) × Consumes (R.remaining reader.old) (R.remaining reader.new) given × Broke (held.old.items ++ given) held.new.items floor.old floor.new (W.contents writer.old) (W.contents writer.new) e) }
     ensures up { IfErr result (λ e. Failures (R.has_failed reader.new) (W.has_failed writer.new) e) }
-    ensures desks { desk_count floor.new ≡ desk_count floor.old }
 {
     match next_line(held, reader) {
         Ok(Next::Text(text)) => match read_request(text.as_slice()) {

@@ -8,10 +8,11 @@ use super::text::{Line, push_number, push_text};
 use event_floor::{Refusal, Reply};
 use region_cut::Slot;
 
-fn push_slot(line: &mut Line, slot: Slot)
-    requires { array_vec_len line.old ≤ 10 }
+/// Adds the slot, as `0.0`.
+pub fn push_slot(line: &mut Line, slot: Slot)
+    requires { array_vec_len line.old ≤ 20 }
     ensures items { line.new.items ≡ line.old.items ++ printed slot }
-    ensures len { array_vec_len line.new ≤ 60 }
+    ensures len { array_vec_len line.new ≤ 61 }
 {
     push_number(line, u64::from(slot.chunk));
     push_text(line, b".");
@@ -36,6 +37,18 @@ fn push_reply(line: &mut Line, reply: Reply)
         Reply::Home => push_text(line, b"home"),
         Reply::Cached => push_text(line, b"cached"),
         Reply::Due => push_text(line, b"due"),
+        Reply::Batch(number, count) => {
+            push_text(line, b"batch ");
+            push_number(line, u64::from(number));
+            push_text(line, b" ");
+            push_number(line, count);
+        }
+        Reply::Counts(home, on) => {
+            push_text(line, b"home ");
+            push_number(line, home);
+            push_text(line, b" on ");
+            push_number(line, on);
+        }
     }
 }
 

@@ -1,14 +1,13 @@
 //! The closing lines: what each desk has, and the sums over all of them.
-ghost use Rattle.std.specs.Prelude.{◌≡◌, ◌≤◌, ◌+◌, ◌++◌, length, false};
+ghost use Rattle.std.specs.Prelude.{◌≡◌, ◌≤◌, ◌<◌, ◌+◌, ◌++◌, length, count_by, is_some, false};
 ghost use Rattle.arrayvec.specs.ArrayVec.{array_vec_len};
 ghost use Rattle.event_floor.specs.Floors.{desk_count};
-ghost use Rattle.trace_audit.specs.Machine.{Tells};
+ghost use Rattle.trace_audit.specs.Machine.{counts_at, told};
 ghost use Rattle.trace_audit.specs.Report.{closing, counts_text, desk_line, end_line, total};
 ghost use Rattle.trace_audit.specs.Wire.{Writes};
 
 use super::text::{Line, push_number, push_text};
 use crate::wire::{Failed, Sink, write_all};
-use arrayvec::ArrayVec;
 use event_floor::Floor;
 
 /// How many slots are at home, in a cache and in an inbox.
@@ -41,73 +40,54 @@ impl Counts {
     }
 }
 
-/// What the closing lines tell.
-#[derive(Drop)]
-pub struct Tally {
-    /// How many chunks are drawn.
-    pub chunks: u64,
-    /// How many buffers are lent.
-    pub lent: u64,
-    /// The counts of each desk, in order of its number.
-    pub desks: ArrayVec<Counts, 64>,
-}
-
-/// What a floor of so many desks has to tell. Takes time in the number of its slots, and no memory.
-pub fn tally_of(floor: &Floor<'_>, desks: u32) -> Tally
-    requires desks { desks ≡ desk_count floor.now }
-    requires few { desks ≤ 64 }
-    ensures { Tells floor.now result }
+/// What one desk has.
+fn counts_of(floor: &Floor<'_>, desk: u32) -> Counts
+    requires { desk < desk_count floor.now }
+    ensures { result ≡ counts_at floor.now desk }
 {
-    let mut counted = ArrayVec::<Counts, 64>::new();
-    for desk in 0..desks {
-        let (home, cached, queued) = floor.counts(desk);
-        counted.push(Counts {
-            home,
-            cached,
-            queued,
-        });
-    }
-    Tally {
-        chunks: floor.drawn_count(),
-        lent: floor.lent_count(),
-        desks: counted,
+    let (home, cached, queued) = floor.counts(desk);
+    Counts {
+        home,
+        cached,
+        queued,
     }
 }
 
 /// The sum over all desks.
-fn total(desks: &[Counts]) -> Counts
-    ensures { result ≡ total desks.now }
+fn total(floor: &Floor<'_>) -> Counts
+    ensures { result ≡ total (told floor.now).desks }
 {
+    let desks = floor.desk_count();
     let mut sum = Counts::default();
-    for counts in desks {
-        sum = sum.plus(*counts);
+    for desk in 0..desks {
+        sum = sum.plus(counts_of(floor, desk));
     }
     sum
 }
 
 /// The line of a desk; nothing where each of its counts is 0.
-fn line_of_desk(desk: u64, counts: Counts) -> Line
+fn line_of_desk(desk: u32, counts: Counts) -> Line
     ensures { result.items ≡ desk_line desk counts }
 {
     let mut line = Line::new();
     if !counts.is_zero() {
         push_text(&mut line, b"desk ");
-        push_number(&mut line, desk);
+        push_number(&mut line, u64::from(desk));
         push_counts(&mut line, counts);
     }
     line
 }
 
 /// The last line.
-fn line_of_end(tally: &Tally) -> Line
-    ensures { result.items ≡ end_line tally.now }
+fn line_of_end(floor: &Floor<'_>) -> Line
+    ensures { result.items ≡ end_line (told floor.now) }
 {
     let mut line = Line::new();
     push_text(&mut line, b"end chunks ");
-    push_number(&mut line, tally.chunks);
+    push_number(&mut line, floor.drawn_count());
     push_text(&mut line, b" lent ");
-    push_number(&mut line, tally.lent);
-    push_counts(&mut line, total(tally.desks.as_slice()));
+    push_number(&mut line, floor.lent_count());
+    push_counts(&mut line, total(floor));
     line
 }
 
@@ -125,19 +105,19 @@ fn push_counts(line: &mut Line, counts: Counts)
     push_text(line, b"\n");
 }
 
-/// Writes the closing lines.
-pub fn close<W: Sink>(tally: &Tally, writer: &mut W) -> Result<(), Failed>
+/// Writes the closing lines. Takes no memory, and time in the number of the floor's slots.
+pub fn close<W: Sink>(floor: &Floor<'_>, writer: &mut W) -> Result<(), Failed>
     requires { W.has_failed writer.old ≡ false }
-    ensures { Writes (W.contents writer.old) (W.contents writer.new) (W.has_failed writer.new) (closing tally.now) result }
+    ensures { Writes (W.contents writer.old) (W.contents writer.new) (W.has_failed writer.new) (closing (told floor.now)) result }
 {
-    let desks = tally.desks.as_slice();
-    for (desk, counts) in desks.iter().enumerate() {
-        let line = line_of_desk(desk as u64, *counts);
+    let desks = floor.desk_count();
+    for desk in 0..desks {
+        let line = line_of_desk(desk, counts_of(floor, desk));
         match write_all(writer, line.as_slice()) {
             Ok(()) => {}
             Err(failed) => return Err(failed),
         }
     }
-    let line = line_of_end(tally);
+    let line = line_of_end(floor);
     write_all(writer, line.as_slice())
 }

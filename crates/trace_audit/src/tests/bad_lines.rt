@@ -7,7 +7,7 @@ const FRONT: &[u8] = b"pool 1 1 2\nadopt 0 0\n";
 
 #[test]
 fn a_bad_line_ends_the_trace(rt: HostRuntime) -> Result<(), Fail> {
-    let lines: [&[u8]; 23] = [
+    let lines: [&[u8]; 26] = [
         b"",
         b" alloc 0 1",
         b"alloc  0 1",
@@ -26,12 +26,14 @@ fn a_bad_line_ends_the_trace(rt: HostRuntime) -> Result<(), Fail> {
         b"\xff",
         b"aaaaaaaaaaaaaaaaaaaaaaaaaaaaaaaaaaaaaaaaaaaaaaaaaaaaaaaaaaaaaaaaa",
         b"alloc 0 1                                                        ",
-        // The remaining verbs are not read so far.
-        b"retire 0",
-        b"send 0 0",
-        b"link 1",
-        b"take 0",
+        b"retire 0 0",
+        b"send 0",
+        b"send 0 0.0",
+        b"link 1 ",
+        b"link 4294967296",
+        b"take",
         b"adopt 0 0 0",
+        b"pool2 1 1 2",
     ];
     for line in lines {
         let mut trace = Vec::from_slice(rt.alloc(), FRONT)?;
@@ -49,11 +51,16 @@ fn a_bad_line_ends_the_trace(rt: HostRuntime) -> Result<(), Fail> {
 #[test]
 fn a_number_out_of_range_is_no_bad_line(rt: HostRuntime) -> Result<(), Fail> {
     let mut trace = Vec::from_slice(rt.alloc(), FRONT)?;
-    trace.extend_from_slice(b"free 0 4294967295.4294967295\nadopt 0 4294967295\n")?;
+    trace.extend_from_slice(
+        b"free 0 4294967295.4294967295\nadopt 0 4294967295\n\
+        retire 4294967295\nsend 0 4294967295\nlink 4294967295\nlink 0\ntake 4294967295\n",
+    )?;
     let (end, bytes) = replayed(rt.alloc(), trace.as_slice());
     assert!(rt; end == Ok(End::Whole));
     let report =
-        b"ok\nR07 NotLent\nR14 Held\nend chunks 0 lent 0 home 0 cached 0 queued 0\n".as_slice();
+        b"ok\nR07 NotLent\nR14 Held\nR01 NoDesk\nR01 NoDesk\nR11 NoBatch\nR11 NoBatch\nR01 NoDesk\n\
+        end chunks 0 lent 0 home 0 cached 0 queued 0\n"
+            .as_slice();
     assert!(rt; bytes.as_slice() == report);
     Ok(())
 }

@@ -128,7 +128,11 @@ fn bad_headers(rt: HostRuntime) {
         "pool 1 1 0\n",
         "pool 1 1\n",
         "pool 1 1 2 3\n",
-        "pool2 1 1 2\n",
+        "pool2 4097 1 2\n",
+        "pool2 0 1 2\n",
+        "pool2 1 1025 2\n",
+        "pool2 1 1 7\n",
+        "pool3 1 1 2\n",
         "adopt 0 0\n",
         "pool 1 1 2",
     ];

@@ -1,4 +1,4 @@
-use Rattle.std.proofs.Common.{rules, arith, inl, inr, [], refl, sym, ◌∙◌, append-nil}
+use Rattle.std.proofs.Common.{rules, arith, inl, inr, [], refl, ◌∙◌, append-nil}
 use Rattle.std.proofs.KnownBytes.{Appends-trans}
 use Rattle.trace_audit.proofs.Fronts.{not_empty}
 use Rattle.trace_audit.proofs.Plays.{played_start, played_more, end_ok, end_err, stopped_by, stopped_last}
@@ -6,14 +6,13 @@ use Rattle.trace_audit.specs.declared.replaying.ending.End.TheVariants.{Whole, B
 use Rattle.trace_audit.proofs.replaying.drive.drive.Goals as goal
 
 pub loop-number-init : goal.loop-number-init
-loop-number-init g c = record { lines = played_start _ _ _ _; counted = c.requires.desks; reader_down = c.requires.reader_down; writer_down = c.requires.writer_down }
+loop-number-init g c = record { lines = played_start _ _ _ _; reader_down = c.requires.reader_down; writer_down = c.requires.writer_down }
 
 pub loop-number-preserved : goal.loop-number-preserved
 loop-number-preserved g c =
     let t = rw c.in-Ok-Answered.field-0-is at c.in-Ok-Answered.ensures.turn in
     record {
       lines = played_more _ _ _ _ _ _ _ _ _ _ _ _ _ c.loop-number.invariant.lines (omega arith) t.0 t.2.0 t.2.1 t.1 t.2.3 t.2.2 t.2.4 (λ text h. Appends-trans _ _ _ text _ h t.2.5);
-      counted = c.loop-number.invariant.counted ∙ sym c.one_line.ensures.desks;
       reader_down = c.in-Ok-Answered.ensures.down.0;
       writer_down = c.in-Ok-Answered.ensures.down.1;
     }

@@ -12,7 +12,7 @@ returns-in-Err-write_all-clause-broke g c =
         c.answer_of-answer.result,
         c.in-Some.ensures.found.0,
         answered_line _ c.in-Ok-Text.text.items c.as_slice.result.now _ c.in-Some.request p.2.0 c.as_slice.ensures.value c.in-Some.ensures.found.1,
-        c.answer_of-answer.ensures.step,
+        c.answer_of-answer.ensures,
         begins_same _ _ _ _ (c.as_slice-in-Some.ensures.value ∙ c.line_of_answer-line.ensures) c.in-Err-write_all.ensures.0,
       ),
     )

@@ -1,6 +1,7 @@
 use Rattle.std.proofs.Common.{◌≡◌, take}
+use Rattle.trace_audit.specs.Machine.{told}
 use Rattle.trace_audit.specs.Report.{total}
 use Rattle.trace_audit.proofs.report.closing.total.Given as goal
 
-abbrev pub invariant-loop-counts : goal.invariant-loop-counts
-invariant-loop-counts l = l.sum ≡ total (take l.counts-index l.desks)
+abbrev pub invariant-loop-desk : goal.invariant-loop-desk
+invariant-loop-desk l = l.sum ≡ total (take l.desk (told l.floor).desks)

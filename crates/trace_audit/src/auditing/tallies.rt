@@ -1,0 +1,77 @@
+//! How often each slot of a drawn chunk is found, counted in one table.
+ghost use Rattle.std.specs.Prelude.{◌≡◌, ◌<◌, ◌+◌, ◌*◌, ℕ, length, slice_index, slice_set, min, IfSome, IfNone, IfOk};
+ghost use Rattle.trace_audit.specs.Audit.{IsDrawnSlot, IsLeast, IsNowhere};
+ghost use Rattle.trace_audit.specs.Tallies.{FitsTable, IsTally, HasCount};
+
+use super::Drawn;
+use super::strangers::is_drawn_slot;
+use region_cut::Slot;
+use std::alloc::{AllocError, Global};
+
+/// How many places the table has: 256 for each chunk, since no chunk has more slots.
+pub const PLACES: usize = 262_144;
+
+/// So many zeros.
+pub fn zeros(alloc: Global, count: usize) -> Result<Vec<u8>, AllocError>
+    ensures len { IfOk result (λ table. length table.items ≡ count) }
+    ensures zero { IfOk result (λ table. (k : ℕ) → slice_index table.items k ≡ 0) }
+{
+    vec![in alloc; 0u8; count]
+}
+
+/// Where the slot is counted, if it is one of a drawn chunk.
+fn place_of(drawn: &Drawn, slot: Slot) -> Option<usize>
+    ensures some { IfSome result (λ at. IsDrawnSlot drawn.now slot × (at ≡ slot.chunk * 256 + slot.index) × (at < 262144)) }
+    ensures none { IfNone result (IsDrawnSlot drawn.now slot → ⊥) }
+    ensures fits { FitsTable drawn.now }
+{
+    if is_drawn_slot(drawn, slot) {
+        Some(slot.chunk as usize * 256 + slot.index as usize)
+    } else {
+        None
+    }
+}
+
+/// Counts one more, but not beyond 2.
+fn count(table: &mut [u8], at: usize)
+    requires { at < length table.old }
+    ensures { table.new ≡ slice_set table.old at (min 1 (slice_index table.old at) + 1) }
+{
+    let seen = table[at];
+    table[at] = seen.min(1) + 1;
+}
+
+/// Counts each slot of a drawn chunk.
+pub fn tally(drawn: &Drawn, found: &[Slot], table: &mut [u8])
+    requires length { length table.old ≡ 262144 }
+    requires zero { (k : ℕ) → slice_index table.old k ≡ 0 }
+    ensures { IsTally drawn.now found.now table.new }
+{
+    for slot in found {
+        match place_of(drawn, *slot) {
+            Some(at) => count(table, at),
+            None => {}
+        }
+    }
+}
+
+/// The least slot of a drawn chunk with this count.
+pub fn least_with(drawn: &Drawn, table: &[u8], count: u8) -> Option<Slot>
+    requires { length table.now ≡ 262144 }
+    ensures some { IfSome result (λ s. IsLeast (HasCount drawn.now table.now count) s) }
+    ensures none { IfNone result (IsNowhere (HasCount drawn.now table.now count)) }
+{
+    let places = 256 * drawn.chunks() as u32;
+    for at in 0..places {
+        if table[at as usize] == count {
+            let slot = Slot {
+                chunk: (at / 256) as u16,
+                index: (at % 256) as u16,
+            };
+            if is_drawn_slot(drawn, slot) {
+                return Some(slot);
+            }
+        }
+    }
+    None
+}

@@ -1,0 +1,132 @@
+//! What an audit answers, and the line that tells it.
+use super::memory::Kept;
+use crate::{Drawn, Fault, audit, write_audit};
+use region_cut::{Class, Slot};
+use std::process::Abort;
+use std::test::Fail;
+
+/// Chunk 0 is drawn for the class of 512 bytes, 8 slots, and no other.
+fn one_chunk(rt: &impl Abort) -> Drawn {
+    let mut drawn = Drawn::new();
+    let Some(class) = Class::new(15) else {
+        panic!(rt; "there is a class 15")
+    };
+    drawn.note(0, class);
+    drawn
+}
+
+fn slot(chunk: u16, index: u16) -> Slot {
+    Slot { chunk, index }
+}
+
+/// The audit's answer is the one wanted, also where its table is refused and it is asked again.
+fn answers(
+    rt: &(impl Abort + AllocGlobal),
+    found: &[Slot],
+    drawn: &Drawn,
+    want: Result<(), Fault>,
+) {
+    let first = audit(rt.alloc(), found, drawn);
+    let answer = if first == Err(Fault::NoMemory) {
+        audit(rt.alloc(), found, drawn)
+    } else {
+        first
+    };
+    assert!(rt; answer == want, "{found:?}: {answer:?}");
+}
+
+#[test]
+fn each_slot_once(rt: HostRuntime) {
+    let order: [u16; 8] = [3, 0, 7, 1, 6, 2, 5, 4];
+    let found = order.map(|index| slot(0, index));
+    answers(&rt, &found, &one_chunk(&rt), Ok(()));
+    answers(&rt, &[], &Drawn::new(), Ok(()));
+}
+
+#[test]
+fn the_least_fault_is_named(rt: HostRuntime) {
+    let drawn = one_chunk(&rt);
+    let but_one = [1u16, 2, 3, 4, 5, 6, 7].map(|index| slot(0, index));
+    answers(&rt, &but_one, &drawn, Err(Fault::Missing(slot(0, 0))));
+    answers(&rt, &[], &drawn, Err(Fault::Missing(slot(0, 0))));
+    let doubled = [slot(0, 0), slot(0, 0), slot(0, 3)];
+    answers(&rt, &doubled, &drawn, Err(Fault::Doubled(slot(0, 0))));
+    let strange = [slot(0, 0), slot(0, 0), slot(1, 0), slot(0, 8)];
+    answers(&rt, &strange, &drawn, Err(Fault::Stranger(slot(0, 8))));
+}
+
+/// As many slots as there should be, of which one is there twice.
+#[test]
+fn the_number_is_not_enough(rt: HostRuntime) {
+    let order: [u16; 8] = [7, 6, 5, 4, 3, 2, 0, 0];
+    let found = order.map(|index| slot(0, index));
+    answers(
+        &rt,
+        &found,
+        &one_chunk(&rt),
+        Err(Fault::Doubled(slot(0, 0))),
+    );
+}
+
+/// Of the worked table: each class, and how many slots a chunk of it has.
+const SLOTS: [u16; 20] = [
+    256, 128, 85, 64, 51, 42, 36, 32, 25, 21, 18, 16, 12, 10, 9, 8, 6, 5, 4, 4,
+];
+
+#[test]
+fn a_chunk_of_each_class(rt: HostRuntime) -> Result<(), Fail> {
+    let mut drawn = Drawn::new();
+    let mut found = Vec::new(rt.alloc());
+    for (chunk, count) in SLOTS.iter().enumerate() {
+        let chunk = chunk as u16;
+        let Some(class) = Class::new(u32::from(chunk)) else {
+            continue;
+        };
+        drawn.note(chunk + 1000, class);
+        for index in 0..*count {
+            found.push(slot(chunk + 1000, index))?;
+        }
+    }
+    answers(&rt, found.as_slice(), &drawn, Ok(()));
+    found.push(slot(1019, 4))?;
+    let stranger = Err(Fault::Stranger(slot(1019, 4)));
+    answers(&rt, found.as_slice(), &drawn, stranger);
+    let _ = found.pop();
+    let _ = found.pop();
+    let missing = Err(Fault::Missing(slot(1019, 3)));
+    answers(&rt, found.as_slice(), &drawn, missing);
+    Ok(())
+}
+
+#[test]
+fn the_line_of_an_audit(rt: HostRuntime) {
+    let lines: [(Result<(), Fault>, &[u8]); 5] = [
+        (Ok(()), b"audit yes\n"),
+        (Err(Fault::Stranger(slot(0, 8))), b"audit stranger 0.8\n"),
+        (
+            Err(Fault::Doubled(slot(1023, 255))),
+            b"audit doubled 1023.255\n",
+        ),
+        (Err(Fault::Missing(slot(0, 0))), b"audit missing 0.0\n"),
+        (Err(Fault::NoMemory), b"audit no memory\n"),
+    ];
+    for (answer, line) in lines {
+        let mut writer = Kept::all(rt.alloc());
+        assert!(rt; write_audit(answer, &mut writer) == Ok(()));
+        assert!(rt; writer.bytes.as_slice() == line);
+    }
+}
+
+#[test]
+fn what_a_fault_says(rt: HostRuntime) -> Result<(), Fail> {
+    let texts = [
+        (Fault::Stranger(slot(0, 8)), "stranger 0.8"),
+        (Fault::Doubled(slot(1023, 255)), "doubled 1023.255"),
+        (Fault::Missing(slot(0, 0)), "missing 0.0"),
+        (Fault::NoMemory, "no memory"),
+    ];
+    for (fault, text) in texts {
+        assert!(rt; format!(in rt.alloc(); "{fault}")?.as_str() == text);
+    }
+    Ok(())
+}
