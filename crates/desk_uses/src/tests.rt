@@ -12,16 +12,13 @@ mod route;
 use digit_route::{Batch, Digits};
 use pool_desk::{Counts, Desk, DeskError, Freed, IdleDesk};
 use region_cut::{Class, CutError, Part, Profile, cut};
-use slot_chain::Buf;
+use slot_chain::{Buf, Chain};
 use std::alloc::Global;
 use std::process::Abort;
 
-// Bytes for a region.
-fn region(rt: &impl Abort, alloc: Global, len: usize, byte: u8) -> Vec<u8> {
-    if let Ok(bytes) = Vec::from_elem(alloc, byte, len) {
-        return bytes;
-    }
-    Vec::from_elem(alloc, byte, len).expect(rt, "memory is there again")
+// Bytes for a region, or none where memory for them was refused.
+fn region(alloc: Global, len: usize, byte: u8) -> Option<Vec<u8>> {
+    Vec::from_elem(alloc, byte, len).ok()
 }
 
 // The chunks of a region, or none where memory for the list of them was refused.
@@ -77,6 +74,20 @@ fn lend<'r>(rt: &impl Abort, alloc: Global, desk: &mut Desk<'r>, size: usize) ->
         return buf;
     }
     lend_or_not(rt, alloc, desk, size).expect(rt, "memory is there again")
+}
+
+// So many buffers are lent, for this many bytes each.
+fn lend_some<'r>(
+    rt: &impl Abort,
+    alloc: Global,
+    desk: &mut Desk<'r>,
+    size: usize,
+    count: u32,
+    lent: &mut Chain<'r>,
+) {
+    for _ in 0..count {
+        lent.push(lend(rt, alloc, desk, size));
+    }
 }
 
 fn free<'r>(rt: &impl Abort, desk: &mut Desk<'r>, buf: Buf<'r>) -> Freed {

@@ -1,73 +1,67 @@
-//! Lists that are too long for a recursion.
-use super::{claim, class, desk, free, lend, parts, region};
-use pool_desk::{Desk, Freed};
+//! Lists that are too long for a recursion: 400 chunks of 256 slots.
+use super::{claim, class, desk, free, lend_some, parts, region};
+use pool_desk::Desk;
 use region_cut::{CHUNK, Part};
 use slot_chain::Chain;
 use std::alloc::Global;
 use std::process::Abort;
 
-// 400 chunks of 256 slots.
-const COUNT: u64 = 102_400;
+const CHUNKS: u32 = 400;
 
-// All slots of a further chunk of class 0 are lent.
-fn lend_a_chunk<'r>(
-    rt: &impl Abort,
-    alloc: Global,
-    desk: &mut Desk<'r>,
-    parts: &mut Vec<Part<'r>>,
-    lent: &mut Chain<'r>,
-) {
-    claim(rt, desk, parts, class(0));
-    for _ in 0..256u32 {
-        lent.push(lend(rt, alloc, desk, 16));
-    }
-}
+const COUNT: u32 = 102_400;
 
-// All slots of all chunks are lent.
+// All slots of so many chunks of class 0 are lent.
 fn lend_all<'r>(
     rt: &impl Abort,
     alloc: Global,
     desk: &mut Desk<'r>,
     parts: &mut Vec<Part<'r>>,
+    chunks: u32,
 ) -> Chain<'r> {
     let mut lent = Chain::new();
-    for _ in 0..400u32 {
-        lend_a_chunk(rt, alloc, desk, parts, &mut lent);
+    for _ in 0..chunks {
+        claim(rt, desk, parts, class(0));
+        lend_some(rt, alloc, desk, 16, 256, &mut lent);
     }
     lent
 }
 
-fn free_all<'r>(rt: &impl Abort, desk: &mut Desk<'r>, lent: &mut Chain<'r>) {
-    while let Some(buf) = lent.pop() {
-        let _freed: Freed = free(rt, desk, buf);
+fn free_some<'r>(rt: &impl Abort, desk: &mut Desk<'r>, count: u32, lent: &mut Chain<'r>) {
+    for _ in 0..count {
+        let buf = lent.pop().expect(rt, "one is lent");
+        let _freed = free(rt, desk, buf);
     }
 }
 
 #[test]
 fn a_long_list_takes_no_depth(rt: HostRuntime) {
     let alloc = rt.alloc();
-    let mut region = region(&rt, alloc, 400 * CHUNK, 0);
+    let Some(mut region) = region(alloc, 400 * CHUNK, 0) else {
+        return;
+    };
     let Some(mut parts) = parts(&rt, alloc, &mut region) else {
         return;
     };
     let mut owner = desk(&rt, 1);
-    let mut lent = lend_all(&rt, alloc, &mut owner, &mut parts);
-    free_all(&rt, &mut owner, &mut lent);
-    assert_eq!(rt; owner.counts(), (COUNT, 0));
+    let mut lent = lend_all(&rt, alloc, &mut owner, &mut parts, CHUNKS);
+    free_some(&rt, &mut owner, COUNT, &mut lent);
+    assert!(rt; owner.counts().0 == u64::from(COUNT));
     drop(owner);
 }
 
 #[test]
 fn a_long_cache_takes_no_depth(rt: HostRuntime) {
     let alloc = rt.alloc();
-    let mut region = region(&rt, alloc, 400 * CHUNK, 0);
+    let Some(mut region) = region(alloc, 400 * CHUNK, 0) else {
+        return;
+    };
     let Some(mut parts) = parts(&rt, alloc, &mut region) else {
         return;
     };
     let mut owner = desk(&rt, 1);
+    let mut lent = lend_all(&rt, alloc, &mut owner, &mut parts, CHUNKS);
     let mut other = desk(&rt, 0);
-    let mut lent = lend_all(&rt, alloc, &mut owner, &mut parts);
-    free_all(&rt, &mut other, &mut lent);
-    assert_eq!(rt; other.counts(), (0, COUNT));
+    free_some(&rt, &mut other, COUNT, &mut lent);
+    assert!(rt; other.counts().1 == u64::from(COUNT));
     drop(other);
 }

