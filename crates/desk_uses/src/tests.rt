@@ -99,6 +99,23 @@ fn free<'r>(rt: &impl Abort, desk: &mut Desk<'r>, buf: Buf<'r>) -> Freed {
     desk.free(buf)
 }
 
+// What becomes of a freed buffer.
+fn free_is<'r>(rt: &impl Abort, desk: &mut Desk<'r>, buf: Buf<'r>, want: Freed) {
+    assert!(rt; free(rt, desk, buf) == want);
+}
+
+// So many slots are at home, and so many buffers in the cache.
+fn counts_are(rt: &impl Abort, desk: &Desk<'_>, home: u64, cached: u64) {
+    let counts = desk.counts();
+    assert!(rt; counts.0 == home);
+    assert!(rt; counts.1 == cached);
+}
+
+// Where the cache is empty.
+fn retired<'r>(rt: &impl Abort, desk: Desk<'r>) -> IdleDesk<'r> {
+    desk.retire().ok().expect(rt, "the cache is empty")
+}
+
 // A batch comes to its address.
 fn handle<'r>(rt: &impl Abort, desk: &mut Desk<'r>, batch: Batch<'r>) -> Counts {
     assert_eq!(rt; batch.address(), desk.number());

@@ -1,5 +1,5 @@
 //! What is written through a desk's buffers is what the region holds when its borrow ends, also where a class went on to a second chunk.
-use super::{claim, class, desk, free, lend_some, parts, region};
+use super::{claim, class, counts_are, desk, free_is, lend_some, parts, region};
 use pool_desk::{Desk, Freed};
 use region_cut::CHUNK;
 use slot_chain::{Buf, Chain};
@@ -18,7 +18,7 @@ fn write_some<'r>(rt: &impl Abort, desk: &mut Desk<'r>, count: u32, lent: &mut C
     for _ in 0..count {
         let mut buf = lent.pop().expect(rt, "one is lent");
         write(rt, &mut buf);
-        assert!(rt; free(rt, desk, buf) == Freed::Home);
+        free_is(rt, desk, buf, Freed::Home);
     }
 }
 
@@ -34,6 +34,7 @@ fn write_region(rt: &impl Abort, alloc: Global, region: &mut [u8]) -> bool {
     claim(rt, &mut desk, &mut parts, class(12));
     lend_some(rt, alloc, &mut desk, 300, 12, &mut lent);
     write_some(rt, &mut desk, 24, &mut lent);
+    counts_are(rt, &desk, 24, 0);
     true
 }
 

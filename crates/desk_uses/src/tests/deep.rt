@@ -1,5 +1,5 @@
 //! Lists that are too long for a recursion: 400 chunks of 256 slots.
-use super::{claim, class, desk, free, lend_some, parts, region};
+use super::{claim, class, counts_are, desk, free, lend_some, parts, region};
 use pool_desk::Desk;
 use region_cut::{CHUNK, Part};
 use slot_chain::Chain;
@@ -8,7 +8,7 @@ use std::process::Abort;
 
 const CHUNKS: u32 = 400;
 
-const COUNT: u32 = 102_400;
+const COUNT: u64 = 102_400;
 
 // All slots of so many chunks of class 0 are lent.
 fn lend_all<'r>(
@@ -26,7 +26,7 @@ fn lend_all<'r>(
     lent
 }
 
-fn free_some<'r>(rt: &impl Abort, desk: &mut Desk<'r>, count: u32, lent: &mut Chain<'r>) {
+fn free_some<'r>(rt: &impl Abort, desk: &mut Desk<'r>, count: u64, lent: &mut Chain<'r>) {
     for _ in 0..count {
         let buf = lent.pop().expect(rt, "one is lent");
         let _freed = free(rt, desk, buf);
@@ -45,7 +45,7 @@ fn a_long_list_takes_no_depth(rt: HostRuntime) {
     let mut owner = desk(&rt, 1);
     let mut lent = lend_all(&rt, alloc, &mut owner, &mut parts, CHUNKS);
     free_some(&rt, &mut owner, COUNT, &mut lent);
-    assert!(rt; owner.counts().0 == u64::from(COUNT));
+    counts_are(&rt, &owner, COUNT, 0);
     drop(owner);
 }
 
@@ -62,6 +62,6 @@ fn a_long_cache_takes_no_depth(rt: HostRuntime) {
     let mut lent = lend_all(&rt, alloc, &mut owner, &mut parts, CHUNKS);
     let mut other = desk(&rt, 0);
     free_some(&rt, &mut other, COUNT, &mut lent);
-    assert!(rt; other.counts().1 == u64::from(COUNT));
+    counts_are(&rt, &other, 0, COUNT);
     drop(other);
 }

@@ -1,28 +1,31 @@
 //! What is at home.
-use super::{claim, class, desk, free, lend, lend_or_not, parts, region};
+use super::{claim, class, counts_are, desk, free_is, lend, lend_or_not, parts, region};
 use pool_desk::{Desk, Freed};
 use region_cut::{CHUNK, Part};
 use slot_chain::{Buf, Chain};
 use std::alloc::Global;
 use std::process::Abort;
 
+fn is_slot(rt: &impl Abort, buf: &Buf<'_>, index: u16) {
+    let slot = buf.slot();
+    assert!(rt; slot.chunk == 0);
+    assert!(rt; slot.index == index);
+    assert!(rt; buf.owner() == 5);
+    assert!(rt; buf.forwards() == 0);
+}
+
 // A slot that was never handed out: the next of chunk 0.
 fn lend_next<'r>(rt: &impl Abort, alloc: Global, desk: &mut Desk<'r>, index: u16) -> Buf<'r> {
     let buf = lend(rt, alloc, desk, 512);
-    assert!(rt; buf.slot().chunk == 0 && buf.slot().index == index);
-    assert!(rt; buf.owner() == 5 && buf.forwards() == 0);
+    is_slot(rt, &buf, index);
     buf
 }
 
 // A slot that came home before, for which no memory is taken.
 fn lend_again<'r>(rt: &impl Abort, alloc: Global, desk: &mut Desk<'r>, index: u16) -> Buf<'r> {
     let buf = desk.alloc(alloc, 449).ok().expect(rt, "one came home");
-    assert!(rt; buf.slot().index == index);
+    is_slot(rt, &buf, index);
     buf
-}
-
-fn keep<'r>(rt: &impl Abort, desk: &mut Desk<'r>, buf: Buf<'r>) {
-    assert!(rt; free(rt, desk, buf) == Freed::Home);
 }
 
 #[test]
@@ -39,8 +42,8 @@ fn gives_the_last_freed_first(rt: HostRuntime) {
     let first = lend_next(&rt, alloc, &mut desk, 0);
     let second = lend_next(&rt, alloc, &mut desk, 1);
     let _third = lend_next(&rt, alloc, &mut desk, 2);
-    keep(&rt, &mut desk, second);
-    keep(&rt, &mut desk, first);
+    free_is(&rt, &mut desk, second, Freed::Home);
+    free_is(&rt, &mut desk, first, Freed::Home);
     let _first = lend_again(&rt, alloc, &mut desk, 0);
     let _second = lend_again(&rt, alloc, &mut desk, 1);
     let _fourth = lend_next(&rt, alloc, &mut desk, 3);
@@ -81,6 +84,12 @@ fn lend_what_goes<'r>(
     }
 }
 
+// Of eight slots.
+fn at_most_one(rt: &impl Abort, desk: &Desk<'_>, lent: &Chain<'_>) {
+    assert!(rt; desk.counts().0 <= 1);
+    assert!(rt; lent.len() >= 7);
+}
+
 // Of the eight slots each is given out at its first try, but for one where an allocation is refused.
 #[test]
 fn wants_memory_only_where_it_was_refused(rt: HostRuntime) {
@@ -95,8 +104,7 @@ fn wants_memory_only_where_it_was_refused(rt: HostRuntime) {
     claim(&rt, &mut desk, &mut parts, class(15));
     let mut lent = Chain::new();
     lend_what_goes(&rt, alloc, &mut desk, 8, &mut lent);
-    assert!(rt; desk.counts().0 <= 1);
-    assert!(rt; lent.len() >= 7);
+    at_most_one(&rt, &desk, &lent);
 }
 
 // Buffers of 512 bytes of one desk are freed at another. A chunk has eight of them.
@@ -110,7 +118,7 @@ fn cache<'r>(
 ) {
     for _ in 0..count {
         let buf = lend(rt, alloc, owner, 512);
-        assert!(rt; free(rt, other, buf) == want);
+        free_is(rt, other, buf, want);
     }
 }
 
@@ -140,6 +148,6 @@ fn is_due_above_the_limit_alone(rt: HostRuntime) {
     let mut owner = desk(&rt, 1);
     let mut other = desk(&rt, 0);
     fill_two(&rt, alloc, &mut owner, &mut other, &mut parts);
-    assert!(rt; other.counts().1 == 9);
-    assert!(rt; owner.counts().0 == 7);
+    counts_are(&rt, &other, 0, 9);
+    counts_are(&rt, &owner, 7, 0);
 }

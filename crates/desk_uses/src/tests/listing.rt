@@ -1,5 +1,5 @@
 //! Slots are listed.
-use super::{claim, class, desk, free, lend, parts, region};
+use super::{claim, class, desk, free_is, lend, parts, region, retired};
 use pool_desk::{Desk, Freed, IdleDesk};
 use region_cut::{CHUNK, Part, Slot};
 use slot_chain::{Buf, Chain};
@@ -43,7 +43,7 @@ fn spread<'r>(
     lent.push(lend(rt, alloc, owner, 448));
     let home = lend(rt, alloc, owner, 448);
     let away = lend(rt, alloc, owner, 448);
-    let _home = free(rt, owner, home);
+    free_is(rt, owner, home, Freed::Home);
     away
 }
 
@@ -60,10 +60,9 @@ fn lists_what_is_there(rt: HostRuntime) {
     let mut owner = desk(&rt, 1);
     let mut other = desk(&rt, 0);
     let away = spread(&rt, alloc, &mut owner, &mut parts, &mut lent);
-    assert!(rt; free(&rt, &mut other, away) == Freed::Cached);
+    free_is(&rt, &mut other, away, Freed::Cached);
     let mut slots = Vec::new(alloc);
     list_held(&rt, &owner, &mut slots);
-    assert!(rt; slots.len() == 7);
     list_held(&rt, &other, &mut slots);
     check(&rt, slots.as_slice());
 }
@@ -81,8 +80,8 @@ fn lists_what_stays_when_a_worker_leaves(rt: HostRuntime) {
     let mut lent = Chain::new();
     let mut owner = desk(&rt, 1);
     let away = spread(&rt, alloc, &mut owner, &mut parts, &mut lent);
-    assert!(rt; free(&rt, &mut owner, away) == Freed::Home);
-    let idle = owner.retire().ok().expect(&rt, "nothing is cached");
+    free_is(&rt, &mut owner, away, Freed::Home);
+    let idle = retired(&rt, owner);
     let mut slots = Vec::new(alloc);
     list_idle(&rt, &idle, &mut slots);
     check(&rt, slots.as_slice());

@@ -1,7 +1,7 @@
 //! A cache is posted, and what could not be posted comes back.
-use super::{claim, class, desk, free, handle, lend, parts, region};
+use super::{claim, class, counts_are, desk, free_is, handle, lend, parts, region, retired};
 use digit_route::Batch;
-use pool_desk::{Desk, Freed};
+use pool_desk::{Desk, Freed, IdleDesk};
 use region_cut::{CHUNK, Part};
 use std::alloc::Global;
 use std::process::Abort;
@@ -16,7 +16,7 @@ fn cached<'r>(
     claim(rt, owner, parts, class(15));
     let buf = lend(rt, alloc, owner, 512);
     let mut desk = desk(rt, 0);
-    assert!(rt; free(rt, &mut desk, buf) == Freed::Cached);
+    free_is(rt, &mut desk, buf, Freed::Cached);
     desk
 }
 
@@ -32,7 +32,7 @@ fn is_given_back<'r>(rt: &impl Abort, desk: Desk<'r>) -> Desk<'r> {
     let batch = posting.next_batch().expect(rt, "one goes to 1");
     assert!(rt; posting.next_batch().is_none());
     let desk = posting.refused(batch);
-    assert!(rt; desk.counts().1 == 1);
+    counts_are(rt, &desk, 0, 1);
     desk
 }
 
@@ -41,17 +41,20 @@ fn is_posted<'r>(rt: &impl Abort, desk: Desk<'r>, owner: &mut Desk<'r>) -> Desk<
     let mut posting = desk.posting();
     let batch = posting.next_batch().expect(rt, "one goes to 1");
     let desk = posting.end();
-    assert!(rt; desk.counts().1 == 0);
+    counts_are(rt, &desk, 0, 0);
     comes_home(rt, owner, batch);
     desk
 }
 
-fn is_retired(rt: &impl Abort, desk: Desk<'_>, home: u64) {
-    let number = desk.number();
-    let idle = desk.retire().ok().expect(rt, "its cache is empty");
-    assert!(rt; idle.number() == number);
-    assert!(rt; idle.counts().0 == home);
-    assert!(rt; idle.adopt(5).worker() == 5);
+// It is handed back where its cache isn't empty.
+fn is_unsettled<'r>(rt: &impl Abort, desk: Desk<'r>) -> Desk<'r> {
+    desk.retire().err().expect(rt, "its cache is not empty")
+}
+
+fn goes_to_another_worker(rt: &impl Abort, idle: IdleDesk<'_>, home: u64) {
+    let desk = idle.adopt(5);
+    assert!(rt; desk.worker() == 5);
+    counts_are(rt, &desk, home, 0);
 }
 
 #[test]
@@ -65,11 +68,11 @@ fn posts_in_rounds(rt: HostRuntime) {
     };
     let mut one = desk(&rt, 1);
     let zero = cached(&rt, alloc, &mut one, &mut parts);
-    let zero = zero.retire().err().expect(&rt, "its cache is not empty");
+    let zero = is_unsettled(&rt, zero);
     let zero = is_given_back(&rt, zero);
     let zero = is_posted(&rt, zero, &mut one);
-    is_retired(&rt, zero, 0);
-    is_retired(&rt, one, 8);
+    goes_to_another_worker(&rt, retired(&rt, zero), 0);
+    goes_to_another_worker(&rt, retired(&rt, one), 8);
 }
 
 // Its one batch comes back to it.
@@ -77,7 +80,12 @@ fn comes_back(rt: &impl Abort, desk: &mut Desk<'_>) {
     let batch = desk.next_batch().expect(rt, "one goes to 1");
     assert!(rt; desk.next_batch().is_none());
     desk.refused(batch);
-    assert!(rt; desk.counts().1 == 1);
+    counts_are(rt, desk, 0, 1);
+}
+
+fn goes_home<'r>(rt: &impl Abort, desk: &mut Desk<'r>, owner: &mut Desk<'r>) {
+    let batch = desk.next_batch().expect(rt, "again");
+    comes_home(rt, owner, batch);
 }
 
 #[test]
@@ -92,6 +100,5 @@ fn takes_back_what_was_not_posted(rt: HostRuntime) {
     let mut one = desk(&rt, 1);
     let mut zero = cached(&rt, alloc, &mut one, &mut parts);
     comes_back(&rt, &mut zero);
-    let batch = zero.next_batch().expect(&rt, "again");
-    comes_home(&rt, &mut one, batch);
+    goes_home(&rt, &mut zero, &mut one);
 }

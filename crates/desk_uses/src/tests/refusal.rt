@@ -1,24 +1,25 @@
 //! Why a desk refuses.
-use super::{claim, class, desk, lend, parts, region};
+use super::{claim, class, counts_are, desk, lend, parts, region};
 use digit_route::Digits;
 use pool_desk::{Desk, DeskError, IdleDesk};
 use region_cut::{CHUNK, Class, Part};
 use std::alloc::Global;
 use std::process::Abort;
 
-// The part comes back where it isn't needed.
+// The last of the chunks comes back where it isn't needed.
 fn claim_is_refused<'r>(
     rt: &impl Abort,
     desk: &mut Desk<'r>,
-    part: Part<'r>,
+    parts: &mut Vec<Part<'r>>,
     class: Class,
-) -> Part<'r> {
+) {
+    let part = parts.pop().expect(rt, "a chunk");
     assert!(rt; class.number() < desk.digits().profile().classes());
     match desk.claim(part, class) {
         Ok(()) => panic!(rt; "not needed"),
         Err((part, error)) => {
+            assert!(rt; part.chunk() == 0);
             assert!(rt; error == DeskError::NotNeeded);
-            part
         }
     }
 }
@@ -39,7 +40,6 @@ fn alloc_is_refused(
 #[test]
 fn says_why_nothing_is_given_out(rt: HostRuntime) {
     let mut desk = desk(&rt, 63);
-    assert!(rt; desk.number() == 63 && desk.worker() == 9);
     alloc_is_refused(&rt, rt.alloc(), &mut desk, 513, DeskError::TooLarge);
     let want = DeskError::NeedChunk(class(0));
     alloc_is_refused(&rt, rt.alloc(), &mut desk, 0, want);
@@ -56,10 +56,8 @@ fn says_why_a_chunk_is_not_needed(rt: HostRuntime) {
     };
     let mut desk = desk(&rt, 63);
     claim(&rt, &mut desk, &mut parts, class(0));
-    let part = parts.pop().expect(&rt, "a chunk");
-    let part = claim_is_refused(&rt, &mut desk, part, class(0));
-    assert!(rt; part.chunk() == 0);
-    assert!(rt; desk.counts().0 == 256);
+    claim_is_refused(&rt, &mut desk, &mut parts, class(0));
+    counts_are(&rt, &desk, 256, 0);
 }
 
 // Number and words, also where memory for the words is refused once.
@@ -89,7 +87,19 @@ fn has_numbers_and_words(rt: HostRuntime) {
     check(&rt, alloc, DeskError::NoMemory, 5, "no memory");
 }
 
-// The profile with 4,096 desks has classes up to 1,024 bytes: class 19 has 4 slots.
+// A desk of the profile with 4,096 desks, whose classes go up to 1,024 bytes.
+fn large<'r>(rt: &impl Abort) -> Desk<'r> {
+    let digits = Digits::new2(6).expect(rt, "six bits");
+    IdleDesk::new(4095, digits, 4096).adopt(0)
+}
+
+fn lends_most(rt: &impl Abort, alloc: Global, desk: &mut Desk<'_>) {
+    let buf = lend(rt, alloc, desk, 897);
+    assert!(rt; buf.owner() == 4095);
+    assert!(rt; buf.bytes().len() == 1024);
+}
+
+// Class 19 has 4 slots.
 #[test]
 fn is_of_its_profile(rt: HostRuntime) {
     let alloc = rt.alloc();
@@ -99,11 +109,9 @@ fn is_of_its_profile(rt: HostRuntime) {
     let Some(mut parts) = parts(&rt, alloc, &mut region) else {
         return;
     };
-    let digits = Digits::new2(6).expect(&rt, "six bits");
-    let mut desk = IdleDesk::new(4095, digits, 4096).adopt(0);
+    let mut desk = large(&rt);
     alloc_is_refused(&rt, alloc, &mut desk, 1025, DeskError::TooLarge);
     claim(&rt, &mut desk, &mut parts, class(19));
-    let buf = lend(&rt, alloc, &mut desk, 897);
-    assert!(rt; buf.owner() == 4095 && buf.bytes().len() == 1024);
-    assert!(rt; desk.counts().0 == 3);
+    lends_most(&rt, alloc, &mut desk);
+    counts_are(&rt, &desk, 3, 0);
 }

@@ -1,24 +1,22 @@
 //! Four desks, driven by hand. With digits of 2 bits 0 is 0,0,0; 7 is 3,1,0; 11 is 3,2,0; 27 is 3,2,1.
-use super::{claim, class, desk, free, handle, lend, parts, region};
+use super::{claim, class, desk, free_is, handle, lend, parts, region};
 use digit_route::RouteError;
 use pool_desk::{Desk, Freed};
 use region_cut::{CHUNK, Part};
 use std::alloc::Global;
 use std::process::Abort;
 
-// A desk, of which a buffer of 512 bytes, of a chunk of its own, was freed at another.
-fn owner<'r>(
+// A buffer of 512 bytes of a chunk of its owner is freed at another desk.
+fn leave<'r>(
     rt: &impl Abort,
     alloc: Global,
-    number: u16,
+    owner: &mut Desk<'r>,
     at: &mut Desk<'r>,
     parts: &mut Vec<Part<'r>>,
-) -> Desk<'r> {
-    let mut owner = desk(rt, number);
-    claim(rt, &mut owner, parts, class(15));
-    let buf = lend(rt, alloc, &mut owner, 512);
-    assert!(rt; free(rt, at, buf) == Freed::Cached);
-    owner
+) {
+    claim(rt, owner, parts, class(15));
+    let buf = lend(rt, alloc, owner, 512);
+    free_is(rt, at, buf, Freed::Cached);
 }
 
 // No batch for `t`, and the desk is as before.
@@ -57,9 +55,12 @@ fn goes_home_by_way_of_nearer_desks(rt: HostRuntime) {
         return;
     };
     let mut zero = desk(&rt, 0);
-    let mut far = owner(&rt, alloc, 27, &mut zero, &mut parts);
-    let mut eleven = owner(&rt, alloc, 11, &mut zero, &mut parts);
-    let mut seven = owner(&rt, alloc, 7, &mut zero, &mut parts);
+    let mut far = desk(&rt, 27);
+    leave(&rt, alloc, &mut far, &mut zero, &mut parts);
+    let mut eleven = desk(&rt, 11);
+    leave(&rt, alloc, &mut eleven, &mut zero, &mut parts);
+    let mut seven = desk(&rt, 7);
+    leave(&rt, alloc, &mut seven, &mut zero, &mut parts);
     send(&rt, &mut zero, &mut seven, 1, 2);
     send(&rt, &mut seven, &mut eleven, 1, 1);
     send(&rt, &mut eleven, &mut far, 1, 0);
@@ -78,7 +79,8 @@ fn says_why_nothing_goes(rt: HostRuntime) {
         return;
     };
     let mut zero = desk(&rt, 0);
-    let _far = owner(&rt, alloc, 27, &mut zero, &mut parts);
+    let mut far = desk(&rt, 27);
+    leave(&rt, alloc, &mut far, &mut zero, &mut parts);
     is_refused(&rt, &mut zero, 3, RouteError::NotAnOwner);
     is_refused(&rt, &mut zero, 2, RouteError::NothingFor);
     is_refused(&rt, &mut zero, 0, RouteError::ToSelf);
