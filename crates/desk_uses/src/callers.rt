@@ -1,28 +1,43 @@
 //! What a caller of a desk learns.
-ghost use Rattle.std.specs.Prelude.{◌≡◌, IfOk, OnOk};
+ghost use Rattle.std.specs.Prelude.{◌≡◌, Any, IfErr, IfOk, OnOk, length, replicate};
+ghost use Rattle.desk_uses.specs.Filled.{IsFilled};
+ghost use Rattle.pool_desk.specs.Steps.{AllocFault};
 ghost use Rattle.pool_desk.specs.declared.freed.Freed.TheVariants.{Home};
+ghost use Rattle.region_cut.specs.Classes.{size_of};
 
 use pool_desk::{Desk, DeskError, Freed};
+use slot_chain::Buf;
 use std::alloc::Global;
 
-/// What a desk gave goes home when it is freed there.
+/// What a desk gave goes home when it is freed there, so that as many slots are at home as before.
 pub fn lend_and_take_back(
     alloc: Global,
     desk: &mut Desk<'_>,
     size: usize,
 ) -> Result<Freed, DeskError>
-    ensures home { IfOk result (λ freed. freed ≡ Home) }
+    ensures freed { IfOk result (λ freed. freed ≡ Home) }
+    ensures home { OnOk result (length desk.new.home ≡ length desk.old.home) }
     ensures cached { OnOk result (desk.new.cached ≡ desk.old.cached) }
+    ensures refused { IfErr result (λ e. AllocFault desk.old size e × (desk.new ≡ desk.old)) }
 {
     let _number = desk.number();
     let buf = desk.alloc(alloc, size)?;
     Ok(desk.free(buf))
 }
 
-/// A buffer is written, and goes home. Its bytes have the length of its class.
-pub fn written(alloc: Global, desk: &mut Desk<'_>, byte: u8) -> Result<Freed, DeskError> {
+// Sets each byte, as many as the class has.
+fn fill(buf: &mut Buf<'_>, byte: u8)
+    ensures { buf.new ≡ record buf.old { bytes = record buf.old.bytes { now = replicate (size_of buf.old.class) byte } } }
+{
+    buf.bytes_mut().fill(byte);
+}
+
+/// A buffer is written, and goes home with what was written.
+pub fn written(alloc: Global, desk: &mut Desk<'_>, byte: u8) -> Result<Freed, DeskError>
+    ensures { OnOk result (Any (IsFilled byte) desk.new.home) }
+{
     let _number = desk.number();
     let mut buf = desk.alloc(alloc, 16)?;
-    buf.bytes_mut().fill(byte);
+    fill(&mut buf, byte);
     Ok(desk.free(buf))
 }

@@ -1,10 +1,12 @@
-//! Callers of `pool_desk`: what they learn from its contracts.
+//! Callers of `pool_desk`: what they learn from its contracts, and the tests that cross it and the crates below.
 //!
 //! The pool itself calls nothing of this crate.
 #![tactic(auto)]
 
 mod callers;
 mod crossing;
+#[cfg(test)]
+mod tests;
 
 pub use callers::{lend_and_take_back, written};
 pub use crossing::{desk_crosses, idle_desk_crosses};

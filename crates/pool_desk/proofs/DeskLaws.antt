@@ -1,12 +1,12 @@
 -- What freeing and passing on do to a desk.
-use Rattle.std.proofs.Common.{◌≡◌, ◌≢◌, ℕ, ◌+◌, ◌<◌, ◌≤◌, [], ◌∷◌, ◌++◌, refl, sym, ap, ◌∙◌, arith, IsPermutation, Bool, true, false}
+use Rattle.std.proofs.Common.{◌≡◌, ◌≢◌, ℕ, ◌+◌, ◌<◌, ◌≤◌, [], ◌∷◌, ◌++◌, sym, ap, ◌∙◌, arith, IsPermutation, Bool, true, false}
 use Rattle.std.proofs.lemmas.List.Sorted.{IsPermutation-trans, IsPermutation-append_comm}
 use Rattle.slot_chain.specs.Buffer.{Buffer}
 use Rattle.slot_chain.specs.Counts.{sizes}
 use Rattle.digit_route.specs.States.{CacheState}
 use Rattle.pool_desk.specs.declared.freed.Freed.TheVariants.{Cached, Due}
 use Rattle.pool_desk.specs.Desks.{DeskState}
-use Rattle.pool_desk.specs.Steps.{freed, passed_on, Caches, Frees}
+use Rattle.pool_desk.specs.Steps.{freed, passed_on, Frees}
 use Rattle.pool_desk.specs.Handling.{GoesOn}
 
 -- the desk with another cache

@@ -1,19 +1,17 @@
 -- The steps of handling a batch.
-use Rattle.std.proofs.Common.{◌≡◌, ◌≢◌, ℕ, suc, ◌+◌, ◌^◌, ◌<◌, ◌≤◌, Bool, true, false, eqb, List, [], ◌∷◌, ◌++◌, length, refl, sym, ap, ◌∙◌, subst, arith, rules, append_assoc, append-nil, All, IsPermutation, map}
-use Rattle.std.specs.Prelude.{Contains, filter, not, min, ◌-◌}
+use Rattle.std.proofs.Common.{◌≡◌, ◌≢◌, ℕ, suc, ◌+◌, ◌^◌, true, false, eqb, List, [], ◌∷◌, ◌++◌, refl, sym, ap, ◌∙◌, arith, All, IsPermutation}
+use Rattle.std.specs.Prelude.{Contains, min, ◌-◌}
 use Rattle.std.proofs.lemmas.Bool.{eq-eqb, ne_eqb}
 use Rattle.std.proofs.lemmas.List.Elements.{All-weaker, All-contains, All-contains_itself, Contains-append_left, Contains-push}
-use Rattle.std.proofs.lemmas.List.Sorted.{IsPermutation-refl, IsPermutation-trans, IsPermutation-append_left, IsPermutation-append_right, IsPermutation-append_comm}
+use Rattle.std.proofs.lemmas.List.Sorted.{IsPermutation-refl, IsPermutation-trans, IsPermutation-append_right}
 use Rattle.slot_chain.specs.Buffer.{Buffer}
 use Rattle.slot_chain.specs.Counts.{capped}
-use Rattle.digit_route.specs.Digits.{Scheme, common}
+use Rattle.digit_route.specs.Digits.{Scheme}
 use Rattle.digit_route.specs.Route.{IsWellRouted}
-use Rattle.digit_route.specs.States.{CacheState}
 use Rattle.pool_desk.specs.declared.counts.Counts.{Counts}
-use Rattle.pool_desk.specs.Homes.{AtHome}
 use Rattle.pool_desk.specs.Homes.AtHome.{Kept}
 use Rattle.pool_desk.specs.Desks.{DeskState}
-use Rattle.pool_desk.specs.Steps.{Handles, Counted, own, others, passed_on}
+use Rattle.pool_desk.specs.Steps.{Handles, Counted, own, passed_on}
 use Rattle.pool_desk.specs.Handling.{IsPassed, GoesHome, GoesOn}
 
 -- what of a batch is handled, and what is left of it

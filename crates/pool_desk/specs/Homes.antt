@@ -1,5 +1,5 @@
 -- What a desk has at home for one class.
-use Rattle.std.specs.Prelude.{◌≡◌, ◌≢◌, ℕ, zero, suc, ◌+◌, List, [], ◌∷◌, ◌++◌, All, IsPermutation, map, take, drop, Option, Some, None, length}
+use Rattle.std.specs.Prelude.{◌≡◌, ◌≢◌, ℕ, zero, suc, ◌+◌, List, [], ◌∷◌, ◌++◌, All, IsPermutation, take, drop, Option, Some, None, length}
 use Rattle.std.specs.Borrow.{GName}
 use Rattle.pool_desk.specs.declared.error.DeskError.{DeskError}
 use Rattle.pool_desk.specs.declared.error.DeskError.TheVariants.{NeedChunk, NoMemory}

@@ -1,18 +1,19 @@
 //! What is written through buffers is what the region holds when its borrow ends.
 use crate::filling::{fill_part, mark_region};
+use crate::tests::parts;
 use crate::writing::{clear, copy_in, mark_top, stamped};
-use region_cut::{Class, class_for, cut};
-use slot_chain::Chain;
+use region_cut::{Class, class_for};
+use slot_chain::{Chain, NoMemory};
+use std::alloc::Global;
+use std::process::Abort;
 
 // Class 2 has 85 slots of 48 bytes in a chunk, and 16 bytes at its end that are in no slot.
-#[test]
-fn writes_reach_the_region(rt: HostRuntime) {
-    let alloc = rt.alloc();
-    let class = class_for(48).expect(&rt, "a class of 48 bytes");
-    let mut region = Vec::from_elem(alloc, 201u8, 2 * 4096 + 100).expect(&rt, "memory");
+fn write_all(rt: &impl Abort, alloc: Global) -> Result<(), NoMemory> {
+    let class = class_for(48).expect(rt, "a class of 48 bytes");
+    let mut region = Vec::from_elem(alloc, 201u8, 2 * 4096 + 100)?;
     let mut chain = Chain::new();
-    for part in cut(alloc, &mut region).expect(&rt, "two chunks") {
-        fill_part(alloc, part, class, 0, &mut chain).expect(&rt, "memory");
+    for part in parts(alloc, &mut region)? {
+        fill_part(alloc, part, class, 0, &mut chain)?;
     }
     assert_eq!(rt; chain.len(), 170);
     let mut filled = Chain::new();
@@ -40,19 +41,25 @@ fn writes_reach_the_region(rt: HostRuntime) {
     ] {
         assert_eq!(rt; region.get(place).copied(), Some(want), "byte {place}");
     }
+    Ok(())
 }
 
 #[test]
-fn writes_are_read_back(rt: HostRuntime) {
-    let alloc = rt.alloc();
-    let class = Class::new(0).expect(&rt, "the first class");
-    let mut region = Vec::from_elem(alloc, 3u8, 4096).expect(&rt, "memory");
+fn writes_reach_the_region(rt: HostRuntime) {
+    if write_all(&rt, rt.alloc()).is_err() {
+        assert!(rt; write_all(&rt, rt.alloc()).is_ok());
+    }
+}
+
+fn write_and_read(rt: &impl Abort, alloc: Global) -> Result<(), NoMemory> {
+    let class = Class::new(0).expect(rt, "the first class");
+    let mut region = Vec::from_elem(alloc, 3u8, 4096)?;
     let mut chain = Chain::new();
-    for part in cut(alloc, &mut region).expect(&rt, "one chunk") {
-        fill_part(alloc, part, class, 63, &mut chain).expect(&rt, "memory");
+    for part in parts(alloc, &mut region)? {
+        fill_part(alloc, part, class, 63, &mut chain)?;
     }
     assert!(rt; mark_top(&mut chain, 7));
-    let mut buf = chain.pop().expect(&rt, "the last slot");
+    let mut buf = chain.pop().expect(rt, "the last slot");
     assert_eq!(rt;
         buf.bytes(),
         [7, 3, 3, 3, 3, 3, 3, 3, 3, 3, 3, 3, 3, 3, 3, 3].as_slice()
@@ -73,15 +80,31 @@ fn writes_are_read_back(rt: HostRuntime) {
     assert!(rt; !mark_top(&mut Chain::new(), 7));
     assert_eq!(rt; region.get(4079).copied(), Some(3));
     assert_eq!(rt; region.get(4080).copied(), Some(0));
+    Ok(())
+}
+
+#[test]
+fn writes_are_read_back(rt: HostRuntime) {
+    if write_and_read(&rt, rt.alloc()).is_err() {
+        assert!(rt; write_and_read(&rt, rt.alloc()).is_ok());
+    }
+}
+
+fn mark_all(rt: &impl Abort, alloc: Global) -> Result<(), NoMemory> {
+    let class = class_for(512).expect(rt, "a class of 512 bytes");
+    let mut region = Vec::from_elem(alloc, 1u8, 2 * 4096 + 1)?;
+    let Ok(()) = mark_region(alloc, &mut region, class, 9) else {
+        return Err(NoMemory);
+    };
+    for (place, want) in [(0, 9), (1, 1), (511, 1), (512, 9), (7680, 9), (8192, 1)] {
+        assert_eq!(rt; region.get(place).copied(), Some(want), "byte {place}");
+    }
+    Ok(())
 }
 
 #[test]
 fn marks_each_slot(rt: HostRuntime) {
-    let alloc = rt.alloc();
-    let class = class_for(512).expect(&rt, "a class of 512 bytes");
-    let mut region = Vec::from_elem(alloc, 1u8, 2 * 4096 + 1).expect(&rt, "memory");
-    mark_region(alloc, &mut region, class, 9).expect(&rt, "memory");
-    for (place, want) in [(0, 9), (1, 1), (511, 1), (512, 9), (7680, 9), (8192, 1)] {
-        assert_eq!(rt; region.get(place).copied(), Some(want), "byte {place}");
+    if mark_all(&rt, rt.alloc()).is_err() {
+        assert!(rt; mark_all(&rt, rt.alloc()).is_ok());
     }
 }

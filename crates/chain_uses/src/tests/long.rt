@@ -1,20 +1,21 @@
 //! A chain that is too long for a recursion.
 use crate::filling::fill_part;
+use crate::tests::parts;
 use crate::walking::count_owned;
-use region_cut::{Class, cut};
-use slot_chain::Chain;
+use region_cut::Class;
+use slot_chain::{Chain, NoMemory};
+use std::alloc::Global;
+use std::process::Abort;
 
 // 400 chunks of 256 slots.
 const COUNT: u64 = 102_400;
 
-#[test]
-fn long_chains_take_no_depth(rt: HostRuntime) {
-    let alloc = rt.alloc();
-    let class = Class::new(0).expect(&rt, "the first class");
-    let mut region = Vec::from_elem(alloc, 0u8, 400 * 4096).expect(&rt, "memory");
+fn append_all(rt: &impl Abort, alloc: Global) -> Result<(), NoMemory> {
+    let class = Class::new(0).expect(rt, "the first class");
+    let mut region = Vec::from_elem(alloc, 0u8, 400 * 4096)?;
     let mut chain = Chain::new();
-    for part in cut(alloc, &mut region).expect(&rt, "400 chunks") {
-        fill_part(alloc, part, class, 1, &mut chain).expect(&rt, "memory");
+    for part in parts(alloc, &mut region)? {
+        fill_part(alloc, part, class, 1, &mut chain)?;
     }
     assert_eq!(rt; chain.len(), COUNT);
     assert_eq!(rt; chain.bytes_total(), 16 * COUNT);
@@ -22,4 +23,12 @@ fn long_chains_take_no_depth(rt: HostRuntime) {
     other.append(&mut chain);
     assert_eq!(rt; count_owned(&other, 1), COUNT);
     drop(other);
+    Ok(())
+}
+
+#[test]
+fn long_chains_take_no_depth(rt: HostRuntime) {
+    if append_all(&rt, rt.alloc()).is_err() {
+        assert!(rt; append_all(&rt, rt.alloc()).is_ok());
+    }
 }

@@ -1,64 +1,74 @@
 //! The order of a chain's buffers, and what each of them shows.
 use crate::filling::fill_part;
+use crate::tests::parts;
 use crate::walking::{count_owned, list_slots};
-use region_cut::{Class, Slot, cut};
-use slot_chain::{Chain, Tag};
+use region_cut::{Class, Slot};
+use slot_chain::{Chain, NoMemory, Tag};
 use std::alloc::Global;
 use std::process::Abort;
 
 // A chain for each chunk of the region, which has eight slots of 512 bytes, and belongs to the allocator 7 or, from its second chunk on, to 4,095.
-fn chains<'r>(rt: &impl Abort, alloc: Global, region: &'r mut [u8]) -> (Chain<'r>, Chain<'r>) {
+fn chains<'r>(
+    rt: &impl Abort,
+    alloc: Global,
+    region: &'r mut [u8],
+) -> Result<(Chain<'r>, Chain<'r>), NoMemory> {
     let class = Class::new(15).expect(rt, "the class of 512 bytes");
     let (mut first, mut second) = (Chain::new(), Chain::new());
-    for part in cut(alloc, region).expect(rt, "two chunks") {
+    for part in parts(alloc, region)? {
         if part.chunk() == 0 {
-            fill_part(alloc, part, class, 7, &mut first).expect(rt, "memory");
+            fill_part(alloc, part, class, 7, &mut first)?;
         } else {
-            fill_part(alloc, part, class, 4095, &mut second).expect(rt, "memory");
+            fill_part(alloc, part, class, 4095, &mut second)?;
         }
     }
-    (first, second)
+    Ok((first, second))
 }
 
 // The slots that a chain gives, from the one that came last.
-fn popped(rt: &impl Abort, alloc: Global, mut chain: Chain<'_>) -> Vec<Slot> {
+fn popped(alloc: Global, mut chain: Chain<'_>) -> Result<Vec<Slot>, NoMemory> {
     let mut slots = Vec::new(alloc);
     while let Some(buf) = chain.pop() {
-        slots.push(buf.slot()).expect(rt, "memory");
+        slots.push(buf.slot())?;
     }
-    slots
+    Ok(slots)
 }
 
 // Eight slots of the chunk, from the last to the first.
-fn from_last(rt: &impl Abort, chunk: u16, slots: &mut Vec<Slot>) {
+fn from_last(chunk: u16, slots: &mut Vec<Slot>) -> Result<(), NoMemory> {
     for index in [7, 6, 5, 4, 3, 2, 1, 0] {
-        slots.push(Slot { chunk, index }).expect(rt, "memory");
+        slots.push(Slot { chunk, index })?;
     }
+    Ok(())
 }
 
-#[test]
-fn last_in_is_first_out(rt: HostRuntime) {
-    let alloc = rt.alloc();
-    let mut region = Vec::from_elem(alloc, 0u8, 2 * 4096).expect(&rt, "memory");
-    let (first, mut second) = chains(&rt, alloc, &mut region);
+fn take_all(rt: &impl Abort, alloc: Global) -> Result<(), NoMemory> {
+    let mut region = Vec::from_elem(alloc, 0u8, 2 * 4096)?;
+    let (first, mut second) = chains(rt, alloc, &mut region)?;
     assert_eq!(rt; first.len(), 8);
     assert_eq!(rt; first.bytes_total(), 4096);
     let mut want = Vec::new(alloc);
-    from_last(&rt, 0, &mut want);
-    assert_eq!(rt; popped(&rt, alloc, first).as_slice(), want.as_slice());
-    let buf = second.pop().expect(&rt, "the last slot");
+    from_last(0, &mut want)?;
+    assert_eq!(rt; popped(alloc, first)?.as_slice(), want.as_slice());
+    let buf = second.pop().expect(rt, "the last slot");
     assert_eq!(rt; buf.slot(), Slot { chunk: 1, index: 7 });
     assert_eq!(rt; buf.class().number(), 15);
     assert_eq!(rt; buf.owner(), 4095);
     assert_eq!(rt; buf.forwards(), 0);
     assert_eq!(rt; second.len(), 7);
+    Ok(())
 }
 
 #[test]
-fn appended_go_on_top(rt: HostRuntime) {
-    let alloc = rt.alloc();
-    let mut region = Vec::from_elem(alloc, 0u8, 2 * 4096).expect(&rt, "memory");
-    let (mut first, mut second) = chains(&rt, alloc, &mut region);
+fn last_in_is_first_out(rt: HostRuntime) {
+    if take_all(&rt, rt.alloc()).is_err() {
+        assert!(rt; take_all(&rt, rt.alloc()).is_ok());
+    }
+}
+
+fn append_twice(rt: &impl Abort, alloc: Global) -> Result<(), NoMemory> {
+    let mut region = Vec::from_elem(alloc, 0u8, 2 * 4096)?;
+    let (mut first, mut second) = chains(rt, alloc, &mut region)?;
     first.append(&mut second);
     assert_eq!(rt; first.len(), 16);
     assert!(rt; second.is_empty());
@@ -68,31 +78,45 @@ fn appended_go_on_top(rt: HostRuntime) {
     assert!(rt; first.is_empty());
     assert_eq!(rt; second.bytes_total(), 8192);
     let mut want = Vec::new(alloc);
-    from_last(&rt, 1, &mut want);
-    from_last(&rt, 0, &mut want);
-    assert_eq!(rt; popped(&rt, alloc, second).as_slice(), want.as_slice());
+    from_last(1, &mut want)?;
+    from_last(0, &mut want)?;
+    assert_eq!(rt; popped(alloc, second)?.as_slice(), want.as_slice());
+    Ok(())
 }
 
 #[test]
-fn walks_from_the_top(rt: HostRuntime) {
-    let alloc = rt.alloc();
-    let mut region = Vec::from_elem(alloc, 0u8, 2 * 4096).expect(&rt, "memory");
-    let (mut first, mut second) = chains(&rt, alloc, &mut region);
+fn appended_go_on_top(rt: HostRuntime) {
+    if append_twice(&rt, rt.alloc()).is_err() {
+        assert!(rt; append_twice(&rt, rt.alloc()).is_ok());
+    }
+}
+
+fn walk_both(rt: &impl Abort, alloc: Global) -> Result<(), NoMemory> {
+    let mut region = Vec::from_elem(alloc, 0u8, 2 * 4096)?;
+    let (mut first, mut second) = chains(rt, alloc, &mut region)?;
     first.append(&mut second);
     let mut want = Vec::new(alloc);
-    from_last(&rt, 1, &mut want);
-    from_last(&rt, 0, &mut want);
-    let slots = list_slots(alloc, &first).expect(&rt, "memory");
+    from_last(1, &mut want)?;
+    from_last(0, &mut want)?;
+    let slots = list_slots(alloc, &first)?;
     assert_eq!(rt; slots.as_slice(), want.as_slice());
     assert_eq!(rt; count_owned(&first, 7), 8);
     assert_eq!(rt; count_owned(&first, 4095), 8);
     assert_eq!(rt; count_owned(&first, 8), 0);
     let tag = Tag {
         slot: Slot { chunk: 1, index: 7 },
-        class: Class::new(15).expect(&rt, "the class of 512 bytes"),
+        class: Class::new(15).expect(rt, "the class of 512 bytes"),
         owner: 4095,
     };
     assert_eq!(rt; first.walk().next(), Some(tag));
     assert!(rt; second.walk().next().is_none());
     assert!(rt; Chain::default().is_empty());
+    Ok(())
+}
+
+#[test]
+fn walks_from_the_top(rt: HostRuntime) {
+    if walk_both(&rt, rt.alloc()).is_err() {
+        assert!(rt; walk_both(&rt, rt.alloc()).is_ok());
+    }
 }

@@ -1,23 +1,24 @@
 //! Want of memory.
 use slot_chain::{NoMemory, Room};
 use std::alloc::AllocError;
-use std::test::Fail;
 
+// The words, also where memory for them is refused once.
 #[test]
-fn is_said_in_words(rt: HostRuntime) -> Result<(), Fail> {
-    assert_eq!(rt;
-        format!(in rt.alloc(); "{}", NoMemory)?.as_str(),
-        "no memory"
-    );
+fn is_said_in_words(rt: HostRuntime) {
+    let alloc = rt.alloc();
+    let text = match format!(in alloc; "{}", NoMemory) {
+        Ok(text) => text,
+        Err(_) => format!(in alloc; "{}", NoMemory).expect(&rt, "memory is there again"),
+    };
+    assert_eq!(rt; text.as_str(), "no memory");
     assert_eq!(rt; NoMemory::from(AllocError), NoMemory);
-    Ok(())
 }
 
-// A room is made, or refused and nothing else.
+// A room is made, or refused and nothing else, and then the next is made.
 #[test]
 fn is_all_that_a_room_can_lack(rt: HostRuntime) {
-    match Room::new(rt.alloc()) {
-        Ok(room) => drop(room),
-        Err(refused) => assert_eq!(rt; refused, NoMemory),
+    if let Err(refused) = Room::new(rt.alloc()) {
+        assert_eq!(rt; refused, NoMemory);
+        assert!(rt; Room::new(rt.alloc()).is_ok());
     }
 }

@@ -1,6 +1,7 @@
 //! Postings in rounds.
 use crate::tests::samples::{bump, filled};
 use digit_route::Posting;
+use slot_chain::NoMemory;
 use std::alloc::Global;
 use std::process::Abort;
 
@@ -16,10 +17,17 @@ fn wanted(rt: &impl Abort, posting: &Posting<'_>, address: u16, want: &[Want]) -
     *count
 }
 
-fn check(rt: &impl Abort, alloc: Global, width: u32, owners: &[u16], want: &[Want], moves: u64) {
-    let mut region = Vec::from_elem(alloc, 0u8, 4096).expect(rt, "memory");
-    let mut bump = bump(rt, alloc, &mut region, 0);
-    let mut posting = filled(rt, alloc, &mut bump, width, 0, owners).posting();
+fn post(
+    rt: &impl Abort,
+    alloc: Global,
+    width: u32,
+    owners: &[u16],
+    want: &[Want],
+    moves: u64,
+) -> Result<(), NoMemory> {
+    let mut region = Vec::from_elem(alloc, 0u8, 4096)?;
+    let mut bump = bump(rt, alloc, &mut region, 0)?;
+    let mut posting = filled(rt, alloc, &mut bump, width, 0, owners)?.posting();
     assert_eq!(rt; posting.round(), 0);
     assert_eq!(rt; posting.moves(), 0);
     let mut round = 0;
@@ -33,6 +41,14 @@ fn check(rt: &impl Abort, alloc: Global, width: u32, owners: &[u16], want: &[Wan
     }
     assert!(rt; posting.next_batch().is_none());
     assert_eq!(rt; posting.moves(), moves);
+    Ok(())
+}
+
+// Where memory was refused it is there the second time.
+fn check(rt: &impl Abort, alloc: Global, width: u32, owners: &[u16], want: &[Want], moves: u64) {
+    if post(rt, alloc, width, owners, want, moves).is_err() {
+        assert!(rt; post(rt, alloc, width, owners, want, moves).is_ok());
+    }
 }
 
 #[test]
@@ -65,19 +81,25 @@ fn six_bits(rt: HostRuntime) {
     );
 }
 
-#[test]
-fn is_put_back(rt: HostRuntime) {
-    let alloc = rt.alloc();
-    let mut region = Vec::from_elem(alloc, 0u8, 4096).expect(&rt, "memory");
-    let mut bump = bump(&rt, alloc, &mut region, 0);
-    let mut posting = filled(&rt, alloc, &mut bump, 1, 0, &[32, 32, 1, 2]).posting();
+fn put_back(rt: &impl Abort, alloc: Global) -> Result<(), NoMemory> {
+    let mut region = Vec::from_elem(alloc, 0u8, 4096)?;
+    let mut bump = bump(rt, alloc, &mut region, 0)?;
+    let mut posting = filled(rt, alloc, &mut bump, 1, 0, &[32, 32, 1, 2])?.posting();
     drop(posting.next_batch());
     drop(posting.next_batch());
-    let batch = posting.next_batch().expect(&rt, "the batch to 32");
+    let batch = posting.next_batch().expect(rt, "the batch to 32");
     let mut cache = posting.put_back(batch);
     assert_eq!(rt; cache.len(), 2);
     assert_eq!(rt; cache.bytes(), 32);
-    let batch = cache.take_bucket_for(32).expect(&rt, "the batch to 32");
+    let batch = cache.take_bucket_for(32).expect(rt, "the batch to 32");
     assert_eq!(rt; batch.len(), 2);
     assert!(rt; cache.posting().end().is_empty());
+    Ok(())
+}
+
+#[test]
+fn is_put_back(rt: HostRuntime) {
+    if put_back(&rt, rt.alloc()).is_err() {
+        assert!(rt; put_back(&rt, rt.alloc()).is_ok());
+    }
 }

@@ -9,10 +9,17 @@ use std::alloc::Global;
 use std::process::Abort;
 
 /// The slots of the region's first chunk, for the class of this number.
-pub fn bump<'r>(rt: &impl Abort, alloc: Global, region: &'r mut [u8], class: u32) -> Bump<'r> {
+pub fn bump<'r>(
+    rt: &impl Abort,
+    alloc: Global,
+    region: &'r mut [u8],
+    class: u32,
+) -> Result<Bump<'r>, NoMemory> {
     let class = Class::new(class).expect(rt, "a class");
-    let mut parts = cut(alloc, region).expect(rt, "a region of few chunks");
-    parts.pop().expect(rt, "a chunk").bump(class)
+    let Ok(mut parts) = cut(alloc, region) else {
+        return Err(NoMemory);
+    };
+    Ok(parts.pop().expect(rt, "a chunk").bump(class))
 }
 
 /// An empty cache of the profile with 64 desks, which is due above 1,024 bytes.
@@ -30,9 +37,9 @@ pub fn filled<'r>(
     width: u32,
     desk: u16,
     owners: &[u16],
-) -> Cache<'r> {
+) -> Result<Cache<'r>, NoMemory> {
     let mut cache = empty(rt, width, desk);
-    let taken = fill(alloc, bump, owners, &mut cache).expect(rt, "memory");
+    let taken = fill(alloc, bump, owners, &mut cache)?;
     assert_eq!(rt; taken, owners.len() as u64);
-    cache
+    Ok(cache)
 }

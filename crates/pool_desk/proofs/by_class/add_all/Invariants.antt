@@ -1,7 +1,5 @@
 use Rattle.std.proofs.Common.{take, map}
-use Rattle.std.specs.Prelude.{Ok}
 use Rattle.std.specs.List.{flat_map}
-use Rattle.slot_chain.specs.declared.error.NoMemory.{NoMemory}
 use Rattle.pool_desk.specs.Homes.{slot_at}
 use Rattle.pool_desk.specs.ByClass.{slots_at}
 use Rattle.pool_desk.specs.Listed.{Adds}

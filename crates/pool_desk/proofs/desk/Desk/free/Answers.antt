@@ -1,4 +1,4 @@
-use Rattle.std.proofs.Common.{◌≡◌, ◌≢◌, sym, ap, ◌∙◌}
+use Rattle.std.proofs.Common.{◌≢◌, sym, ap, ◌∙◌}
 use Rattle.slot_chain.specs.Buffer.{Buffer}
 use Rattle.pool_desk.proofs.DeskLaws.{frees_cached, frees_due, not_both}
 use Rattle.pool_desk.proofs.desk.Desk.free.Goals as goal

@@ -1,6 +1,6 @@
 use Rattle.std.proofs.Common.{◌≡◌, ap, List, [], ◌∷◌}
 use Rattle.region_cut.specs.Bumps.{HoldsPart}
-use Rattle.region_cut.specs.Carved.{Carved, carved_of}
+use Rattle.region_cut.specs.Carved.{carved_of}
 use Rattle.pool_desk.specs.Homes.{AtHome, unused}
 use Rattle.pool_desk.proofs.HomeLaws.{none_kept, unused_new, draws_new}
 use Rattle.pool_desk.proofs.home.Home.claim.Goals as goal

@@ -1,0 +1,71 @@
+//! What is written through a desk's buffers is what the region holds when its borrow ends, also where a class went on to a second chunk.
+use super::{claim, class, counts_are, desk, free_is, lend_some, parts, region};
+use pool_desk::{Desk, Freed};
+use region_cut::CHUNK;
+use slot_chain::{Buf, Chain};
+use std::alloc::Global;
+use std::process::Abort;
+
+// The byte tells the slot: its place, and 100 more in chunk 1.
+fn write(rt: &impl Abort, buf: &mut Buf<'_>) {
+    let slot = buf.slot();
+    let byte = if slot.chunk == 0 { 0 } else { 100 };
+    assert!(rt; slot.index < 12);
+    buf.bytes_mut().fill(byte + slot.index as u8);
+}
+
+fn write_some<'r>(rt: &impl Abort, desk: &mut Desk<'r>, count: u32, lent: &mut Chain<'r>) {
+    for _ in 0..count {
+        let mut buf = lent.pop().expect(rt, "one is lent");
+        write(rt, &mut buf);
+        free_is(rt, desk, buf, Freed::Home);
+    }
+}
+
+// Class 12 has 12 slots of 320 bytes, and 256 bytes at a chunk's end that are in no slot. All slots of two chunks are lent, and then written.
+fn write_region(rt: &impl Abort, alloc: Global, region: &mut [u8]) -> bool {
+    let Some(mut parts) = parts(rt, alloc, region) else {
+        return false;
+    };
+    let mut desk = desk(rt, 3);
+    let mut lent = Chain::new();
+    claim(rt, &mut desk, &mut parts, class(12));
+    lend_some(rt, alloc, &mut desk, 300, 12, &mut lent);
+    claim(rt, &mut desk, &mut parts, class(12));
+    lend_some(rt, alloc, &mut desk, 300, 12, &mut lent);
+    write_some(rt, &mut desk, 24, &mut lent);
+    counts_are(rt, &desk, 24, 0);
+    true
+}
+
+fn holds(rt: &impl Abort, region: &[u8], place: usize, want: u8) {
+    match region.get(place) {
+        Some(byte) => assert!(rt; *byte == want, "byte {place}"),
+        None => panic!(rt; "no byte {place}"),
+    }
+}
+
+// Chunk 1 is the first that the desk claimed.
+fn check(rt: &impl Abort, region: &[u8]) {
+    holds(rt, region, 0, 0);
+    holds(rt, region, 319, 0);
+    holds(rt, region, 320, 1);
+    holds(rt, region, 3839, 11);
+    holds(rt, region, 3840, 201);
+    holds(rt, region, 4095, 201);
+    holds(rt, region, 4096, 100);
+    holds(rt, region, 7935, 111);
+    holds(rt, region, 7936, 201);
+    holds(rt, region, 8191, 201);
+}
+
+#[test]
+fn writes_reach_the_region(rt: HostRuntime) {
+    let alloc = rt.alloc();
+    let Some(mut region) = region(alloc, 2 * CHUNK, 201) else {
+        return;
+    };
+    if write_region(&rt, alloc, &mut region) {
+        check(&rt, &region);
+    }
+}

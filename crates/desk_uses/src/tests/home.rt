@@ -1,0 +1,153 @@
+//! What is at home.
+use super::{claim, class, counts_are, desk, free_is, lend, lend_or_not, parts, region};
+use pool_desk::{Desk, Freed};
+use region_cut::{CHUNK, Part};
+use slot_chain::{Buf, Chain};
+use std::alloc::Global;
+use std::process::Abort;
+
+fn is_slot(rt: &impl Abort, buf: &Buf<'_>, index: u16) {
+    let slot = buf.slot();
+    assert!(rt; slot.chunk == 0);
+    assert!(rt; slot.index == index);
+    assert!(rt; buf.owner() == 5);
+    assert!(rt; buf.forwards() == 0);
+}
+
+// A slot that was never handed out: the next of chunk 0.
+fn lend_next<'r>(rt: &impl Abort, alloc: Global, desk: &mut Desk<'r>, index: u16) -> Buf<'r> {
+    let buf = lend(rt, alloc, desk, 512);
+    is_slot(rt, &buf, index);
+    buf
+}
+
+// A slot that came home before, for which no memory is taken.
+fn lend_again<'r>(rt: &impl Abort, alloc: Global, desk: &mut Desk<'r>, index: u16) -> Buf<'r> {
+    let buf = desk.alloc(alloc, 449).ok().expect(rt, "one came home");
+    is_slot(rt, &buf, index);
+    buf
+}
+
+#[test]
+fn gives_the_last_freed_first(rt: HostRuntime) {
+    let alloc = rt.alloc();
+    let Some(mut region) = region(alloc, CHUNK, 0) else {
+        return;
+    };
+    let Some(mut parts) = parts(&rt, alloc, &mut region) else {
+        return;
+    };
+    let mut desk = desk(&rt, 5);
+    claim(&rt, &mut desk, &mut parts, class(15));
+    let first = lend_next(&rt, alloc, &mut desk, 0);
+    let second = lend_next(&rt, alloc, &mut desk, 1);
+    let _third = lend_next(&rt, alloc, &mut desk, 2);
+    free_is(&rt, &mut desk, second, Freed::Home);
+    free_is(&rt, &mut desk, first, Freed::Home);
+    let _first = lend_again(&rt, alloc, &mut desk, 0);
+    let _second = lend_again(&rt, alloc, &mut desk, 1);
+    let _fourth = lend_next(&rt, alloc, &mut desk, 3);
+}
+
+fn has(rt: &impl Abort, desk: &Desk<'_>, number: u32, want: bool) {
+    assert!(rt; desk.has_home(class(number)) == want);
+}
+
+#[test]
+fn has_the_slots_of_its_class_alone(rt: HostRuntime) {
+    let alloc = rt.alloc();
+    let Some(mut region) = region(alloc, CHUNK, 0) else {
+        return;
+    };
+    let Some(mut parts) = parts(&rt, alloc, &mut region) else {
+        return;
+    };
+    let mut desk = desk(&rt, 5);
+    has(&rt, &desk, 15, false);
+    claim(&rt, &mut desk, &mut parts, class(15));
+    has(&rt, &desk, 15, true);
+    has(&rt, &desk, 14, false);
+}
+
+// Lends where memory is there, and counts what stays at home.
+fn lend_what_goes<'r>(
+    rt: &impl Abort,
+    alloc: Global,
+    desk: &mut Desk<'r>,
+    count: u32,
+    lent: &mut Chain<'r>,
+) {
+    for _ in 0..count {
+        if let Some(buf) = lend_or_not(rt, alloc, desk, 512) {
+            lent.push(buf);
+        }
+    }
+}
+
+// Of eight slots.
+fn at_most_one(rt: &impl Abort, desk: &Desk<'_>, lent: &Chain<'_>) {
+    assert!(rt; desk.counts().0 <= 1);
+    assert!(rt; lent.len() >= 7);
+}
+
+// Of the eight slots each is given out at its first try, but for one where an allocation is refused.
+#[test]
+fn wants_memory_only_where_it_was_refused(rt: HostRuntime) {
+    let alloc = rt.alloc();
+    let Some(mut region) = region(alloc, CHUNK, 0) else {
+        return;
+    };
+    let Some(mut parts) = parts(&rt, alloc, &mut region) else {
+        return;
+    };
+    let mut desk = desk(&rt, 5);
+    claim(&rt, &mut desk, &mut parts, class(15));
+    let mut lent = Chain::new();
+    lend_what_goes(&rt, alloc, &mut desk, 8, &mut lent);
+    at_most_one(&rt, &desk, &lent);
+}
+
+// Buffers of 512 bytes of one desk are freed at another. A chunk has eight of them.
+fn cache<'r>(
+    rt: &impl Abort,
+    alloc: Global,
+    owner: &mut Desk<'r>,
+    other: &mut Desk<'r>,
+    count: u32,
+    want: Freed,
+) {
+    for _ in 0..count {
+        let buf = lend(rt, alloc, owner, 512);
+        free_is(rt, other, buf, want);
+    }
+}
+
+fn fill_two<'r>(
+    rt: &impl Abort,
+    alloc: Global,
+    owner: &mut Desk<'r>,
+    other: &mut Desk<'r>,
+    parts: &mut Vec<Part<'r>>,
+) {
+    claim(rt, owner, parts, class(15));
+    cache(rt, alloc, owner, other, 8, Freed::Cached);
+    claim(rt, owner, parts, class(15));
+    cache(rt, alloc, owner, other, 1, Freed::Due);
+}
+
+// Eight buffers of 512 bytes are the limit, and the ninth is above it.
+#[test]
+fn is_due_above_the_limit_alone(rt: HostRuntime) {
+    let alloc = rt.alloc();
+    let Some(mut region) = region(alloc, 2 * CHUNK, 0) else {
+        return;
+    };
+    let Some(mut parts) = parts(&rt, alloc, &mut region) else {
+        return;
+    };
+    let mut owner = desk(&rt, 1);
+    let mut other = desk(&rt, 0);
+    fill_two(&rt, alloc, &mut owner, &mut other, &mut parts);
+    counts_are(&rt, &other, 0, 9);
+    counts_are(&rt, &owner, 7, 0);
+}

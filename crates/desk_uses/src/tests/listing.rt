@@ -1,0 +1,88 @@
+//! Slots are listed.
+use super::{claim, class, desk, free_is, lend, parts, region, retired};
+use pool_desk::{Desk, Freed, IdleDesk};
+use region_cut::{CHUNK, Part, Slot};
+use slot_chain::{Buf, Chain};
+use std::alloc::Global;
+use std::process::Abort;
+
+// After a want of memory the list has what it had, and the next try works.
+fn list_held(rt: &impl Abort, desk: &Desk<'_>, slots: &mut Vec<Slot>) {
+    let before = slots.len();
+    if desk.list_slots(slots).is_err() {
+        assert!(rt; slots.len() == before);
+        assert!(rt; desk.list_slots(slots).is_ok());
+    }
+}
+
+fn list_idle(rt: &impl Abort, desk: &IdleDesk<'_>, slots: &mut Vec<Slot>) {
+    let before = slots.len();
+    if desk.list_slots(slots).is_err() {
+        assert!(rt; slots.len() == before);
+        assert!(rt; desk.list_slots(slots).is_ok());
+    }
+}
+
+// The slots of chunk 0 from the second on, each once.
+fn check(rt: &impl Abort, slots: &[Slot]) {
+    assert!(rt; slots.len() == 8);
+    for index in 1..9u16 {
+        assert!(rt; slots.contains(&Slot { chunk: 0, index }), "{index}");
+    }
+}
+
+// The first slot stays lent, the second comes home, and the third is given to the caller. Six were never handed out.
+fn spread<'r>(
+    rt: &impl Abort,
+    alloc: Global,
+    owner: &mut Desk<'r>,
+    parts: &mut Vec<Part<'r>>,
+    lent: &mut Chain<'r>,
+) -> Buf<'r> {
+    claim(rt, owner, parts, class(14));
+    lent.push(lend(rt, alloc, owner, 448));
+    let home = lend(rt, alloc, owner, 448);
+    let away = lend(rt, alloc, owner, 448);
+    free_is(rt, owner, home, Freed::Home);
+    away
+}
+
+#[test]
+fn lists_what_is_there(rt: HostRuntime) {
+    let alloc = rt.alloc();
+    let Some(mut region) = region(alloc, CHUNK, 0) else {
+        return;
+    };
+    let Some(mut parts) = parts(&rt, alloc, &mut region) else {
+        return;
+    };
+    let mut lent = Chain::new();
+    let mut owner = desk(&rt, 1);
+    let mut other = desk(&rt, 0);
+    let away = spread(&rt, alloc, &mut owner, &mut parts, &mut lent);
+    free_is(&rt, &mut other, away, Freed::Cached);
+    let mut slots = Vec::new(alloc);
+    list_held(&rt, &owner, &mut slots);
+    list_held(&rt, &other, &mut slots);
+    check(&rt, slots.as_slice());
+}
+
+// The second and the third slot are at home.
+#[test]
+fn lists_what_stays_when_a_worker_leaves(rt: HostRuntime) {
+    let alloc = rt.alloc();
+    let Some(mut region) = region(alloc, CHUNK, 0) else {
+        return;
+    };
+    let Some(mut parts) = parts(&rt, alloc, &mut region) else {
+        return;
+    };
+    let mut lent = Chain::new();
+    let mut owner = desk(&rt, 1);
+    let away = spread(&rt, alloc, &mut owner, &mut parts, &mut lent);
+    free_is(&rt, &mut owner, away, Freed::Home);
+    let idle = retired(&rt, owner);
+    let mut slots = Vec::new(alloc);
+    list_idle(&rt, &idle, &mut slots);
+    check(&rt, slots.as_slice());
+}

@@ -1,0 +1,117 @@
+//! Why a desk refuses.
+use super::{claim, class, counts_are, desk, lend, parts, region};
+use digit_route::Digits;
+use pool_desk::{Desk, DeskError, IdleDesk};
+use region_cut::{CHUNK, Class, Part};
+use std::alloc::Global;
+use std::process::Abort;
+
+// The last of the chunks comes back where it isn't needed.
+fn claim_is_refused<'r>(
+    rt: &impl Abort,
+    desk: &mut Desk<'r>,
+    parts: &mut Vec<Part<'r>>,
+    class: Class,
+) {
+    let part = parts.pop().expect(rt, "a chunk");
+    assert!(rt; class.number() < desk.digits().profile().classes());
+    match desk.claim(part, class) {
+        Ok(()) => panic!(rt; "not needed"),
+        Err((part, error)) => {
+            assert!(rt; part.chunk() == 0);
+            assert!(rt; error == DeskError::NotNeeded);
+        }
+    }
+}
+
+fn alloc_is_refused(
+    rt: &impl Abort,
+    alloc: Global,
+    desk: &mut Desk<'_>,
+    size: usize,
+    want: DeskError,
+) {
+    match desk.alloc(alloc, size) {
+        Ok(_buf) => panic!(rt; "refused"),
+        Err(error) => assert!(rt; error == want),
+    }
+}
+
+#[test]
+fn says_why_nothing_is_given_out(rt: HostRuntime) {
+    let mut desk = desk(&rt, 63);
+    alloc_is_refused(&rt, rt.alloc(), &mut desk, 513, DeskError::TooLarge);
+    let want = DeskError::NeedChunk(class(0));
+    alloc_is_refused(&rt, rt.alloc(), &mut desk, 0, want);
+}
+
+#[test]
+fn says_why_a_chunk_is_not_needed(rt: HostRuntime) {
+    let alloc = rt.alloc();
+    let Some(mut region) = region(alloc, 2 * CHUNK, 0) else {
+        return;
+    };
+    let Some(mut parts) = parts(&rt, alloc, &mut region) else {
+        return;
+    };
+    let mut desk = desk(&rt, 63);
+    claim(&rt, &mut desk, &mut parts, class(0));
+    claim_is_refused(&rt, &mut desk, &mut parts, class(0));
+    counts_are(&rt, &desk, 256, 0);
+}
+
+// Number and words, also where memory for the words is refused once.
+fn check(rt: &impl Abort, alloc: Global, error: DeskError, number: u32, words: &str) {
+    assert_eq!(rt; error.number(), number);
+    let text = match format!(in alloc; "{error}") {
+        Ok(text) => text,
+        Err(_) => format!(in alloc; "{error}").expect(rt, "memory is there again"),
+    };
+    assert_eq!(rt; text.as_str(), words);
+}
+
+#[test]
+fn has_numbers_and_words(rt: HostRuntime) {
+    let alloc = rt.alloc();
+    check(&rt, alloc, DeskError::TooLarge, 1, "too large");
+    let need = DeskError::NeedChunk(class(0));
+    check(&rt, alloc, need, 2, "needs a chunk");
+    check(&rt, alloc, DeskError::NotNeeded, 3, "not needed");
+    check(
+        &rt,
+        alloc,
+        DeskError::Unsettled,
+        4,
+        "the cache is not empty",
+    );
+    check(&rt, alloc, DeskError::NoMemory, 5, "no memory");
+}
+
+// A desk of the profile with 4,096 desks, whose classes go up to 1,024 bytes.
+fn large<'r>(rt: &impl Abort) -> Desk<'r> {
+    let digits = Digits::new2(6).expect(rt, "six bits");
+    IdleDesk::new(4095, digits, 4096).adopt(0)
+}
+
+fn lends_most(rt: &impl Abort, alloc: Global, desk: &mut Desk<'_>) {
+    let buf = lend(rt, alloc, desk, 897);
+    assert!(rt; buf.owner() == 4095);
+    assert!(rt; buf.bytes().len() == 1024);
+}
+
+// Class 19 has 4 slots.
+#[test]
+fn is_of_its_profile(rt: HostRuntime) {
+    let alloc = rt.alloc();
+    let Some(mut region) = region(alloc, CHUNK, 0) else {
+        return;
+    };
+    let Some(mut parts) = parts(&rt, alloc, &mut region) else {
+        return;
+    };
+    let mut desk = large(&rt);
+    alloc_is_refused(&rt, alloc, &mut desk, 1025, DeskError::TooLarge);
+    claim(&rt, &mut desk, &mut parts, class(19));
+    lends_most(&rt, alloc, &mut desk);
+    counts_are(&rt, &desk, 3, 0);
+}

@@ -1,0 +1,87 @@
+//! Four desks, driven by hand. With digits of 2 bits 0 is 0,0,0; 7 is 3,1,0; 11 is 3,2,0; 27 is 3,2,1.
+use super::{claim, class, desk, free_is, handle, lend, parts, region};
+use digit_route::RouteError;
+use pool_desk::{Desk, Freed};
+use region_cut::{CHUNK, Part};
+use std::alloc::Global;
+use std::process::Abort;
+
+// A buffer of 512 bytes of a chunk of its owner is freed at another desk.
+fn leave<'r>(
+    rt: &impl Abort,
+    alloc: Global,
+    owner: &mut Desk<'r>,
+    at: &mut Desk<'r>,
+    parts: &mut Vec<Part<'r>>,
+) {
+    claim(rt, owner, parts, class(15));
+    let buf = lend(rt, alloc, owner, 512);
+    free_is(rt, at, buf, Freed::Cached);
+}
+
+// No batch for `t`, and the desk is as before.
+fn is_refused(rt: &impl Abort, desk: &mut Desk<'_>, t: u16, want: RouteError) {
+    assert!(rt; desk.fault_for(t) == Some(want));
+    match desk.batch_for(t) {
+        Ok(_batch) => panic!(rt; "a batch for {t}"),
+        Err(error) => assert!(rt; error == want),
+    }
+    assert!(rt; desk.counts().1 == 1);
+}
+
+// A batch goes from one desk to another: so many come home, and so many are passed on.
+fn send<'r>(rt: &impl Abort, from: &mut Desk<'r>, to: &mut Desk<'r>, home: u64, on: u64) {
+    let batch = from.batch_for(to.number()).ok().expect(rt, "a batch");
+    let count = batch.len();
+    let counts = handle(rt, to, batch);
+    assert!(rt; counts.home == home && counts.on == on);
+    assert!(rt; count == counts.home.saturating_add(counts.on));
+    assert!(rt; from.counts().1 == 0);
+}
+
+// The buffer that came home last, and how often it was passed on. No memory is taken for it.
+fn came_home(rt: &impl Abort, alloc: Global, desk: &mut Desk<'_>, chunk: u16, forwards: u32) {
+    let buf = desk.alloc(alloc, 512).ok().expect(rt, "one came home");
+    assert!(rt; buf.slot().chunk == chunk && buf.forwards() == forwards);
+}
+
+#[test]
+fn goes_home_by_way_of_nearer_desks(rt: HostRuntime) {
+    let alloc = rt.alloc();
+    let Some(mut region) = region(alloc, 3 * CHUNK, 0) else {
+        return;
+    };
+    let Some(mut parts) = parts(&rt, alloc, &mut region) else {
+        return;
+    };
+    let mut zero = desk(&rt, 0);
+    let mut far = desk(&rt, 27);
+    leave(&rt, alloc, &mut far, &mut zero, &mut parts);
+    let mut eleven = desk(&rt, 11);
+    leave(&rt, alloc, &mut eleven, &mut zero, &mut parts);
+    let mut seven = desk(&rt, 7);
+    leave(&rt, alloc, &mut seven, &mut zero, &mut parts);
+    send(&rt, &mut zero, &mut seven, 1, 2);
+    send(&rt, &mut seven, &mut eleven, 1, 1);
+    send(&rt, &mut eleven, &mut far, 1, 0);
+    came_home(&rt, alloc, &mut far, 2, 2);
+    came_home(&rt, alloc, &mut eleven, 1, 1);
+    came_home(&rt, alloc, &mut seven, 0, 0);
+}
+
+#[test]
+fn says_why_nothing_goes(rt: HostRuntime) {
+    let alloc = rt.alloc();
+    let Some(mut region) = region(alloc, CHUNK, 0) else {
+        return;
+    };
+    let Some(mut parts) = parts(&rt, alloc, &mut region) else {
+        return;
+    };
+    let mut zero = desk(&rt, 0);
+    let mut far = desk(&rt, 27);
+    leave(&rt, alloc, &mut far, &mut zero, &mut parts);
+    is_refused(&rt, &mut zero, 3, RouteError::NotAnOwner);
+    is_refused(&rt, &mut zero, 2, RouteError::NothingFor);
+    is_refused(&rt, &mut zero, 0, RouteError::ToSelf);
+}
