@@ -7,7 +7,8 @@ use Rattle.std.proofs.lemmas.Fmt.{decimal_digit}
 use Rattle.std.proofs.KnownBytes.{Consumes-trans}
 use Rattle.event_floor.specs.Floors.{FloorSeen}
 use Rattle.trace_audit.specs.Grammar.{Lacks, pair, header_text, header_words, IsHeader}
-use Rattle.trace_audit.specs.Machine.{Opens, told}
+use Rattle.trace_audit.specs.Machine.{Tally, Opens, opening_of, told}
+use Rattle.trace_audit.proofs.Tallies.{MachineLaws, reached, told_is}
 use Rattle.trace_audit.specs.Report.{bad_line, no_memory_line}
 use Rattle.trace_audit.specs.Trace.{header_line}
 use Rattle.trace_audit.specs.Replay.{Traced, EndsEarly, Reports, Fails, tail_text, IsBadHeader}
@@ -62,19 +63,18 @@ if_ok_weaker (Err y) P Q f h = tt
 
 -- the header, and what was played behind it
 traced : (left0 left left' : Option (List ℕ)) (h : Header) (held rest : List ℕ) (start now : FloorSeen) (n : ℕ) (tail : List ℕ) (P : List ℕ → Type 0)
-    → IsHeader h → Opens h start → (first : List ℕ) → Consumes left0 left first → first ≡ header_line h ++ held → Played left left' held rest start now n tail P → Traced left0 left' h rest now n tail P
+    → IsHeader h → (opens : Opens h start) → (first : List ℕ) → Consumes left0 left first → first ≡ header_line h ++ held → (p : Played left left' held rest start now n tail P)
+    → Traced left0 left' h rest (reached h start now p.requests p.answers opens p.run) n tail P
 traced left0 left left' h held rest start now n tail P fits opens first read is p = record {
   given = first ++ p.given;
   requests = p.requests;
   answers = p.answers;
-  start = start;
   header = fits;
   read = Consumes-trans left0 left left' first p.given read p.read;
   lines = ap (λ w. w ++ p.given) is ∙ append_assoc (header_line h) held p.given ∙ ap (λ w. header_line h ++ w) p.lines;
   good = p.good;
   number = p.number;
-  opens = opens;
-  run = p.run;
+  run = (p.run (opening_of h) (λ s. 0) opens).2;
   wrote = p.wrote;
 }
 
@@ -83,45 +83,56 @@ no_room : (left0 left left' : Option (List ℕ)) (h : Header) (held : List ℕ) 
 no_room left0 left left' h held P fits first read is same p = (h, first, held, fits, subst (λ (w : Option (List ℕ)). Consumes left0 w first) (sym same) read, is, p)
 
 -- a floor was driven behind the header, or there was no room for one
-pub reports_housed : (left0 left left' out0 out : Option (List ℕ)) (h : Header) (held : List ℕ) (end : End)
+pub reports_housed : MachineLaws → (left0 left left' out0 out : Option (List ℕ)) (h : Header) (held : List ℕ) (end : End)
     → IsHeader h → (first : List ℕ) → Consumes left0 left first → first ≡ header_line h ++ held → Houses left left' held h out0 out end → Reports left0 left' (Appends out0 out) end
-reports_housed left0 left left' out0 out h held end fits first read is (inl (start, opens, (now, n, rest, p, ends))) =
-    inl (h, now, n, rest, traced left0 left left' h held rest start now n (tail_text (told now) end) (Appends out0 out) fits opens first read is p, ends)
-reports_housed left0 left left' out0 out h held end fits first read is (inr (none, same, wrote)) =
-    subst (λ (w : End). Reports left0 left' (Appends out0 out) w) (sym none) (inr (no_room left0 left left' h held (Appends out0 out) fits first read is same wrote))
-
-fails_driven : (left0 left left' out0 out : Option (List ℕ)) (h : Header) (held : List ℕ) (start : FloorSeen) (e : ReplayError)
-    → IsHeader h → Opens h start → (first : List ℕ) → Consumes left0 left first → first ≡ header_line h ++ held → Stopped left left' held start out0 out e → Fails left0 left' out0 out e
-fails_driven left0 left left' out0 out h held start Read fits opens first read is (now, n, rest, p, low, partial, full) =
-    inl (h, now, n, rest, traced left0 left left' h held rest start now n [] (Appends out0 out) fits opens first read is p, low, partial, full)
-fails_driven left0 left left' out0 out h held start Write fits opens first read is (now, n, rest, tail, p, low, inl none) =
+reports_housed laws left0 left left' out0 out h held end fits first read is (inl (start, opens, (now, n, rest, p, ends))) =
     inl (
       h,
-      now,
+      reached h start now p.requests p.answers opens p.run,
       n,
       rest,
-      traced left0 left left' h held rest start now n [] (Begins out0 out) fits opens first read is
-          (subst (λ (w : List ℕ). Played left left' held rest start now n w (Begins out0 out)) none p),
+      subst (λ (t : Tally). Traced left0 left' h rest (reached h start now p.requests p.answers opens p.run) n (tail_text t end) (Appends out0 out))
+          (told_is laws h start now p.requests p.answers fits opens p.run)
+          (traced left0 left left' h held rest start now n (tail_text (told now) end) (Appends out0 out) fits opens first read is p),
+      ends,
+    )
+reports_housed laws left0 left left' out0 out h held end fits first read is (inr (none, same, wrote)) =
+    subst (λ (w : End). Reports left0 left' (Appends out0 out) w) (sym none) (inr (no_room left0 left left' h held (Appends out0 out) fits first read is same wrote))
+
+fails_driven : MachineLaws → (left0 left left' out0 out : Option (List ℕ)) (h : Header) (held : List ℕ) (start : FloorSeen) (e : ReplayError)
+    → IsHeader h → Opens h start → (first : List ℕ) → Consumes left0 left first → first ≡ header_line h ++ held → Stopped left left' held start out0 out e → Fails left0 left' out0 out e
+fails_driven laws left0 left left' out0 out h held start Read fits opens first read is (now, n, rest, p, low, partial, full) =
+    inl (h, reached h start now p.requests p.answers opens p.run, n, rest, traced left0 left left' h held rest start now n [] (Appends out0 out) fits opens first read is p, low, partial, full)
+fails_driven laws left0 left left' out0 out h held start Write fits opens first read is (now, n, rest, tail, p, low, inl none) =
+    let q : Played left left' held rest start now n [] (Begins out0 out) = subst (λ (w : List ℕ). Played left left' held rest start now n w (Begins out0 out)) none p in
+    inl (
+      h,
+      reached h start now q.requests q.answers opens q.run,
+      n,
+      rest,
+      traced left0 left left' h held rest start now n [] (Begins out0 out) fits opens first read is q,
       low,
     )
-fails_driven left0 left left' out0 out h held start Write fits opens first read is (now, n, rest, tail, p, low, inr (end, ends, tails)) =
+fails_driven laws left0 left left' out0 out h held start Write fits opens first read is (now, n, rest, tail, p, low, inr (end, ends, tails)) =
+    let q : Played left left' held rest start now n (tail_text (told now) end) (Begins out0 out) = subst (λ (w : List ℕ). Played left left' held rest start now n w (Begins out0 out)) tails p in
     inr (
       end,
       inl (
         h,
-        now,
+        reached h start now q.requests q.answers opens q.run,
         n,
         rest,
-        traced left0 left left' h held rest start now n (tail_text (told now) end) (Begins out0 out) fits opens first read is
-            (subst (λ (w : List ℕ). Played left left' held rest start now n w (Begins out0 out)) tails p),
+        subst (λ (t : Tally). Traced left0 left' h rest (reached h start now q.requests q.answers opens q.run) n (tail_text t end) (Begins out0 out))
+            (told_is laws h start now q.requests q.answers fits opens q.run)
+            (traced left0 left left' h held rest start now n (tail_text (told now) end) (Begins out0 out) fits opens first read is q),
         ends,
       ),
     )
 
-pub fails_housed : (left0 left left' out0 out : Option (List ℕ)) (h : Header) (held : List ℕ) (e : ReplayError)
+pub fails_housed : MachineLaws → (left0 left left' out0 out : Option (List ℕ)) (h : Header) (held : List ℕ) (e : ReplayError)
     → IsHeader h → (first : List ℕ) → Consumes left0 left first → first ≡ header_line h ++ held → FailsHousing left left' held h out0 out e → Fails left0 left' out0 out e
-fails_housed left0 left left' out0 out h held e fits first read is (inl (start, opens, stopped)) = fails_driven left0 left left' out0 out h held start e fits opens first read is stopped
-fails_housed left0 left left' out0 out h held e fits first read is (inr (write, same, begins)) =
+fails_housed laws left0 left left' out0 out h held e fits first read is (inl (start, opens, stopped)) = fails_driven laws left0 left left' out0 out h held start e fits opens first read is stopped
+fails_housed laws left0 left left' out0 out h held e fits first read is (inr (write, same, begins)) =
     subst (λ (w : ReplayError). Fails left0 left' out0 out w) (sym write) (inr (NoRoom, inr (no_room left0 left left' h held (Begins out0 out) fits first read is same begins)))
 
 -- one line was written, and no other

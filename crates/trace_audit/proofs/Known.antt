@@ -3,9 +3,9 @@ use Rattle.std.proofs.Common.{◌≡◌, inl, inr, ℕ, ◌≤◌, List, [], ◌
 use Rattle.std.specs.Prelude.{IfSome}
 use Rattle.std.specs.List.{flat_map}
 use Rattle.std.specs.Io.KnownBytes.{Consumes, IsAtEnd}
-use Rattle.event_floor.specs.Floors.{FloorSeen}
+use Rattle.event_floor.specs.machine.State.{State}
 use Rattle.trace_audit.specs.Grammar.{header_text}
-use Rattle.trace_audit.specs.Machine.{told}
+use Rattle.trace_audit.specs.Machine.{told_of}
 use Rattle.trace_audit.specs.Trace.{request_line, header_line, EndsTrace, IsTrace, BeginsWithRequest, BeginsWithHeader}
 use Rattle.trace_audit.specs.Replay.{Traced, EndsSo, ReportsLines, ReportsTrace, Reports, IsBadFront, IsBadHeader, tail_text}
 use Rattle.trace_audit.specs.declared.grammar.header.Header.{Header}
@@ -44,7 +44,7 @@ low n rest at_end Whole h = h.0
 low n rest at_end (BadLine k) h = h.0
 low n rest at_end NoRoom h = absurd h
 
-is_trace : (bytes : List ℕ) (left : Option (List ℕ)) (h : Header) (rest : List ℕ) (now : FloorSeen) (n : ℕ) (tail : List ℕ) (P : List ℕ → Type 0) (end : End)
+is_trace : (bytes : List ℕ) (left : Option (List ℕ)) (h : Header) (rest : List ℕ) (now : State) (n : ℕ) (tail : List ℕ) (P : List ℕ → Type 0) (end : End)
     → (t : Traced (Some bytes) left h rest now n tail P) → EndsSo n rest (IsAtEnd left) end → IsTrace bytes h t.requests end
 is_trace bytes left h rest now n tail P end t ends =
     let l = left_of bytes left t.given t.read in
@@ -58,15 +58,15 @@ is_trace bytes left h rest now n tail P end t ends =
       ends = rw t.number (trace_ends n rest l.0 left end l.1 ends);
     }
 
-reports_lines : (bytes : List ℕ) (left : Option (List ℕ)) (h : Header) (rest : List ℕ) (now : FloorSeen) (n : ℕ) (P : List ℕ → Type 0) (end : End)
-    → Traced (Some bytes) left h rest now n (tail_text (told now) end) P → EndsSo n rest (IsAtEnd left) end → ReportsLines bytes P end
+reports_lines : (bytes : List ℕ) (left : Option (List ℕ)) (h : Header) (rest : List ℕ) (now : State) (n : ℕ) (P : List ℕ → Type 0) (end : End)
+    → Traced (Some bytes) left h rest now n (tail_text (told_of now) end) P → EndsSo n rest (IsAtEnd left) end → ReportsLines bytes P end
 reports_lines bytes left h rest now n P end t ends = record {
   header = h;
   requests = t.requests;
   answers = t.answers;
   now = now;
-  trace = is_trace bytes left h rest now n (tail_text (told now) end) P end t ends;
-  answered = record { start = t.start; opens = t.opens; run = t.run };
+  trace = is_trace bytes left h rest now n (tail_text (told_of now) end) P end t ends;
+  answered = t.run;
   wrote = t.wrote;
 }
 

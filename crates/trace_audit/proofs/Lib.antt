@@ -1,6 +1,5 @@
 mod Bytes
 mod Numbers
-mod Steps
 mod Closings
 mod Cuts
 mod Fronts
@@ -9,4 +8,5 @@ mod Plays
 mod Headers
 mod Readings
 pub mod Known
+mod Tallies
 mod Undrawn

@@ -7,12 +7,14 @@ use Rattle.std.proofs.KnownBytes.{Appends-nil, Appends-trans, Consumes-nil, Cons
 use Rattle.event_floor.specs.Floors.{FloorSeen}
 use Rattle.event_floor.specs.declared.request.Request.{Request}
 use Rattle.trace_audit.specs.Grammar.{IsRequest}
-use Rattle.event_floor.specs.Runs.{Answers, Runs}
+use Rattle.event_floor.specs.headline.Headline.{Applies}
+use Rattle.event_floor.specs.machine.State.{State}
+use Rattle.event_floor.specs.machine.Steps.{Answers, Run, after}
 use Rattle.trace_audit.specs.Machine.{Answer, Tally, told}
 use Rattle.trace_audit.specs.Report.{answer_line, bad_line, closing}
 use Rattle.trace_audit.specs.Trace.{request_line}
 use Rattle.trace_audit.specs.Replay.{EndsSo, tail_text}
-use Rattle.trace_audit.specs.Steps.{Played, Broke, Ended, Stopped, Finishes}
+use Rattle.trace_audit.specs.Steps.{Follows, Played, Broke, Ended, Stopped, Finishes}
 use Rattle.trace_audit.specs.Wire.{Begins}
 use Rattle.trace_audit.specs.declared.replaying.ending.End.{End}
 use Rattle.trace_audit.specs.declared.replaying.ending.End.TheVariants.{Whole, BadLine, NoRoom}
@@ -21,12 +23,18 @@ use Rattle.trace_audit.specs.declared.replaying.ending.ReplayError.TheVariants.{
 use Rattle.trace_audit.proofs.Bytes.{consumes_kept}
 
 -- a run goes on by one step
-run_more : (a b c : FloorSeen) (rs : List Request) (xs : List Answer) (r : Request) (x : Answer) → Runs a rs xs b → Answers b r x c → Runs a (rs ++ r ∷ []) (xs ++ x ∷ []) c
-unfolding Runs
-run_more a b c [] [] r x h s = (c, subst (λ (w : FloorSeen). Answers w r x c) h s, refl)
+run_more : (a b c : State) (rs : List Request) (xs : List Answer) (r : Request) (x : Answer) → Run a rs xs b → Answers b r x × (c ≡ after b r x) → Run a (rs ++ r ∷ []) (xs ++ x ∷ []) c
+run_more a b c [] [] r x h s = subst (λ (w : State). Answers w r x × (c ≡ after w r x)) h s
 run_more a b c [] (y ∷ xs) r x h s = absurd h
 run_more a b c (q ∷ rs) [] r x h s = absurd h
-run_more a b c (q ∷ rs) (y ∷ xs) r x (mid, one, more) s = (mid, one, run_more mid b c rs xs r x more s)
+run_more a b c (q ∷ rs) (y ∷ xs) r x (one, more) s = (one, run_more (after a q y) b c rs xs r x more s)
+
+follows_more : (start now new : FloorSeen) (rs : List Request) (xs : List Answer) (r : Request) (x : Answer) → Follows start rs xs now → Applies now r x new → Follows start (rs ++ r ∷ []) (xs ++ x ∷ []) new
+unfolding Applies
+follows_more start now new rs xs r x h s st count shown =
+    let before = h st count shown in
+    let step = s before.0 before.1 before.3 in
+    (step.0, _, run_more st before.0 step.0 rs xs r x before.2 step.1, step.2)
 
 all_more : (rs : List Request) (r : Request) → AllByRecursion IsRequest rs → IsRequest r → AllByRecursion IsRequest (rs ++ r ∷ [])
 all_more [] r h k = (k, tt)
@@ -41,7 +49,6 @@ regroup held0 given more front held rest e k =
     sym (append_assoc held0 given more) ∙ ap (λ w. w ++ more) e ∙ append_assoc front held more ∙ ap (λ w. front ++ w) k
 
 pub played_start : (left0 : Option (List ℕ)) (held0 : List ℕ) (start : FloorSeen) (out0 : Option (List ℕ)) → Played left0 left0 held0 held0 start start 0 [] (Appends out0 out0)
-unfolding Runs
 played_start left0 held0 start out0 = record {
   given = [];
   requests = [];
@@ -50,14 +57,14 @@ played_start left0 held0 start out0 = record {
   lines = append-nil held0;
   good = tt;
   number = refl;
-  run = refl;
+  run = λ st count shown. (st, count, refl, shown);
   wrote = Appends-nil out0;
 }
 
 -- one line more
 pub played_more : (left0 left left' : Option (List ℕ)) (held0 held held' : List ℕ) (start now new : FloorSeen) (n m : ℕ) (P P' : List ℕ → Type 0)
     → Played left0 left held0 held start now n [] P → n + 1 ≡ m → (more : List ℕ) (r : Request) (x : Answer) → Consumes left left' more
-    → held ++ more ≡ request_line r ++ held' → IsRequest r → Answers now r x new → ((text : List ℕ) → P text → P' (text ++ answer_line x))
+    → held ++ more ≡ request_line r ++ held' → IsRequest r → Applies now r x new → ((text : List ℕ) → P text → P' (text ++ answer_line x))
     → Played left0 left' held0 held' start new m [] P'
 played_more left0 left left' held0 held held' start now new n m P P' p e more r x read lines fits step wrote = record {
   given = p.given ++ more;
@@ -68,7 +75,7 @@ played_more left0 left left' held0 held held' start now new n m P P' p e more r 
       ∙ sym (append_assoc (flat_map request_line p.requests) (request_line r) held') ∙ ap (λ w. w ++ held') (sym (flat_more request_line p.requests r));
   good = all_more p.requests r p.good fits;
   number = length-append p.requests (r ∷ []) ∙ ap (λ k. k + 1) p.number ∙ e;
-  run = run_more start now new p.requests p.answers r x p.run step;
+  run = follows_more start now new p.requests p.answers r x p.run step;
   wrote = subst P' (text_more p.answers x) (wrote (flat_map answer_line p.answers ++ []) p.wrote);
 }
   where
@@ -87,7 +94,7 @@ played_tail left0 left left' held0 held rest start now new n tail P P' p more re
   lines = regroup held0 p.given more (flat_map request_line p.requests) held rest p.lines lines;
   good = p.good;
   number = p.number;
-  run = subst (λ (w : FloorSeen). Runs start p.requests p.answers w) (sym same) p.run;
+  run = subst (λ (w : FloorSeen). Follows start p.requests p.answers w) (sym same) p.run;
   wrote = subst (λ (w : List ℕ). P' (w ++ tail)) (append-nil (flat_map answer_line p.answers)) (wrote (flat_map answer_line p.answers ++ []) p.wrote);
 }
 

@@ -1,10 +1,14 @@
--- The floor that a trace drives: how it opens, and what is told of it at the end.
-use Rattle.std.specs.Prelude.{ℕ, ◌≡◌, List, length, map, count_by, is_some, Result}
+-- The pool that a trace drives: how it opens, and what is told of it at the end.
+use Rattle.std.specs.Prelude.{ℕ, List, length, map, count_by, is_some, Result}
 use Rattle.std.specs.List.{range_with_len}
 use Rattle.region_cut.specs.Classes.{bits_of}
 use Rattle.slot_chain.specs.Counts.{capped}
 use Rattle.digit_route.specs.Digits.{Scheme}
-use Rattle.event_floor.specs.Floors.{FloorSeen, desk_count, desk_at, opening}
+use Rattle.event_floor.specs.Floors.{FloorSeen, desk_count, desk_at}
+use Rattle.event_floor.specs.machine.State.{State, opening}
+use Rattle.event_floor.specs.machine.Listing.{Shown}
+use Rattle.event_floor.specs.machine.Told.{home_count, cached_count, queued_count, lent_count, drawn_count}
+use Rattle.event_floor.specs.headline.Listing.{listing_of}
 use Rattle.event_floor.specs.Posted.{buffers_in, inbox_at}
 use Rattle.event_floor.specs.Seats.{home_of, cached_of}
 use Rattle.event_floor.specs.declared.reply.Reply.{Reply}
@@ -19,11 +23,19 @@ Answer = Result Reply Refusal
 abbrev pub digits_of : Header → Scheme
 digits_of h = record { width = h.width; bits = bits_of h.profile }
 
--- the floor as it is behind its header: its limit is 4,096 bytes
-abbrev pub Opens : Header → FloorSeen → Type 0
-Opens h start = start ≡ opening h.desks h.chunks (digits_of h) 4096
+-- the pool behind its header: its limit is 4,096 bytes
+abbrev pub opening_of : Header → State
+opening_of h = opening h.desks h.chunks (digits_of h) 4096
 
--- how many slots a desk has at home, in its cache, and in the batches in its inbox
+-- the floor shows it
+abbrev pub Opens : Header → FloorSeen → Type 0
+Opens h start = Shown (listing_of start) (opening_of h) (λ slot. 0)
+
+-- how many slots are at home with a desk, in its cache, and in the batches that wait for it
+abbrev pub counts_in : State → ℕ → Counts
+counts_in st a = record { home = home_count st a; cached = cached_count st a; queued = queued_count st a }
+
+-- the same, as the floor counts it
 abbrev pub counts_at : FloorSeen → ℕ → Counts
 counts_at v a = record {
   home = capped (length (home_of (desk_at v a)));
@@ -37,7 +49,11 @@ pub record Tally : Type 0 where
   pub lent : ℕ
   pub desks : List Counts
 
--- what a floor has to tell
+-- what is told of a state
+abbrev pub told_of : State → Tally
+told_of st = record { chunks = drawn_count st; lent = lent_count st; desks = map (counts_in st) (range_with_len 0 st.desks) }
+
+-- the same, as the floor counts it
 abbrev pub told : FloorSeen → Tally
 told v = record {
   chunks = length v.drawn;

@@ -2,11 +2,11 @@
 use Rattle.std.specs.Prelude.{ℕ, ◌≡◌, ◌≢◌, ◌⊎◌, ◌+◌, ◌≤◌, List, [], ◌∷◌, ◌++◌, length, Option, Bool, true, false}
 use Rattle.std.specs.List.{flat_map, AllByRecursion}
 use Rattle.std.specs.Io.KnownBytes.{Appends, Consumes, IsAtEnd}
-use Rattle.event_floor.specs.Floors.{FloorSeen}
+use Rattle.event_floor.specs.machine.State.{State}
+use Rattle.event_floor.specs.machine.Steps.{Run}
 use Rattle.event_floor.specs.declared.request.Request.{Request}
 use Rattle.trace_audit.specs.Grammar.{Lacks, spelling, IsRequest, header_text, IsHeader}
-use Rattle.event_floor.specs.Runs.{Runs}
-use Rattle.trace_audit.specs.Machine.{Answer, Opens, Tally, told}
+use Rattle.trace_audit.specs.Machine.{Answer, Tally, opening_of, told_of}
 use Rattle.trace_audit.specs.Trace.{header_line, request_line, BeginsWithHeader, BeginsWithRequest, IsTrace}
 use Rattle.trace_audit.specs.Report.{answer_line, bad_line, closing, no_memory_line}
 use Rattle.trace_audit.specs.Wire.{Begins}
@@ -18,11 +18,9 @@ use Rattle.trace_audit.specs.declared.replaying.ending.ReplayError.TheVariants.{
 
 -- The report.
 
--- the floor of this header answers the requests so, and is this afterwards
-pub record IsAnswered (h : Header) (requests : List Request) (answers : List Answer) (now : FloorSeen) : Type 0 where
-  pub start : FloorSeen
-  pub opens : Opens h start
-  pub run : Runs start requests answers now
+-- the pool of this header answers the requests so, and is in this state afterwards
+abbrev pub IsAnswered : Header → List Request → List Answer → State → Type 0
+IsAnswered h requests answers now = Run (opening_of h) requests answers now
 
 -- the lines behind the answers
 abbrev pub tail_text : Tally → End → List ℕ
@@ -35,10 +33,10 @@ pub record ReportsLines (bytes : List ℕ) (P : List ℕ → Type 0) (end : End)
   pub header : Header
   pub requests : List Request
   pub answers : List Answer
-  pub now : FloorSeen
+  pub now : State
   pub trace : IsTrace bytes header requests end
   pub answered : IsAnswered header requests answers now
-  pub wrote : P (flat_map answer_line answers ++ tail_text (told now) end)
+  pub wrote : P (flat_map answer_line answers ++ tail_text (told_of now) end)
 
 -- The bytes have this end, and P holds of their report and of nothing else: the lines of the answers, that of the bad
 -- line and the closing lines; or one line alone where no good header line stands first, or where there is no room.
@@ -61,20 +59,18 @@ IsBadFront bytes at_end = ((more : List ℕ) → BeginsWithRequest (bytes ++ mor
 abbrev pub IsPartial : List ℕ → Type 0
 IsPartial bytes = Lacks 10 bytes × (length bytes ≤ 64)
 
--- The bytes given are a good header line, n good request lines and a rest; the floor was driven by them, and P holds of
+-- The bytes given are a good header line, n good request lines and a rest; the pool was driven by them, and P holds of
 -- the lines of its answers, with the tail behind them.
-pub record Traced (left0 left : Option (List ℕ)) (h : Header) (rest : List ℕ) (now : FloorSeen) (n : ℕ) (tail : List ℕ) (P : List ℕ → Type 0) : Type 0 where
+pub record Traced (left0 left : Option (List ℕ)) (h : Header) (rest : List ℕ) (now : State) (n : ℕ) (tail : List ℕ) (P : List ℕ → Type 0) : Type 0 where
   pub given : List ℕ
   pub requests : List Request
   pub answers : List Answer
-  pub start : FloorSeen
   pub header : IsHeader h
   pub read : Consumes left0 left given
   pub lines : given ≡ header_line h ++ (flat_map request_line requests ++ rest)
   pub good : AllByRecursion IsRequest requests
   pub number : length requests ≡ n
-  pub opens : Opens h start
-  pub run : Runs start requests answers now
+  pub run : IsAnswered h requests answers now
   pub wrote : P (flat_map answer_line answers ++ tail)
 
 -- how the bytes given end behind a header and n request lines
@@ -91,19 +87,19 @@ EndsEarly left0 left P NoRoom = (h : Header) × (given : List ℕ) × (rest : Li
 
 -- P holds of the report of the bytes given, which have this end
 abbrev pub Reports : Option (List ℕ) → Option (List ℕ) → (List ℕ → Type 0) → End → Type 0
-Reports left0 left P end = ((h : Header) × (now : FloorSeen) × (n : ℕ) × (rest : List ℕ)
-    × Traced left0 left h rest now n (tail_text (told now) end) P × EndsSo n rest (IsAtEnd left) end)
+Reports left0 left P end = ((h : Header) × (now : State) × (n : ℕ) × (rest : List ℕ)
+    × Traced left0 left h rest now n (tail_text (told_of now) end) P × EndsSo n rest (IsAtEnd left) end)
     ⊎ EndsEarly left0 left P end
 
 -- Read: no bad line was known; the lines of the answers to all whole lines were written, and nothing else; nothing at
 -- all where not even a header line was whole. Write: a beginning of a report was written.
 abbrev pub Fails : Option (List ℕ) → Option (List ℕ) → Option (List ℕ) → Option (List ℕ) → ReplayError → Type 0
 Fails left0 left out0 out Read =
-    ((h : Header) × (now : FloorSeen) × (n : ℕ) × (rest : List ℕ)
+    ((h : Header) × (now : State) × (n : ℕ) × (rest : List ℕ)
     × Traced left0 left h rest now n [] (Appends out0 out) × (n ≤ 999999) × IsPartial rest × (n ≡ 999999 → rest ≡ []))
     ⊎ ((given : List ℕ) × Consumes left0 left given × IsPartial given × (out ≡ out0))
 Fails left0 left out0 out Write =
-    ((h : Header) × (now : FloorSeen) × (n : ℕ) × (rest : List ℕ) × Traced left0 left h rest now n [] (Begins out0 out) × (n ≤ 999999))
+    ((h : Header) × (now : State) × (n : ℕ) × (rest : List ℕ) × Traced left0 left h rest now n [] (Begins out0 out) × (n ≤ 999999))
     ⊎ ((end : End) × Reports left0 left (Begins out0 out) end)
 
 -- which of the two failed

@@ -5,7 +5,12 @@ use Rattle.std.specs.Io.KnownBytes.{Appends, Consumes, IsAtEnd}
 use Rattle.event_floor.specs.Floors.{FloorSeen}
 use Rattle.event_floor.specs.declared.request.Request.{Request}
 use Rattle.trace_audit.specs.Grammar.{Lacks, IsRequest}
-use Rattle.event_floor.specs.Runs.{Answers, Runs}
+use Rattle.event_floor.specs.headline.Headline.{Applies}
+use Rattle.event_floor.specs.headline.Listing.{listing_of}
+use Rattle.event_floor.specs.machine.State.{State}
+use Rattle.event_floor.specs.machine.Steps.{Run}
+use Rattle.event_floor.specs.machine.Listing.{Shown}
+use Rattle.region_cut.specs.declared.slot.Slot.{Slot}
 use Rattle.trace_audit.specs.Machine.{Answer, Opens, told}
 use Rattle.trace_audit.specs.Report.{answer_line, no_memory_line}
 use Rattle.trace_audit.specs.Trace.{request_line}
@@ -29,14 +34,19 @@ Took bytes held at_end Bad = (bytes ≡ held) × Lacks 10 held × ((65 ≤ lengt
 
 -- what one line came to: the floor goes from old to new, the writer's bytes from out0 to out
 abbrev pub Turned : List ℕ → List ℕ → Type 0 → FloorSeen → FloorSeen → Option (List ℕ) → Option (List ℕ) → Turn → Type 0
-Turned bytes held at_end old new out0 out turns.Answered = (r : Request) × (x : Answer) × IsRequest r × (bytes ≡ request_line r ++ held) × Answers old r x new × Appends out0 out (answer_line x)
+Turned bytes held at_end old new out0 out turns.Answered = (r : Request) × (x : Answer) × IsRequest r × (bytes ≡ request_line r ++ held) × Applies old r x new × Appends out0 out (answer_line x)
 Turned bytes held at_end old new out0 out turns.Over = (bytes ≡ []) × (held ≡ []) × at_end × (new ≡ old) × (out ≡ out0)
 Turned bytes held at_end old new out0 out turns.Bad = (bytes ≢ []) × IsBadFront bytes at_end × (new ≡ old) × (out ≡ out0)
 
 -- where the reader or the writer failed within a line
 abbrev pub Broke : List ℕ → List ℕ → FloorSeen → FloorSeen → Option (List ℕ) → Option (List ℕ) → ReplayError → Type 0
 Broke bytes held old new out0 out Read = (bytes ≡ held) × IsPartial held × (new ≡ old) × (out ≡ out0)
-Broke bytes held old new out0 out Write = (r : Request) × (x : Answer) × IsRequest r × (bytes ≡ request_line r ++ held) × Answers old r x new × Begins out0 out (answer_line x)
+Broke bytes held old new out0 out Write = (r : Request) × (x : Answer) × IsRequest r × (bytes ≡ request_line r ++ held) × Applies old r x new × Begins out0 out (answer_line x)
+
+-- from each state that the first floor shows, the requests with these answers are a run to one that the other shows
+abbrev pub Follows : FloorSeen → List Request → List Answer → FloorSeen → Type 0
+Follows start requests answers now = (st : State) (count : Slot → ℕ) → Shown (listing_of start) st count
+    → (end : State) × (count' : Slot → ℕ) × Run st requests answers end × Shown (listing_of now) end count'
 
 -- What was held and what was read are n request lines and a rest; the floor was driven by them, and P holds of the
 -- lines of its answers, with the tail behind them.
@@ -48,7 +58,7 @@ pub record Played (left0 left : Option (List ℕ)) (held0 rest : List ℕ) (star
   pub lines : held0 ++ given ≡ flat_map request_line requests ++ rest
   pub good : AllByRecursion IsRequest requests
   pub number : length requests ≡ n
-  pub run : Runs start requests answers now
+  pub run : Follows start requests answers now
   pub wrote : P (flat_map answer_line answers ++ tail)
 
 -- the request lines were read to an end, and the report was written

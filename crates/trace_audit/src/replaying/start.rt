@@ -14,6 +14,7 @@ use crate::lines::{Held, Next, next_line};
 use crate::wire::{Sink, Source};
 use digit_route::Digits;
 use event_floor::Floor;
+use event_floor::laws::{floors_tell_counts, runs_keep_numbers};
 use region_cut::{CHUNK, Profile, cut};
 use slot_chain::NoMemory;
 use std::alloc::{AllocError, Global};
@@ -103,6 +104,8 @@ fn play<R: Source, W: Sink>(
     ensures failed { IfErr result (λ e. Fails (R.remaining reader.old) (R.remaining reader.new) (W.contents writer.old) (W.contents writer.new) e) }
     ensures up { IfErr result (λ e. Failures (R.has_failed reader.new) (W.has_failed writer.new) e) }
 {
+    floors_tell_counts();
+    runs_keep_numbers();
     let mut held = Held::new();
     match next_line(&mut held, reader) {
         Ok(Next::Text(text)) => match read_header(text.as_slice()) {

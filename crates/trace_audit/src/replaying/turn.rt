@@ -1,7 +1,7 @@
 //! One line of a trace.
 ghost use Rattle.std.specs.Prelude.{◌≡◌, ℕ, List, ◌++◌, false, IfOk, IfErr};
 ghost use Rattle.std.specs.Io.KnownBytes.{Consumes, IsAtEnd};
-ghost use Rattle.event_floor.specs.Runs.{Answers};
+ghost use Rattle.event_floor.specs.headline.Headline.{Applies};
 ghost use Rattle.trace_audit.specs.Replay.{Failures};
 ghost use Rattle.trace_audit.specs.Steps.{Turned, Broke};
 
@@ -26,7 +26,7 @@ pub enum Turn {
 
 /// Hands the request to the floor.
 fn answer_of(alloc: Global, floor: &mut Floor<'_>, request: Request) -> Result<Reply, Refusal>
-    ensures { Answers floor.old request result floor.new }
+    ensures { Applies floor.old request result floor.new }
 {
     floor.apply(alloc, request)
 }

@@ -6,13 +6,13 @@ use Rattle.trace_audit.proofs.replaying.start.play.Goals as goal
 pub returns-in-Some-clause-ended : goal.returns-in-Some-clause-ended
 returns-in-Some-clause-ended g c =
     let t = rw c.in-Ok-Text.field-0-is at c.in-Ok-Text.ensures.ok in
-    if_ok_weaker c.on_floor.result _ _ (λ end h. reports_housed _ _ _ _ _ c.in-Some.header c.next_line.new.held.items end c.in-Some.ensures.found.0 t.0 t.1
+    if_ok_weaker c.on_floor.result _ _ (λ end h. reports_housed (record { counts = c.floors_tell_counts.ensures; numbers = c.runs_keep_numbers.ensures }) _ _ _ _ _ c.in-Some.header c.next_line.new.held.items end c.in-Some.ensures.found.0 t.0 t.1
     (header_taken t.0 c.in-Ok-Text.text.items c.as_slice.result.now c.next_line.new.held.items c.in-Some.header (first_is _ _ _ c.new-held.ensures t.2.0) c.as_slice.ensures.value c.in-Some.ensures.found.1) h) c.on_floor.ensures.ended
 
 pub returns-in-Some-clause-failed : goal.returns-in-Some-clause-failed
 returns-in-Some-clause-failed g c =
     let t = rw c.in-Ok-Text.field-0-is at c.in-Ok-Text.ensures.ok in
-    if_err_weaker c.on_floor.result _ _ (λ e h. fails_housed _ _ _ _ _ c.in-Some.header c.next_line.new.held.items e c.in-Some.ensures.found.0 t.0 t.1
+    if_err_weaker c.on_floor.result _ _ (λ e h. fails_housed (record { counts = c.floors_tell_counts.ensures; numbers = c.runs_keep_numbers.ensures }) _ _ _ _ _ c.in-Some.header c.next_line.new.held.items e c.in-Some.ensures.found.0 t.0 t.1
     (header_taken t.0 c.in-Ok-Text.text.items c.as_slice.result.now c.next_line.new.held.items c.in-Some.header (first_is _ _ _ c.new-held.ensures t.2.0) c.as_slice.ensures.value c.in-Some.ensures.found.1) h) c.on_floor.ensures.failed
 
 pub returns-in-None-clause-ended : goal.returns-in-None-clause-ended
