@@ -147,16 +147,12 @@ fn a_trace_is_cut_off(rt: HostRuntime) -> Result<(), Fail> {
             };
             closing = Vec::from_slice(rt.alloc(), rest)?;
         } else {
+            let line = replies.saturating_add(2);
             let mut want = first_lines(rt.alloc(), replies)?;
-            want.extend_from_slice(format!(in rt.alloc();
-                "R17 BadLine {}\n",
-                replies + 2
-            )?.as_bytes())?;
+            let bad = format!(in rt.alloc(); "R17 BadLine {line}\n")?;
+            want.extend_from_slice(bad.as_bytes())?;
             want.extend_from_slice(closing.as_slice())?;
-            assert!(rt;
-                end == Ok(End::BadLine(replies as u32 + 2)),
-                "behind byte {cut}"
-            );
+            assert!(rt; end == Ok(End::BadLine(line as u32)), "behind byte {cut}");
             assert!(rt;
                 bytes.as_slice() == want.as_slice(),
                 "behind byte {cut}: {bytes:?}"
