@@ -135,10 +135,13 @@ fn a_trace_is_cut_off(rt: HostRuntime) -> Result<(), Fail> {
         );
     }
     let mut replies = 0;
+    // the line that is being read
+    let mut line = 1u32;
     let mut closing = Vec::new(rt.alloc());
     for cut in header..TRACE.len() + 1 {
         let (end, bytes) = replayed(rt.alloc(), &TRACE[..cut]);
         if TRACE[cut - 1] == b'\n' {
+            line = line.saturating_add(1);
             replies = TRACE[header..cut].iter().filter(|b| **b == b'\n').count();
             let front = first_lines(rt.alloc(), replies)?;
             assert!(rt; end == Ok(End::Whole), "behind byte {cut}");
@@ -148,15 +151,10 @@ fn a_trace_is_cut_off(rt: HostRuntime) -> Result<(), Fail> {
             closing = Vec::from_slice(rt.alloc(), rest)?;
         } else {
             let mut want = first_lines(rt.alloc(), replies)?;
-            want.extend_from_slice(format!(in rt.alloc();
-                "R17 BadLine {}\n",
-                replies + 2
-            )?.as_bytes())?;
+            let bad = format!(in rt.alloc(); "R17 BadLine {line}\n")?;
+            want.extend_from_slice(bad.as_bytes())?;
             want.extend_from_slice(closing.as_slice())?;
-            assert!(rt;
-                end == Ok(End::BadLine(replies as u32 + 2)),
-                "behind byte {cut}"
-            );
+            assert!(rt; end == Ok(End::BadLine(line)), "behind byte {cut}");
             assert!(rt;
                 bytes.as_slice() == want.as_slice(),
                 "behind byte {cut}: {bytes:?}"
