@@ -11,3 +11,6 @@ pub mod Posts
 pub mod Serves
 pub mod Wholes
 pub mod Runs
+pub mod Named
+pub mod Taken
+pub mod Apart

@@ -1,3 +1,4 @@
 pub mod Listing
 pub mod Whole
+pub mod Names
 pub mod Headline
