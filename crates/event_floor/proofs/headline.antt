@@ -14,3 +14,5 @@ pub mod Runs
 pub mod Named
 pub mod Taken
 pub mod Apart
+pub mod Handed
+pub mod Keeping

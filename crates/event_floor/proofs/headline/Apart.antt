@@ -42,7 +42,7 @@ other_list a c (Some Loans) e ne = refl
 other_list a c (Some (CacheOf b)) e ne = refl
 other_list a c (Some (BatchOf m)) e ne = refl
 
-more_than_none : (m : ℕ) (x : Bool) → 1 + m ≡ one_if x → (m ≡ 0) × (x ≡ true)
+pub more_than_none : (m : ℕ) (x : Bool) → 1 + m ≡ one_if x → (m ≡ 0) × (x ≡ true)
 more_than_none m true e = (omega (arith, e), refl)
 more_than_none m false e = absurd (omega (arith, e))
 
