@@ -12,3 +12,8 @@ pub mod Posts
 pub mod Serves
 pub mod Wholes
 pub mod Runs
+pub mod Named
+pub mod Taken
+pub mod Apart
+pub mod Handed
+pub mod Keeping

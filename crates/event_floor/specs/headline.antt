@@ -1,4 +1,5 @@
 pub mod Counts
 pub mod Listing
 pub mod Whole
+pub mod Names
 pub mod Headline

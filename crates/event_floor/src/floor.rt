@@ -11,6 +11,7 @@ ghost use Rattle.event_floor.specs.Seats.{home_of, cached_of};
 ghost use Rattle.event_floor.specs.Steps.{Does, Refuses};
 ghost use Rattle.event_floor.specs.headline.Headline.{Applies, Headline, Shows};
 ghost use Rattle.event_floor.specs.headline.Listing.{listing_of};
+ghost use Rattle.event_floor.specs.headline.Names.{IsNamed};
 ghost use Rattle.event_floor.specs.machine.Listing.{Shown};
 ghost use Rattle.event_floor.specs.machine.State.{opening as machine_opening};
 
@@ -34,11 +35,12 @@ impl<'r> Model for Floor<'r> {
     ghost Value = { FloorSeen };
 
     ghost use Rattle.event_floor.specs.headline.Headline.{Shows};
+    ghost use Rattle.event_floor.specs.headline.Names.{IsNamed};
     ghost use Rattle.event_floor.specs.headline.Whole.{IsWhole};
 
     ghost view = { λ f. f.lists };
 
-    ghost invariant = { λ f. IsWhole f.lists × Shows f.lists };
+    ghost invariant = { λ f. IsWhole f.lists × Shows f.lists × IsNamed f.lists };
 }
 
 impl<'r> Floor<'r> {
@@ -93,18 +95,20 @@ impl<'r> Floor<'r> {
         ensures unchanged { OnErr result (self.new ≡ self.old) }
         ensures desks { desk_count self.new ≡ desk_count self.old }
     {
-        self.shows();
+        self.keeps();
         let mut answers = Vec::with_capacity(alloc, requests.len())?;
         for request in requests {
             let answer = self.apply(alloc, *request);
             answers.push_reserved(answer);
         }
+        self.keeps();
         Ok(answers)
     }
 
     // What its type keeps.
-    fn shows(&self)
-        ensures { Shows self.now }
+    fn keeps(&self)
+        ensures shows { Shows self.now }
+        ensures named { IsNamed self.now }
     {
         let _lists = &self.lists;
     }

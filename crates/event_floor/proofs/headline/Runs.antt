@@ -9,6 +9,7 @@ use Rattle.event_floor.specs.machine.Steps.{Answer}
 use Rattle.event_floor.specs.machine.Headline.{AppliesAll as ListingAppliesAll}
 use Rattle.event_floor.specs.headline.Headline.{Shows, Applies, Headline}
 use Rattle.event_floor.specs.headline.Listing.{listing_of}
+use Rattle.event_floor.specs.headline.Names.{IsNamed}
 use Rattle.event_floor.specs.headline.Whole.{IsWhole}
 use Rattle.event_floor.proofs.machine.Applied.{shows_next}
 use Rattle.event_floor.proofs.machine.Joins.{applies_none, applies_push}
@@ -37,9 +38,9 @@ pub run_push : (u v w : FloorSeen) (qs : List Request) (ys : List Answer) (q : R
 unfolding AppliesAll Applies
 run_push u v w qs ys q y more one = applies_push (listing_of u) (listing_of v) (listing_of w) qs ys q y more one
 
-pub run_headline : (u v : FloorSeen) (qs : List Request) (ys : List Answer) → AppliesAll u qs ys v → Headline u qs ys v
-unfolding AppliesAll Headline
-run_headline u v qs ys f = headline (listing_of u) qs ys (listing_of v) f
+pub run_headline : (u v : FloorSeen) (qs : List Request) (ys : List Answer) → AppliesAll u qs ys v → IsNamed v → Headline u qs ys v
+unfolding AppliesAll
+run_headline u v qs ys f n = record { run = headline (listing_of u) qs ys (listing_of v) f; named = n }
 
 pub opening_shows : (desks chunks : ℕ) (digits : Scheme) (limit : ℕ) → IsScheme digits → desks ≤ 2 ^ digits.bits → Shows (opening desks chunks digits limit)
 unfolding Shows

@@ -1,6 +1,7 @@
 use Rattle.std.proofs.Common.{◌≡◌, subst}
 use Rattle.event_floor.specs.headline.Headline.{Applies}
 use Rattle.event_floor.proofs.RunLaws.{answers_of}
+use Rattle.event_floor.proofs.headline.Keeping.{stays_named}
 use Rattle.event_floor.proofs.headline.Runs.{step_applies, step_shows}
 use Rattle.event_floor.proofs.headline.Wholes.{stays_whole}
 use Rattle.event_floor.proofs.floor.Floor.apply.Goals as goal
@@ -12,7 +13,11 @@ invariant_of-self c =
     let y = c.apply-answer.result in
     let e = c.apply-answer.ensures in
     let m = answers_of v w c.args.request y e.does e.refuses e.unchanged in
-    (stays_whole v w c.args.request y c.self.invariant.0 m c.keeps.ensures, step_shows v w c.args.request y (step_applies v w c.args.request y c.self.invariant.0 m) c.self.invariant.1)
+    let k = c.self.invariant in (
+      stays_whole v w c.args.request y k.0 m c.keeps.ensures,
+      step_shows v w c.args.request y (step_applies v w c.args.request y k.0 m) k.1,
+      stays_named v w c.args.request y k.1 k.2 m,
+    )
 
 pub returns-clause-applies : goal.returns-clause-applies
 returns-clause-applies c =

@@ -2,10 +2,12 @@ use Rattle.std.proofs.Common.{◌≡◌, ℕ, ◌≤◌, length, sym, subst}
 use Rattle.event_floor.specs.Floors.{FloorSeen, IsFloor, opening}
 use Rattle.event_floor.specs.headline.Headline.{Shows}
 use Rattle.event_floor.specs.headline.Listing.{listing_of}
+use Rattle.event_floor.specs.headline.Names.{IsNamed}
 use Rattle.event_floor.specs.headline.Whole.{IsWhole}
 use Rattle.event_floor.specs.machine.Listing.{Shown}
 use Rattle.event_floor.specs.machine.State.{opening as machine_opening}
 use Rattle.event_floor.proofs.ChunkLaws.{numbered_few}
+use Rattle.event_floor.proofs.headline.Keeping.{opening_named}
 use Rattle.event_floor.proofs.headline.Runs.{opening_shows}
 use Rattle.event_floor.proofs.headline.Wholes.{opening_whole, shows_opening}
 use Rattle.event_floor.proofs.floor.Floor.new.Goals as goal
@@ -15,10 +17,11 @@ invariant_of-result c =
     let chunks = length c.args.parts.items in
     let e : c.in_ok-lists.lists ≡ opening c.args.desks chunks c.args.digits c.args.limit = c.in_ok-lists.ensures in
     let few : chunks ≤ 1024 = numbered_few c.args.parts.items c.requires.parts in
-    subst (λ (v : FloorSeen). IsWhole v × Shows v) (sym e) (
+    subst (λ (v : FloorSeen). IsWhole v × Shows v × IsNamed v) (sym e) (
       opening_whole c.args.desks chunks c.args.digits c.args.limit few
           (subst (λ (v : FloorSeen). IsFloor v.digits v.limit v.chunks v.desks v.lent v.inboxes v.next) e c.keeps.ensures),
       opening_shows c.args.desks chunks c.args.digits c.args.limit c.profile-profile.ensures.scheme c.requires.few,
+      opening_named c.args.desks chunks c.args.digits c.args.limit,
     )
 
 pub returns-clause-shows : goal.returns-clause-shows

@@ -47,3 +47,4 @@ pub returns-clause-headline : goal.returns-clause-headline
 returns-clause-headline c =
     run_headline c.args.self.now c.loop-request.self c.args.requests.now c.loop-request.answers.items
     (subst (λ qs. AppliesAll c.args.self.now qs c.loop-request.answers.items c.loop-request.self) (take_all c.loop-request.request-index c.args.requests.now c.loop-request-test.false) c.loop-request.invariant.applied)
+    c.keeps-2.ensures.named

@@ -1,0 +1,221 @@
+-- Names of chunks that are drawn, and of slots that are handed out for the first time.
+use Rattle.std.proofs.Common.{◌≡◌, ◌≢◌, ℕ, zero, suc, ◌+◌, ◌<◌, ◌≤◌, Bool, true, false, not, ◌==◌, cond, List, [], ◌∷◌, ◌++◌, map, length, get_or, set, take, drop, All, Option, Some, None, is_some, refl, sym, ap, ap₂, ◌∙◌, subst, arith, ⊎_elim, IsPermutation}
+use Rattle.std.specs.Prelude.{IfSome, count_by, option_map}
+use Rattle.std.specs.Borrow.{GName}
+use Rattle.std.specs.List.{slice_get}
+use Rattle.std.proofs.lemmas.Bool.{true≢false}
+use Rattle.std.proofs.lemmas.Bool.Decides.{eqb_tells}
+use Rattle.std.proofs.lemmas.Option.{slice_get_past}
+use Rattle.std.proofs.lemmas.List.{get_or-map, length-map, length-set, length_push, get_or-set_same, get_or-set_other}
+use Rattle.std.proofs.lemmas.List.Elements.{All-nil, All-cons, All-head, All-tail, All-append}
+use Rattle.std.proofs.lemmas.List.Sorted.{All-permutation, IsPermutation-map, IsPermutation-sym, sum_by-IsPermutation}
+use Rattle.region_cut.specs.declared.slot.Slot.{Slot}
+use Rattle.region_cut.specs.Carved.{Carved}
+use Rattle.region_cut.specs.Classes.{slots_of, size_of}
+use Rattle.slot_chain.specs.Buffer.{Buffer}
+use Rattle.pool_desk.specs.Homes.{AtHome, Unused, slot_at, unused_from, Names, TakesNext, taken_next}
+use Rattle.pool_desk.specs.Homes.AtHome.{Kept, Fresh}
+use Rattle.pool_desk.specs.Desks.{IdleState, DeskState}
+use Rattle.event_floor.specs.declared.chunks.Drawn.{Drawn}
+use Rattle.event_floor.specs.declared.seat.Seat.{Seat}
+use Rattle.event_floor.specs.declared.seat.Seat.TheVariants.{Idle, Held}
+use Rattle.event_floor.specs.Chunks.{class_drawn}
+use Rattle.event_floor.specs.Lent.{place_of}
+use Rattle.event_floor.specs.Posted.{Posted, inbox_at}
+use Rattle.event_floor.specs.Seats.{home_of, cached_of}
+use Rattle.event_floor.specs.Floors.{FloorSeen, desk_at, desk_count, no_desk, IsHeld}
+use Rattle.event_floor.specs.Steps.{DrawsChunk, LendsSlot}
+use Rattle.event_floor.specs.machine.Slots.{one_if}
+use Rattle.event_floor.specs.headline.Names.{HasName, HasNoName, IsNamedHome, IsNamedDesk, AreNames, chunks_of, drew, is_drawn_for}
+use Rattle.event_floor.proofs.machine.Enumerate.{count_cons}
+use Rattle.event_floor.proofs.headline.Named.{held_named, changed_named, each_desk, each_place}
+
+-- ---- lists
+
+pub get_pushed : {X : Type 0} (xs : List X) (x y : X) (k : ℕ) → slice_get xs k ≡ Some y → slice_get (xs ++ x ∷ []) k ≡ Some y
+get_pushed [] x y k e = absurd (true≢false (sym (ap is_some e)))
+get_pushed (z ∷ xs) x y zero e = e
+get_pushed (z ∷ xs) x y (suc k) e = get_pushed xs x y k e
+
+pub get_last : {X : Type 0} (xs : List X) (x : X) → slice_get (xs ++ x ∷ []) (length xs) ≡ Some x
+get_last [] x = refl
+get_last (y ∷ xs) x = get_last xs x
+
+-- behind the last place nothing was pushed, and before it all is as it was
+get_before : {X : Type 0} (xs : List X) (x : X) (k : ℕ) → k ≢ length xs → slice_get (xs ++ x ∷ []) k ≡ slice_get xs k
+get_before [] x zero ne = absurd (ne refl)
+get_before [] x (suc k) ne = refl
+get_before (y ∷ xs) x zero ne = refl
+get_before (y ∷ xs) x (suc k) ne = get_before xs x k (λ e. ne (omega (arith, e)))
+
+pub get_set_same : {X : Type 0} (xs : List X) (k : ℕ) (x y : X) → slice_get xs k ≡ Some y → slice_get (set xs k x) k ≡ Some x
+get_set_same [] k x y e = absurd (true≢false (sym (ap is_some e)))
+get_set_same (z ∷ xs) zero x y e = refl
+get_set_same (z ∷ xs) (suc k) x y e = get_set_same xs k x y e
+
+pub get_set_other : {X : Type 0} (xs : List X) (k j : ℕ) (x : X) → j ≢ k → slice_get (set xs k x) j ≡ slice_get xs j
+get_set_other [] zero j x ne = refl
+get_set_other [] (suc k) j x ne = refl
+get_set_other (z ∷ xs) zero zero x ne = absurd (ne refl)
+get_set_other (z ∷ xs) zero (suc j) x ne = refl
+get_set_other (z ∷ xs) (suc k) zero x ne = refl
+get_set_other (z ∷ xs) (suc k) (suc j) x ne = get_set_other xs k j x (λ e. ne (omega (arith, e)))
+
+pub some_is : {X : Type 0} (x y : X) → Some x ≡ Some y → x ≡ y
+some_is x y e = cc
+
+pub count_zero : {X : Type 0} (p : X → Bool) (xs : List X) → count_by p xs ≡ 0 → All (λ x. p x ≡ false) xs
+count_zero p [] e = All-nil (λ x. p x ≡ false)
+count_zero p (x ∷ xs) e = go (p x) refl (sym (count_cons p x xs) ∙ e) (count_zero p xs)
+  where
+    go : (b : Bool) → p x ≡ b → cond b 1 0 + count_by p xs ≡ 0 → (count_by p xs ≡ 0 → All (λ y. p y ≡ false) xs) → All (λ y. p y ≡ false) (x ∷ xs)
+    go true q f r = absurd (omega (arith, f))
+    go false q f r = All-cons (λ y. p y ≡ false) x xs q (r (omega (arith, f)))
+
+pub All-to : {X : Type 0} (P Q : X → Type 0) (xs : List X) → ((x : X) → P x → Q x) → All P xs → All Q xs
+All-to P Q xs f h = λ k d l. f (get_or xs k d) (h k d l)
+
+pub some_to : {X : Type 0} (P Q : X → Type 0) (o : Option X) → ((x : X) → P x → Q x) → IfSome o P → IfSome o Q
+some_to P Q None f h = tt
+some_to P Q (Some x) f h = f x h
+
+pub same_eqb : (m j : ℕ) → m ≡ j → (m == j) ≡ true
+same_eqb m j e = grind (arith, e)
+
+pub other_eqb : (m j : ℕ) → m ≢ j → (m == j) ≡ false
+other_eqb m j e = grind (arith, e)
+
+pub eqb_is : (m j : ℕ) → (m == j) ≡ true → m ≡ j
+eqb_is m j e = grind (arith, e)
+
+pub eqb_same : (m j : ℕ) → (m == j) ≡ false → m ≢ j
+eqb_same m j e f = true≢false (sym (same_eqb m j f) ∙ e)
+
+-- how often a chunk is in a list of chunks
+abbrev pub chunk_count : ℕ → List Carved → ℕ
+chunk_count k cs = count_by (λ (c : Carved). c.chunk == k) cs
+
+pub chunk_permuted : (k : ℕ) (xs ys : List Carved) → IsPermutation xs ys → chunk_count k ys ≡ chunk_count k xs
+chunk_permuted k xs ys p = sum_by-IsPermutation (λ (c : Carved). cond (c.chunk == k) 1 0) xs ys p
+
+-- ---- Claim
+
+module _ (names : List Carved) (v w : FloorSeen) (a class k : ℕ) (n : AreNames names v) (s : DrawsChunk v a class k w) where
+  abbrev new_chunk : Carved
+  new_chunk = s.claims.drawn.drawn
+
+  abbrev new_names : List Carved
+  new_names = names ++ new_chunk ∷ []
+
+  abbrev new_drawn : List Drawn
+  new_drawn = v.drawn ++ record { owner = a; class = class } ∷ []
+
+  kept_name : (b : Buffer) → HasName names b → HasName new_names b
+  kept_name b h = record { chunk = h.chunk; is_chunk = get_pushed names new_chunk h.chunk b.slot.chunk h.is_chunk; class = h.class; name = h.name }
+
+  kept_home : (x : AtHome) → IsNamedHome names x → IsNamedHome new_names x
+  kept_home (Kept b) h = kept_name b h
+  kept_home (Fresh u) h = record { chunk = h.chunk; is_chunk = get_pushed names new_chunk h.chunk u.slot.chunk h.is_chunk; class = h.class; part = h.part; place = h.place }
+
+  last_place : length names ≡ k
+  last_place = n.count ∙ sym s.is_next
+
+  uncut_named : (i m : ℕ) (bs : List ℕ) → All (IsNamedHome new_names) (unused_from k class s.part.bytes.ghost_name m i bs)
+  uncut_named i zero bs = All-nil (IsNamedHome new_names)
+  uncut_named i (suc m) bs =
+      All-cons (IsNamedHome new_names) (Fresh (record { slot = record { chunk = k; index = i }; class = class; part = s.part.bytes.ghost_name; bytes = take (size_of class) bs })) _
+      (record {
+        chunk = new_chunk;
+        is_chunk = subst (λ j. slice_get new_names j ≡ Some new_chunk) last_place (get_last names new_chunk);
+        class = s.claims.drawn.uncut.class_is;
+        part = s.claims.drawn.uncut.whole;
+        place = subst (λ xs. length xs ≤ i) (sym s.claims.drawn.uncut.none_taken) (omega arith);
+      })
+      (uncut_named (i + 1) m (drop (size_of class) bs))
+
+  drew_last : (b : ℕ) → drew new_drawn b (length v.drawn) ≡ (a == b)
+  drew_last b = ap (is_drawn_for b) (get_last v.drawn (record { owner = a; class = class }))
+
+  drew_before : (b j : ℕ) → j ≢ length v.drawn → drew new_drawn b j ≡ drew v.drawn b j
+  drew_before b j ne = ap (is_drawn_for b) (get_before v.drawn (record { owner = a; class = class }) j ne)
+
+  drew_none : (b : ℕ) → drew v.drawn b (length v.drawn) ≡ false
+  drew_none b = ap (is_drawn_for b) (slice_get_past v.drawn (length v.drawn) (omega arith))
+
+  drew_kept : (b j : ℕ) → b ≢ a → drew new_drawn b j ≡ drew v.drawn b j
+  drew_kept b j ne = ⊎_elim
+      (λ (same : _ × (j ≡ length v.drawn)). ap (drew new_drawn b) same.1 ∙ (drew_last b ∙ (other_eqb a b (λ e. ne (sym e)) ∙ sym (ap (drew v.drawn b) same.1 ∙ drew_none b))))
+      (λ (other : _ × (j ≢ length v.drawn)). drew_before b j other.1) (eqb_tells j (length v.drawn))
+
+  kept_same : (c : Carved) → slice_get names c.chunk ≡ Some c → slice_get new_names c.chunk ≡ Some c
+  kept_same c e = get_pushed names new_chunk c c.chunk e
+
+  other_desk : (b : ℕ) (x : Seat) → b ≢ a → IsNamedDesk names v.drawn b x → IsNamedDesk new_names new_drawn b x
+  other_desk b x ne h = record {
+    home = All-to (IsNamedHome names) (IsNamedHome new_names) (home_of x) kept_home h.home;
+    cached = All-to (HasName names) (HasName new_names) (cached_of x) kept_name h.cached;
+    same = All-to (λ (c : Carved). slice_get names c.chunk ≡ Some c) (λ (c : Carved). slice_get new_names c.chunk ≡ Some c) (chunks_of x) kept_same h.same;
+    once = λ j. h.once j ∙ ap one_if (sym (drew_kept b j ne));
+  }
+
+  new_chunk_is : new_chunk.chunk ≡ k
+  new_chunk_is = s.claims.drawn.uncut.chunk ∙ s.is_part
+
+  claimed_once : (j : ℕ) → chunk_count j s.after.drawn ≡ one_if (drew new_drawn a j)
+  claimed_once j =
+      let h = held_named names v n a s.before s.held in
+      let e : chunk_count j s.after.drawn ≡ cond (new_chunk.chunk == j) 1 0 + one_if (drew v.drawn a j) =
+              chunk_permuted j _ _ s.claims.drawn.added ∙ (count_cons (λ (c : Carved). c.chunk == j) new_chunk s.before.drawn ∙ ap (λ m. cond (new_chunk.chunk == j) 1 0 + m) (h.once j)) in
+      e ∙ ⊎_elim
+      (λ (same : _ × (j ≡ length v.drawn)).
+          ap₂ (λ (x y : Bool). cond x 1 0 + one_if y) (same_eqb new_chunk.chunk j (new_chunk_is ∙ (s.is_next ∙ sym same.1))) (ap (drew v.drawn a) same.1 ∙ drew_none a)
+          ∙ sym (ap one_if (ap (drew new_drawn a) same.1 ∙ (drew_last a ∙ same_eqb a a refl))))
+      (λ (other : _ × (j ≢ length v.drawn)).
+          ap (λ (x : Bool). cond x 1 0 + one_if (drew v.drawn a j)) (other_eqb new_chunk.chunk j (λ q. other.1 (sym q ∙ (new_chunk_is ∙ s.is_next))))
+          ∙ (omega arith ∙ ap one_if (sym (drew_before a j other.1)))) (eqb_tells j (length v.drawn))
+
+  claimed_desk : IsNamedDesk new_names new_drawn a (Held s.after)
+  claimed_desk =
+      let h = held_named names v n a s.before s.held in
+      let slots : IsPermutation (unused_from k class s.part.bytes.ghost_name (slots_of class) 0 s.part.bytes.now ++ s.before.home) s.after.home =
+              subst (λ m. IsPermutation (unused_from m class s.part.bytes.ghost_name (slots_of class) 0 s.part.bytes.now ++ s.before.home) s.after.home) s.is_part s.claims.home in
+      record {
+        home = All-permutation (IsNamedHome new_names) _ _ slots
+            (All-append (IsNamedHome new_names) _ s.before.home (uncut_named 0 (slots_of class) s.part.bytes.now) (All-to (IsNamedHome names) (IsNamedHome new_names) s.before.home kept_home h.home));
+        cached = subst (λ bs. All (HasName new_names) bs) (ap (λ (x : DeskState). x.cached) (sym s.claims.same)) (All-to (HasName names) (HasName new_names) s.before.cached kept_name h.cached);
+        same = All-permutation (λ (c : Carved). slice_get new_names c.chunk ≡ Some c) _ _ s.claims.drawn.added
+            (All-cons (λ (c : Carved). slice_get new_names c.chunk ≡ Some c) new_chunk s.before.drawn
+            (ap (slice_get new_names) (new_chunk_is ∙ sym last_place) ∙ get_last names new_chunk)
+            (All-to (λ (c : Carved). slice_get names c.chunk ≡ Some c) (λ (c : Carved). slice_get new_names c.chunk ≡ Some c) s.before.drawn kept_same h.same));
+        once = claimed_once;
+      }
+
+  claimed_chunks : (j : ℕ) (c : Carved) → slice_get new_names j ≡ Some c → (c.chunk ≡ j) × (class_drawn new_drawn j ≡ Some c.class)
+  claimed_chunks j c e = ⊎_elim
+      (λ (same : _ × (j ≡ length names)).
+          let q : new_chunk ≡ c = some_is new_chunk c (sym (get_last names new_chunk) ∙ (ap (slice_get new_names) (sym same.1) ∙ e)) in (
+            ap (λ (x : Carved). x.chunk) (sym q) ∙ (new_chunk_is ∙ sym (same.1 ∙ last_place)),
+            ap (λ m. option_map (λ (d : Drawn). d.class) (slice_get new_drawn m)) (same.1 ∙ n.count)
+            ∙ (ap (option_map (λ (d : Drawn). d.class)) (get_last v.drawn (record { owner = a; class = class })) ∙ ap (λ m. Some m) (sym s.claims.drawn.uncut.class_is ∙ ap (λ (x : Carved). x.class) q)),
+          ))
+      (λ (other : _ × (j ≢ length names)).
+          let h = n.chunks j c (sym (get_before names new_chunk j other.1) ∙ e) in (
+            h.0,
+            ap (option_map (λ (d : Drawn). d.class)) (get_before v.drawn (record { owner = a; class = class }) j (λ q. other.1 (q ∙ sym n.count))) ∙ h.1,
+          )) (eqb_tells j (length names))
+
+  each_claimed : (b : ℕ) → b < length (set v.desks a (Held s.after)) → IsNamedDesk new_names new_drawn b (get_or (set v.desks a (Held s.after)) b no_desk)
+  each_claimed b m = ⊎_elim
+      (λ (same : _ × (b ≡ a)). rw same.1 (rw (get_or-set_same v.desks a (Held s.after) no_desk s.held.0) claimed_desk))
+      (λ (other : _ × (b ≢ a)). rw (get_or-set_other v.desks a b (Held s.after) no_desk other.1)
+          (other_desk b (desk_at v b) other.1 (n.desks b (rw (length-set v.desks a (Held s.after)) at m)))) (eqb_tells b a)
+
+  pub claim_named : AreNames new_names w
+  claim_named = subst (AreNames new_names) (sym s.same) (record {
+    count = length_push names new_chunk ∙ (ap (λ m. m + 1) n.count ∙ sym (length_push v.drawn (record { owner = a; class = class })));
+    chunks = claimed_chunks;
+    desks = each_claimed;
+    lent = λ i. some_to (HasName names) (HasName new_names) (get_or v.lent i None) kept_name (n.lent i);
+    posted = λ b. All-to (λ (p : Posted). All (HasName names) p.buffers) (λ (p : Posted). All (HasName new_names) p.buffers) (inbox_at v.inboxes b)
+        (λ p h. All-to (HasName names) (HasName new_names) p.buffers kept_name h) (n.posted b);
+  })

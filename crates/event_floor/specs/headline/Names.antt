@@ -1,0 +1,65 @@
+-- The names by which the bytes of the slots are known when the region's borrow ends.
+use Rattle.std.specs.Prelude.{◌≡◌, ℕ, ◌<◌, ◌≤◌, Bool, false, ◌==◌, List, length, slice_get, slice_index_or, count_by, Option, Some, None, IfSome, All}
+use Rattle.region_cut.specs.Carved.{Carved}
+use Rattle.slot_chain.specs.Buffer.{Buffer}
+use Rattle.pool_desk.specs.Homes.{AtHome, Unused}
+use Rattle.pool_desk.specs.Homes.AtHome.{Kept, Fresh}
+use Rattle.event_floor.specs.declared.chunks.Drawn.{Drawn}
+use Rattle.event_floor.specs.declared.seat.Seat.{Seat}
+use Rattle.event_floor.specs.declared.seat.Seat.TheVariants.{Idle, Held}
+use Rattle.event_floor.specs.Chunks.{class_drawn}
+use Rattle.event_floor.specs.Posted.{Posted, inbox_at}
+use Rattle.event_floor.specs.Seats.{home_of, cached_of}
+use Rattle.event_floor.specs.Floors.{FloorSeen, desk_at, desk_count}
+use Rattle.event_floor.specs.machine.Slots.{one_if}
+
+-- the buffer of place i of a chunk has the i-th name that was taken of the chunk, and the chunk's class
+pub record HasName (names : List Carved) (b : Buffer) : Type 0 where
+  pub chunk : Carved
+  pub is_chunk : slice_get names b.slot.chunk ≡ Some chunk
+  pub class : chunk.class ≡ b.class
+  pub name : slice_get chunk.taken b.slot.index ≡ Some b.bytes.ghost_name
+
+-- a slot that was never handed out: no name was taken for its place yet
+pub record HasNoName (names : List Carved) (u : Unused) : Type 0 where
+  pub chunk : Carved
+  pub is_chunk : slice_get names u.slot.chunk ≡ Some chunk
+  pub class : chunk.class ≡ u.class
+  pub part : chunk.whole ≡ u.part
+  pub place : length chunk.taken ≤ u.slot.index
+
+abbrev pub IsNamedHome : List Carved → AtHome → Type 0
+IsNamedHome names (Kept b) = HasName names b
+IsNamedHome names (Fresh u) = HasNoName names u
+
+-- the chunks that a desk ever claimed
+abbrev pub chunks_of : Seat → List Carved
+chunks_of (Idle d) = d.drawn
+chunks_of (Held d) = d.drawn
+
+-- the chunk was drawn for desk a
+abbrev pub is_drawn_for : ℕ → Option Drawn → Bool
+is_drawn_for a None = false
+is_drawn_for a (Some d) = d.owner == a
+
+abbrev pub drew : List Drawn → ℕ → ℕ → Bool
+drew drawn a k = is_drawn_for a (slice_get drawn k)
+
+-- desk a: all its buffers have their names, and it knows each chunk that was drawn for it once, and no other
+pub record IsNamedDesk (names : List Carved) (drawn : List Drawn) (a : ℕ) (s : Seat) : Type 0 where
+  pub home : All (IsNamedHome names) (home_of s)
+  pub cached : All (HasName names) (cached_of s)
+  pub same : All (λ (c : Carved). slice_get names c.chunk ≡ Some c) (chunks_of s)
+  pub once : (k : ℕ) → count_by (λ (c : Carved). c.chunk == k) (chunks_of s) ≡ one_if (drew drawn a k)
+
+-- these are the drawn chunks of the floor in order, each with its class and the names taken of it, and all buffers have their names
+pub record AreNames (names : List Carved) (v : FloorSeen) : Type 0 where
+  pub count : length names ≡ length v.drawn
+  pub chunks : (k : ℕ) (c : Carved) → slice_get names k ≡ Some c → (c.chunk ≡ k) × (class_drawn v.drawn k ≡ Some c.class)
+  pub desks : (a : ℕ) → a < desk_count v → IsNamedDesk names v.drawn a (desk_at v a)
+  pub lent : (i : ℕ) → IfSome (slice_index_or v.lent i None) (HasName names)
+  pub posted : (b : ℕ) → All (λ (p : Posted). All (HasName names) p.buffers) (inbox_at v.inboxes b)
+
+-- no two buffers have one name of a chunk: each has that of its place
+unfoldable pub IsNamed : FloorSeen → Type 0
+IsNamed v = (names : List Carved) × AreNames names v
