@@ -27,4 +27,3 @@ pub mod TakeStep
 pub mod Answered
 pub mod Orderly
 pub mod Numbers
-pub mod Bounds

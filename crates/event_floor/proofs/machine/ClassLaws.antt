@@ -1,27 +1,13 @@
 -- The least class.
-use Rattle.std.proofs.Common.{Bool, true, false, ◌≡◌, ℕ, zero, suc, ◌<◌, ◌≤◌, ◌&&◌, nat_le, length, take, get_or-take, get_or, refl, sym, subst₂, subst, arith, inl, inr}
+use Rattle.std.proofs.Common.{true, false, ◌≡◌, ℕ, ◌<◌, ◌≤◌, nat_le, length, take, get_or-take, get_or, refl, sym, subst₂, subst, arith, inl, inr}
 use Rattle.std.proofs.Common.{lt_of_lt_of_le}
-use Rattle.std.proofs.lemmas.Bool.{and_parts, leb-true, leb-false, cases_lt}
+use Rattle.std.proofs.lemmas.Bool.{leb-true, leb-false, cases_lt}
 use Rattle.std.proofs.lemmas.List.Sums.{fails_before_first, passes_at_first}
 use Rattle.region_cut.specs.declared.class.TheConstants.{SIZES}
 use Rattle.region_cut.specs.declared.profile.Profile.{Profile}
 use Rattle.region_cut.specs.declared.profile.Profile.TheVariants.{Pool, Pool2}
 use Rattle.region_cut.specs.Classes.{size_of, classes_of, IsLeastFor, largest_of}
 use Rattle.event_floor.specs.machine.State.{least_class}
-
--- a test that each number below n passes
-abbrev pub all_below : (ℕ → Bool) → ℕ → Bool
-all_below f zero = true
-all_below f (suc n) = all_below f n && f n
-
-pub below_passes : (f : ℕ → Bool) (n : ℕ) → all_below f n ≡ true → (k : ℕ) → k < n → f k ≡ true
-below_passes f zero e k l = absurd (omega arith)
-below_passes f (suc n) e k l =
-    let h = and_parts (all_below f n) (f n) e in
-    elim (cases_lt k n) as (λ _. f k ≡ true) [
-      | inl m ↦ below_passes f n h.0 k m
-      | inr m ↦ (let q : n ≡ k = omega arith in subst (λ z. f z ≡ true) q h.1)
-    ]
 
 -- the classes of a profile are the first ones
 sizes_of : (p : Profile) (k : ℕ) → k < classes_of p → get_or (take (classes_of p) SIZES) k 0 ≡ size_of k
@@ -67,24 +53,5 @@ some_class Pool2 n l = elim (cases_lt (least_class Pool2 n) 20) as (λ _. least_
     le_lt_suc : 19 < 20
     le_lt_suc = omega arith
 
--- the largest size is that of the last class
-sizes_ordered : (p : Profile) (c : ℕ) → c < classes_of p → size_of c ≤ largest_of p
-sizes_ordered Pool c l = leb-true _ _ (below_passes (λ k. nat_le (size_of k) 512) 16 refl c l)
-sizes_ordered Pool2 c l = leb-true _ _ (below_passes (λ k. nat_le (size_of k) 1024) 20 refl c l)
-
-pub largest_holds : (p : Profile) (n c : ℕ) → IsLeastFor p n c → n ≤ largest_of p
-largest_holds p n c h =
-    let a = sizes_ordered p c h.is_used in
-    let b = h.holds in
-    omega (arith, a, b)
-
 pub least_class_least : (p : Profile) (n : ℕ) → n ≤ largest_of p → IsLeastFor p n (least_class p n)
 least_class_least p n l = first_is p n (least_class p n) refl (some_class p n l)
-
--- there is only one least class
-pub least_class_is : (p : Profile) (n c : ℕ) → IsLeastFor p n c → c ≡ least_class p n
-least_class_is p n c h =
-    let k = least_class_least p n (largest_holds p n c h) in
-    let a = h.is_least (least_class p n) k.holds k.is_used in
-    let b = k.is_least c h.holds h.is_used in
-    omega (arith, a, b)

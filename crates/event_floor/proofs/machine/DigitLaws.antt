@@ -86,9 +86,6 @@ common-le s x y = (IsCommon-common s x y).within
 common-agree : (s : Scheme) (x y : ℕ) → Agree s x y (common s x y)
 common-agree s x y = (IsCommon-common s x y).agree
 
-common-differ : (s : Scheme) (x y : ℕ) → common s x y < count s → digit s x (common s x y) ≢ digit s y (common s x y)
-common-differ s x y = (IsCommon-common s x y).differ
-
 -- all digits agree for equal numbers alone
 same_from_common : (s : Scheme) → IsScheme s → (x y : ℕ) → x < 2 ^ s.bits → y < 2 ^ s.bits → common s x y ≡ count s → x ≡ y
 same_from_common s i x y bx by e =

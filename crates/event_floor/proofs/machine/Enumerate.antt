@@ -22,9 +22,6 @@ count_map p f [] = refl
 count_map p f (x ∷ xs) =
     count_cons p (f x) (map f xs) ∙ (ap (λ n. cond (p (f x)) 1 0 + n) (count_map p f xs) ∙ sym (count_cons (λ y. p (f y)) x xs))
 
-pub count_agree : {A : Type 0} (p q : A → Bool) (xs : List A) → ((x : A) → p x ≡ q x) → count_by p xs ≡ count_by q xs
-count_agree p q xs e = ap (λ r. count_by r xs) (λ i x. e x i)
-
 pub count_none : {A : Type 0} (p : A → Bool) (xs : List A) → ((x : A) → p x ≡ false) → count_by p xs ≡ 0
 count_none p [] e = refl
 count_none p (x ∷ xs) e = count_cons p x xs ∙ ap₂ (λ b n. cond b 1 0 + n) (e x) (count_none p xs e)

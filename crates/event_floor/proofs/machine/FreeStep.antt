@@ -68,9 +68,6 @@ named_there v st count h l s p = go (named_of st s) (subst (λ n. 0 < n) (h.in_p
 
 -- ---- what stays labelled
 
-recount : (Slot → ℕ) → Slot → Slot → ℕ
-recount count r s = if same_slot r s then 0 else count s
-
 apart_slots : (st : State) (r s : Slot) (k : Named) → named_of st r ≡ Some Loans → named_of st s ≡ Some k → same_list k Loans ≡ false →
     same_slot r s ≡ false
 apart_slots st r s k e f g = go (same_slot r s) refl

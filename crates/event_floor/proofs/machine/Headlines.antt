@@ -81,8 +81,10 @@ headline old qs ys new f st count h =
         frame = g.2.frame;
         once = shown_once new g.0 (λ s. forwards st qs ys s (start_count st count s)) g.2;
         in_place = g.2.in_place;
-        carried = g.2.cached;
-        carried_in_batches = g.2.posted;
+        homes = g.2.homes;
+        lent = g.2.lent;
+        cached = g.2.cached;
+        posted = g.2.posted;
         few = g.2.sound.few;
       },
     )

@@ -39,15 +39,6 @@ module _ (v : Listing) (st : State) (count : Slot → ℕ) (h : Shown v st count
   waits_there b j d l = filter_member (λ w. b == w.address) (as_waiting (get_or (inbox_listing v b) j d)) st.waiting
       (subst (λ ws. Member (as_waiting (get_or (inbox_listing v b) j d)) ws) (h.frame.inboxes b) (row_member (inbox_listing v b) j d l))
 
-  -- a number stands in one inbox
-  pub one_row : (b c i j : ℕ) (d e : BatchListing) → i < length (inbox_listing v b) → j < length (inbox_listing v c) →
-      (get_or (inbox_listing v b) i d).number ≡ (get_or (inbox_listing v c) j e).number → b ≡ c
-  one_row b c i j d e l m q =
-      let x = waits_there b i d l in
-      let y = waits_there c j e m in
-      let z = same_number st.waiting _ _ h.sound.rising x.0 y.0 q in
-      eqb-true b _ x.1 ∙ (ap (λ (w : Waiting). w.address) z ∙ sym (eqb-true c _ y.1))
-
   pub row_rises : (b : ℕ) → Rising (map as_waiting (inbox_listing v b))
   row_rises b = subst (λ ws. Rising ws) (sym (h.frame.inboxes b)) (Rising-filter (λ w. b == w.address) st.waiting h.sound.rising)
 

@@ -20,9 +20,6 @@ use Rattle.digit_route.specs.Digits.{Scheme, IsScheme}
 use Rattle.region_cut.specs.Classes.{size_of}
 use Rattle.event_floor.proofs.machine.InPlace.{bytes_listed}
 
-OwnerSaid : State → Entry → Type 0
-OwnerSaid st e = e.owner ≡ owner_of st e.slot
-
 module _ (st : State) (p : ℕ → Bool) where
   -- a test of the owner is a test of the slot
   pub part_times : (s : Slot) (xs : List Entry) → All (λ (e : Entry). e.owner ≡ owner_of st e.slot) xs →

@@ -217,9 +217,6 @@ module _ (v : Listing) (st : State) (count : Slot → ℕ) (h : Shown v st count
       and_true true = refl
       and_true false = refl
 
-  width_is : (a t o : ℕ) → nat_lt (near st a t) (near st o t) ≡ goes_by v.digits a t o
-  width_is a t o = ap (λ w. goes_by w a t o) (sym h.frame.digits)
-
   bucket_any : (a t : ℕ) → list_any (in_bucket st a t) (slots st) ≡ list_any (λ (e : Entry). goes_by v.digits a t e.owner) (desk_listing v a).cache
   bucket_any a t = cache_any a (λ o. nat_lt (near st a t) (near st o t))
       ∙ ap (λ w. list_any (λ (e : Entry). goes_by w a t e.owner) (desk_listing v a).cache) (sym h.frame.digits)
