@@ -2,7 +2,7 @@
 use crate::filling::{fill_part, mark_region};
 use crate::tests::parts;
 use crate::writing::{clear, copy_in, mark_top, stamped};
-use region_cut::{Class, class_for};
+use region_cut::class_for;
 use slot_chain::{Chain, NoMemory};
 use std::alloc::Global;
 use std::process::Abort;
@@ -52,7 +52,7 @@ fn writes_reach_the_region(rt: HostRuntime) {
 }
 
 fn write_and_read(rt: &impl Abort, alloc: Global) -> Result<(), NoMemory> {
-    let class = Class::new(0).expect(rt, "the first class");
+    let class = class_for(16).expect(rt, "a class of 16 bytes");
     let mut region = Vec::from_elem(alloc, 3u8, 4096)?;
     let mut chain = Chain::new();
     for part in parts(alloc, &mut region)? {

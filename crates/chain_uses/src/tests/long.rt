@@ -2,7 +2,7 @@
 use crate::filling::fill_part;
 use crate::tests::parts;
 use crate::walking::count_owned;
-use region_cut::Class;
+use region_cut::class_for;
 use slot_chain::{Chain, NoMemory};
 use std::alloc::Global;
 use std::process::Abort;
@@ -11,7 +11,7 @@ use std::process::Abort;
 const COUNT: u64 = 102_400;
 
 fn append_all(rt: &impl Abort, alloc: Global) -> Result<(), NoMemory> {
-    let class = Class::new(0).expect(rt, "the first class");
+    let class = class_for(16).expect(rt, "a class of 16 bytes");
     let mut region = Vec::from_elem(alloc, 0u8, 400 * 4096)?;
     let mut chain = Chain::new();
     for part in parts(alloc, &mut region)? {
