@@ -113,10 +113,7 @@ fn counts_are(rt: &impl Abort, desk: &Desk<'_>, home: u64, cached: u64) {
 
 // Where the cache is empty.
 fn retired<'r>(rt: &impl Abort, desk: Desk<'r>) -> IdleDesk<'r> {
-    match desk.retire() {
-        Ok(idle) => idle,
-        Err(_) => panic!(rt; "the cache is empty"),
-    }
+    desk.retire().ok().expect(rt, "the cache is empty")
 }
 
 // A batch comes to its address.

@@ -48,19 +48,12 @@ fn is_posted<'r>(rt: &impl Abort, desk: Desk<'r>, owner: &mut Desk<'r>) -> Desk<
 
 // It is handed back where its cache isn't empty.
 fn is_unsettled<'r>(rt: &impl Abort, desk: Desk<'r>) -> Desk<'r> {
-    match desk.retire() {
-        Ok(_) => panic!(rt; "its cache is not empty"),
-        Err(desk) => desk,
-    }
-}
-
-fn is_held_by(rt: &impl Abort, desk: &Desk<'_>, worker: u32) {
-    assert!(rt; desk.worker() == worker);
+    desk.retire().err().expect(rt, "its cache is not empty")
 }
 
 fn goes_to_another_worker(rt: &impl Abort, idle: IdleDesk<'_>, home: u64) {
     let desk = idle.adopt(5);
-    is_held_by(rt, &desk, 5);
+    assert!(rt; desk.worker() == 5);
     counts_are(rt, &desk, home, 0);
 }
 
