@@ -1,19 +1,37 @@
 //! What no clause says, and what crosses the two crates: from a region to chains of its buffers, and back to its bytes.
 //!
 //! A test that takes memory is made again where it was refused, since then it is there.
+ghost use Rattle.std.specs.Prelude.{◌<◌};
+
 mod bytes;
 mod long;
 mod order;
 mod refusal;
 
-use region_cut::{Part, cut};
-use slot_chain::NoMemory;
+use crate::filling::fill_region;
+use region_cut::{Class, Part, cut};
+use slot_chain::{Chain, NoMemory};
 use std::alloc::Global;
 
 // The chunks of a region that has few.
 fn parts<'r>(alloc: Global, region: &'r mut [u8]) -> Result<Vec<Part<'r>>, NoMemory> {
     match cut(alloc, region) {
         Ok(parts) => Ok(parts),
+        Err(_) => Err(NoMemory),
+    }
+}
+
+// A chain of all slots of a region that has few chunks.
+fn filled<'r>(
+    alloc: Global,
+    region: &'r mut [u8],
+    class: Class,
+    owner: u16,
+) -> Result<Chain<'r>, NoMemory>
+    requires { owner < 4096 }
+{
+    match fill_region(alloc, region, class, owner) {
+        Ok(chain) => Ok(chain),
         Err(_) => Err(NoMemory),
     }
 }

@@ -1,8 +1,8 @@
 //! What is written through buffers is what the region holds when its borrow ends.
-use crate::filling::{fill_part, mark_region};
-use crate::tests::parts;
+use crate::filling::mark_region;
+use crate::tests::filled;
 use crate::writing::{clear, copy_in, mark_top, stamped};
-use region_cut::{Class, class_for};
+use region_cut::class_for;
 use slot_chain::{Chain, NoMemory};
 use std::alloc::Global;
 use std::process::Abort;
@@ -11,10 +11,7 @@ use std::process::Abort;
 fn write_all(rt: &impl Abort, alloc: Global) -> Result<(), NoMemory> {
     let class = class_for(48).expect(rt, "a class of 48 bytes");
     let mut region = Vec::from_elem(alloc, 201u8, 2 * 4096 + 100)?;
-    let mut chain = Chain::new();
-    for part in parts(alloc, &mut region)? {
-        fill_part(alloc, part, class, 0, &mut chain)?;
-    }
+    let mut chain = filled(alloc, &mut region, class, 0)?;
     assert_eq!(rt; chain.len(), 170);
     let mut filled = Chain::new();
     while let Some(mut buf) = chain.pop() {
@@ -52,12 +49,9 @@ fn writes_reach_the_region(rt: HostRuntime) {
 }
 
 fn write_and_read(rt: &impl Abort, alloc: Global) -> Result<(), NoMemory> {
-    let class = Class::new(0).expect(rt, "the first class");
+    let class = class_for(16).expect(rt, "a class of 16 bytes");
     let mut region = Vec::from_elem(alloc, 3u8, 4096)?;
-    let mut chain = Chain::new();
-    for part in parts(alloc, &mut region)? {
-        fill_part(alloc, part, class, 63, &mut chain)?;
-    }
+    let mut chain = filled(alloc, &mut region, class, 63)?;
     assert!(rt; mark_top(&mut chain, 7));
     let mut buf = chain.pop().expect(rt, "the last slot");
     assert_eq!(rt;

@@ -1,8 +1,7 @@
 //! A chain that is too long for a recursion.
-use crate::filling::fill_part;
-use crate::tests::parts;
+use crate::tests::filled;
 use crate::walking::count_owned;
-use region_cut::Class;
+use region_cut::class_for;
 use slot_chain::{Chain, NoMemory};
 use std::alloc::Global;
 use std::process::Abort;
@@ -11,12 +10,9 @@ use std::process::Abort;
 const COUNT: u64 = 102_400;
 
 fn append_all(rt: &impl Abort, alloc: Global) -> Result<(), NoMemory> {
-    let class = Class::new(0).expect(rt, "the first class");
+    let class = class_for(16).expect(rt, "a class of 16 bytes");
     let mut region = Vec::from_elem(alloc, 0u8, 400 * 4096)?;
-    let mut chain = Chain::new();
-    for part in parts(alloc, &mut region)? {
-        fill_part(alloc, part, class, 1, &mut chain)?;
-    }
+    let mut chain = filled(alloc, &mut region, class, 1)?;
     assert_eq!(rt; chain.len(), COUNT);
     assert_eq!(rt; chain.bytes_total(), 16 * COUNT);
     let mut other = Chain::new();
