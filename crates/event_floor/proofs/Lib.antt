@@ -2,6 +2,7 @@ pub mod ChunkLaws
 pub mod FloorLaws
 pub mod ListLaws
 pub mod PostLaws
+pub mod RiseLaws
 pub mod RunLaws
 pub mod SeatLaws
 pub mod machine

@@ -1,16 +1,12 @@
 -- Lists of slots, one element longer.
 use Rattle.std.proofs.Common.{◌≡◌, ℕ, suc, ◌+◌, ◌<◌, List, [], ◌∷◌, ◌++◌, length, get_or, map, take, refl, sym, ap, ◌∙◌, subst, append-nil, IsPermutation}
-use Rattle.std.specs.Prelude.{Option, Some, None}
 use Rattle.std.specs.List.{flat_map}
-use Rattle.std.specs.Option.{option_to_list}
 use Rattle.std.proofs.lemmas.List.{map-append, take_more}
 use Rattle.std.proofs.lemmas.List.Concat.{flat_map-append}
 use Rattle.std.proofs.lemmas.List.Sorted.{IsPermutation-append}
 use Rattle.region_cut.specs.declared.slot.Slot.{Slot}
-use Rattle.slot_chain.specs.Buffer.{Buffer}
 use Rattle.digit_route.specs.Slots.{AddsSlots, slot_of}
 use Rattle.event_floor.specs.Posted.{Posted, buffers_in}
-use Rattle.event_floor.specs.Lent.{buffers_lent}
 
 -- the pieces of the elements up to and with the i-th
 flat_more : {X Y : Type 0} (f : X → List Y) (xs : List X) (i : ℕ) (x : X) → i < length xs → x ≡ get_or xs i x
@@ -26,9 +22,3 @@ listed_more ps i p slots slots' l read h a =
     subst (λ z. IsPermutation z slots') (sym all)
     (subst (λ z. IsPermutation (map slot_of (buffers_in (take i ps)) ++ map slot_of p.buffers) z) (sym a.appended)
     (IsPermutation-append (map slot_of (buffers_in (take i ps))) slots (map slot_of p.buffers) a.added h a.slots))
-
--- one more place of the table
-pub lent_more : (places : List (Option Buffer)) (i : ℕ) (o : Option Buffer) → i < length places → o ≡ get_or places i o
-    → map slot_of (buffers_lent (take (i + 1) places)) ≡ map slot_of (buffers_lent (take i places)) ++ map slot_of (option_to_list o)
-lent_more places i o l read =
-    ap (map slot_of) (flat_more option_to_list places i o l read) ∙ map-append slot_of (buffers_lent (take i places)) (option_to_list o)

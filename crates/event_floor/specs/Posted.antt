@@ -1,6 +1,6 @@
 -- The batches that wait in the inboxes.
 use Rattle.std.specs.Prelude.{ℕ, ◌≡◌, ◌<◌, Bool, true, false, List, [], ◌∷◌, ◌++◌, length, slice_index_or, All, Any}
-use Rattle.std.specs.List.{flat_map}
+use Rattle.std.specs.List.{flat_map, AllPairs}
 use Rattle.slot_chain.specs.Buffer.{Buffer}
 use Rattle.digit_route.specs.Digits.{Scheme}
 use Rattle.slot_chain.specs.Counts.{capped}
@@ -54,6 +54,10 @@ NonePosted P inboxes = (b : ℕ) → b < length inboxes → All (λ (p : Posted)
 abbrev pub IsHalfAt : List (List Posted) → ℕ → ℕ → ℕ → Type 0
 IsHalfAt inboxes number inbox place =
     (inbox < length inboxes) × (place < length (inbox_at inboxes inbox)) × IsHalf number (slice_index_or (inbox_at inboxes inbox) place no_batch)
+
+-- each batch has a greater number than those before it
+abbrev pub NumbersRise : List Posted → Type 0
+NumbersRise posted = AllPairs (λ (p q : Posted). p.number < q.number) posted
 
 -- nothing can be taken: the inbox is empty, or its front still has to be linked
 abbrev pub HasNoFront : List Posted → Type 0

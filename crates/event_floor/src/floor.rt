@@ -67,9 +67,9 @@ impl<'r> Floor<'r> {
         Ok(Floor { lists })
     }
 
-    /// Does what is asked, or refuses and changes nothing. Only `Alloc` and `Send` take memory. `Retire` and `Link` look through the
-    /// waiting batches, `Send` and `Take` go over the buffers of their batch and `Send` over those of the cache; all other requests
-    /// take constant time.
+    /// Does what is asked, or refuses and changes nothing. Only `Alloc` and `Send` take memory. `Retire` looks through the waiting
+    /// batches, and `Link` looks into each inbox. `Send` goes over the buffers of the cache, and `Take` over those of its batch. All
+    /// other requests take constant time.
     pub fn apply(&mut self, alloc: Global, request: Request) -> Result<Reply, Refusal>
         ensures applies { Applies self.old request result self.new }
         ensures does { IfOk result (λ reply. Does self.old request reply self.new) }

@@ -1,9 +1,9 @@
 //! A desk's inbox.
-ghost use Rattle.std.specs.Prelude.{◌≡◌, ◌<◌, ◌∷◌, [], length, slice_index_or, slice_set, All, Any, IfOk, OnErr, None, MatchOption, MatchBool, IsPermutation, map};
+ghost use Rattle.std.specs.Prelude.{◌≡◌, ◌<◌, ◌≤◌, ℕ, ◌∷◌, [], length, slice_index_or, slice_set, All, Any, IfOk, OnErr, None, MatchOption, MatchBool, IsPermutation, map};
 ghost use Rattle.slot_chain.specs.Counts.{capped};
 ghost use Rattle.digit_route.specs.Route.{RouteFault};
 ghost use Rattle.digit_route.specs.Slots.{slot_of};
-ghost use Rattle.event_floor.specs.Posted.{Posted, as_linked, no_batch, IsHalf, IsHalfOf, buffers_in, HasNoFront, LeavesFront, SendsInto};
+ghost use Rattle.event_floor.specs.Posted.{Posted, as_linked, no_batch, IsHalf, IsHalfOf, NumbersRise, buffers_in, HasNoFront, LeavesFront, SendsInto};
 
 use crate::waiting::Waiting;
 use digit_route::Batch;
@@ -22,11 +22,13 @@ pub(crate) struct Inbox<'r> {
 
 impl<'r> Model for Inbox<'r> {
     ghost use Rattle.std.specs.Prelude.{List};
-    ghost use Rattle.event_floor.specs.Posted.{Posted};
+    ghost use Rattle.event_floor.specs.Posted.{Posted, NumbersRise};
 
     ghost Value = { List Posted };
 
     ghost view = { λ i. i.batches.items };
+
+    ghost invariant = { λ i. NumbersRise i.batches.items };
 }
 
 impl<'r> Inbox<'r> {
@@ -39,16 +41,26 @@ impl<'r> Inbox<'r> {
         }
     }
 
-    /// The place of the batch of this number, where it waits here and still has to be linked.
+    // The place of the first batch whose number isn't below this one.
+    fn place_of(&self, number: u32) -> usize
+        ensures below { (k : ℕ) (d : Posted) → k < result → (slice_index_or self.now k d).number < number }
+        ensures above { (k : ℕ) (d : Posted) → result ≤ k → k < length self.now → number ≤ (slice_index_or self.now k d).number }
+        ensures rising { NumbersRise self.now }
+    {
+        self.batches
+            .partition_point(|waiting| waiting.number() < number)
+    }
+
+    /// The place of the batch of this number, where it waits here and still has to be linked. The numbers rise along the inbox, so it
+    /// takes a time that grows with the logarithm of how many wait.
     pub(crate) fn find_half(&self, number: u32) -> Option<usize>
         ensures { MatchOption result
             (All (λ (p : Posted). IsHalf number p → ⊥) self.now)
             (λ i. (i < length self.now) × IsHalf number (slice_index_or self.now i no_batch)) }
     {
-        for i in 0..self.batches.len() {
-            if self.batches[i].is_half(number) {
-                return Some(i);
-            }
+        let place = self.place_of(number);
+        if place < self.batches.len() && self.batches[place].is_half(number) {
+            return Some(place);
         }
         None
     }
@@ -76,7 +88,8 @@ impl<'r> Inbox<'r> {
     /// Takes out of the desk's cache all that goes to `t`, and puts it behind all that waits here, as a batch of this number. Room for it
     /// is made first, so a refusal changes nothing.
     pub(crate) fn send(&mut self, desk: &mut Desk<'r>, t: u16, number: u32) -> Result<u64, NoMemory>
-        requires { RouteFault desk.old.digits desk.old.number t desk.old.cached None }
+        requires routes { RouteFault desk.old.digits desk.old.number t desk.old.cached None }
+        requires later { All (λ (p : Posted). p.number < number) self.old }
         ensures sends { IfOk result (λ count. SendsInto desk.old t number count self.old desk.new self.new) }
         ensures refused { OnErr result (self.new ≡ self.old) }
         ensures refused_desk { OnErr result (desk.new ≡ desk.old) }

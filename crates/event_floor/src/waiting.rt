@@ -37,6 +37,13 @@ impl<'r> Waiting<'r> {
         }
     }
 
+    /// Its number on the floor.
+    pub(crate) fn number(&self) -> u32
+        ensures { result ≡ self.now.number }
+    {
+        self.number
+    }
+
     /// Whether it is linked.
     pub(crate) fn is_linked(&self) -> bool
         ensures { result ≡ self.now.linked }

@@ -40,3 +40,13 @@ invariant_of-self-in-Ok c =
     floor_settled (floor_inbox c.args.t _
     (floor_seat c.args.a _ g there (send_seated _ _ _ _ _ _ _ _ _ s.batch seat s.same_desk s.gives)) there_too
     (sent_posted _ _ _ _ _ c.args.a _ _ _ _ _ _ _ (posted_read c.args.t _ g there_too c.index_mut-2.ensures.value) seat there (omega arith) s))
+
+pub send-requires-clause-later : goal.send-requires-clause-later
+send-requires-clause-later c =
+    let there : c.args.a < length c.self.inside.desks.items = omega (arith, c.if-a-len.false, c.len.ensures, c.self.inside.desks.ok) in
+    let held : get_or c.self.inside.desks.items c.args.a no_desk ≡ Held c.in-Held.desk = desk_read _ _ _ _ there c.index_mut.ensures.value c.in-Held.is in
+    let f = c.self.invariant in
+    let seat = seated_at c.args.a c.in-Held.desk f there held in
+    let there_too : c.args.t < length c.self.inside.desks.items = omega (arith, c.if-t-len.false, c.len-else-a-len.ensures, c.self.inside.desks.ok) in
+    let posted = posted_read c.args.t _ f there_too c.index_mut-2.ensures.value in
+    λ k d l. (posted k d l).numbered

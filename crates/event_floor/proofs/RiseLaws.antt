@@ -1,0 +1,34 @@
+-- Inboxes along which the numbers rise.
+use Rattle.std.proofs.Common.{◌≡◌, ◌≢◌, ℕ, ◌<◌, ◌≤◌, List, length, get_or, sym, ◌∙◌, subst, arith, All, ⊎_elim}
+use Rattle.std.proofs.lemmas.Bool.{cases_lt}
+use Rattle.std.proofs.lemmas.Bool.Decides.{eqb_tells}
+use Rattle.std.proofs.lemmas.List.{get_or_read}
+use Rattle.std.specs.Prelude.{Bool, true, false, IsTrue, ◌↔◌}
+use Rattle.std.specs.List.Sorted.{IsNonDecreasingBy}
+use Rattle.event_floor.specs.Posted.{Posted, NumbersRise, IsHalf}
+
+-- so they don't fall
+pub rises_weakly : (ps : List Posted) → NumbersRise ps → IsNonDecreasingBy (λ (p : Posted). p.number) ps
+rises_weakly ps h i j d l m =
+    ⊎_elim (λ (same : _ × (i ≡ j)). rw same.1 (omega arith))
+    (λ (other : _ × (i ≢ j)). let e = other.1 in let r = h i j d (omega (arith, l, e)) m in omega (arith, r)) (eqb_tells i j)
+
+-- no batch has the number, where the first whose number isn't below it isn't such a batch
+pub none_half : (ps : List Posted) (number i : ℕ) → NumbersRise ps → ((k : ℕ) (d : Posted) → k < i → (get_or ps k d).number < number)
+    → ((k : ℕ) (d : Posted) → i ≤ k → k < length ps → number ≤ (get_or ps k d).number) → ((d : Posted) → i < length ps → IsHalf number (get_or ps i d) → ⊥)
+    → All (λ (p : Posted). IsHalf number p → ⊥) ps
+none_half ps number i h below above other k d l half =
+    let is = half.0 in
+    ⊎_elim (λ (m : k < i). let b = below k d m in absurd (omega (arith, b, is)))
+    (λ (n : i ≤ k).
+    ⊎_elim (λ (same : _ × (k ≡ i)). let e = same.1 in other d (omega (arith, l, e)) (subst (λ z. IsHalf number (get_or ps z d)) e half))
+    (λ (apart : _ × (k ≢ i)). let e = apart.1 in let m : i < k = omega (arith, n, e) in
+    let a = above i d (omega arith) (omega (arith, m, l)) in let r = h i k d m l in absurd (omega (arith, a, r, is))) (eqb_tells k i)) (cases_lt k i)
+
+-- and such a place isn't one, where its batch was asked
+pub not_half : (ps : List Posted) (number i : ℕ) (x : Posted) (answer : Bool) → (IsTrue answer ↔ IsHalf number x) → answer ≡ false → x ≡ get_or ps i x
+    → (d : Posted) → i < length ps → IsHalf number (get_or ps i d) → ⊥
+not_half ps number i x answer asked denied read d l half =
+    let says : answer ≡ true = asked.1 (subst (λ z. IsHalf number z) (sym (get_or_read ps i x l read d)) half) in
+    let both : false ≡ true = sym denied ∙ says in
+    absurd (cc)
