@@ -9,7 +9,7 @@ ghost use Rattle.event_floor.specs.declared.request.Request.{Request};
 ghost use Rattle.event_floor.specs.machine.State.{State, opening};
 ghost use Rattle.event_floor.specs.machine.Steps.{Answer, Run};
 ghost use Rattle.event_floor.specs.machine.Forwards.{forwards};
-ghost use Rattle.event_floor.specs.machine.Laws.{OpeningIsSound, RunsStaySound, SoundIsOrderly, SlotsAreListed, RunsAreOrderly, RunsKeepNumbers, RequestsAreAnswered, RefusalsChangeNothing, LeastClassIsLeast};
+ghost use Rattle.event_floor.specs.machine.Laws.{OpeningIsSound, RunsStaySound, SoundIsOrderly, SlotsAreListed, RunsAreOrderly, RunsKeepNumbers, AnswersFixTheState, RequestsAreAnswered, RefusalsChangeNothing, LeastClassIsLeast};
 
 pub mod worked;
 
@@ -22,6 +22,11 @@ pub fn runs_are_orderly()
 /// A run leaves how many desks and chunks there are, how numbers are read, and the limit.
 pub fn runs_keep_numbers()
     ensures { RunsKeepNumbers }
+{}
+
+/// Requests and answers fix the state that they lead to.
+pub fn answers_fix_the_state()
+    ensures { AnswersFixTheState }
 {}
 
 /// A slot of a new pool is passed on fewer times, since it was last freed, than the number of a desk has digits.

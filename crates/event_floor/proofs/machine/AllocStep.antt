@@ -34,15 +34,18 @@ module _ (v : Listing) (st : State) (count : Slot → ℕ) (a n : ℕ) (e : Entr
     (h : Shown v st count) (l : a < length v.desks) (f : AllocEdits v a n e lent d) where
   there : named_of st e.slot ≡ Some (HomeOf a)
   there = All-head (λ (x : Entry). named_of st x.slot ≡ Some (HomeOf a)) e d.home
-      (All-permutation (λ (x : Entry). named_of st x.slot ≡ Some (HomeOf a)) (desk_listing v a).home (e ∷ d.home) (IsPermutation-sym (e ∷ d.home) (desk_listing v a).home f.leaves) (home_place v st count h a))
+      (All-permutation (λ (x : Entry). named_of st x.slot ≡ Some (HomeOf a)) (desk_listing v a).home (e ∷ d.home)
+      (IsPermutation-sym (e ∷ d.home) (desk_listing v a).home f.leaves) (home_place v st count h a))
 
   labels : All (Labelled st) (e ∷ d.home)
-  labels = All-permutation (Labelled st) (desk_listing v a).home (e ∷ d.home) (IsPermutation-sym (e ∷ d.home) (desk_listing v a).home f.leaves) (h.homes a)
+  labels = All-permutation (Labelled st) (desk_listing v a).home (e ∷ d.home) (IsPermutation-sym (e ∷ d.home) (desk_listing v a).home f.leaves)
+      (h.homes a)
 
   pub alloc_home : home_with st a (least_class (profile_at st) n) e.slot ≡ true
   alloc_home = home_with_is st a (least_class (profile_at st) n) e.slot
       ∙ ap₂ ◌&&◌ (ap (is_list (HomeOf a)) there ∙ same_list_self (HomeOf a))
-      (eq-eqb (class_of st e.slot) (least_class (profile_at st) n) (sym (All-head (Labelled st) e d.home labels).1 ∙ (f.class ∙ ap (λ (s : Scheme). least_class (profile_of s.bits) n) h.frame.digits)))
+      (eq-eqb (class_of st e.slot) (least_class (profile_at st) n) (sym (All-head (Labelled st) e d.home labels).1
+      ∙ (f.class ∙ ap (λ (s : Scheme). least_class (profile_of s.bits) n) h.frame.digits)))
 
   homes_at : (b : ℕ) (y : Bool) → (a == b) ≡ y → All (Labelled st) (desk_listing (with_desk v a d) b).home
   homes_at b true q = subst (λ m. All (Labelled st) (desk_listing (with_desk v a d) m).home) (eqb-true a b q)
@@ -74,13 +77,15 @@ module _ (v : Listing) (st : State) (count : Slot → ℕ) (a n : ℕ) (e : Entr
         (slots_permuted (e ∷ d.home) (desk_listing v a).home f.leaves))
         (slots_permuted (e ∷ v.lent) lent f.arrives) others;
     homes = λ b. homes_at b (a == b) refl;
-    lent = All-permutation (Labelled st) (e ∷ v.lent) lent f.arrives (All-cons (Labelled st) e v.lent (All-head (Labelled st) e d.home labels) h.lent);
+    lent = All-permutation (Labelled st) (e ∷ v.lent) lent f.arrives (All-cons (Labelled st) e v.lent
+        (All-head (Labelled st) e d.home labels) h.lent);
     cached = λ b. subst (λ xs. All (Counted st count) xs) (sym (desk_keeps (λ p. p.cache) v a d l f.cache b)) (h.cached b);
     posted = h.posted;
   }
 
 -- an accepted allocation
-pub alloc_applies : (v : Listing) (a n : ℕ) (e : Entry) (lent : List Entry) (d : DeskListing) → refusal_seen v (Alloc a n) ≡ None → AllocEdits v a n e lent d →
+pub alloc_applies : (v : Listing) (a n : ℕ) (e : Entry) (lent : List Entry) (d : DeskListing) → refusal_seen v (Alloc a n) ≡ None →
+    AllocEdits v a n e lent d →
     Applies v (Alloc a n) (Ok (Lent e.slot)) (after_edits v a lent d)
 alloc_applies v a n e lent d z f st count h =
     let l = leb-false (length v.desks) a (none_holds _ _ _ z).0 in (

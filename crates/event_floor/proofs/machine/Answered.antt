@@ -40,7 +40,8 @@ claim_answered st a c e =
 alloc_answered : (st : State) (a n : ℕ) → refusal st (Alloc a n) ≡ None → HasAnswer st (Alloc a n)
 alloc_answered st a n e =
     let some_home = (none_hold (conditions st (Alloc a n)) e).1.1.1.0 in
-    let w = any_witness (home_with st a (least_class (profile_at st) n)) (slots st) (not-false (has_home st a (least_class (profile_at st) n)) some_home) in
+    let w = any_witness (home_with st a (least_class (profile_at st) n)) (slots st)
+    (not-false (has_home st a (least_class (profile_at st) n)) some_home) in
     (Ok (Lent w.0), (e, w.1))
 
 free_answered : (st : State) (a : ℕ) (pair : ℕ × ℕ) → refusal st (Free a pair) ≡ None → HasAnswer st (Free a pair)

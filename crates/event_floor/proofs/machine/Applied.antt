@@ -51,7 +51,8 @@ FreeReplies v a e d Cached = (e.owner ≢ a) × (seen_bytes d ≤ v.limit)
 FreeReplies v a e d Due = (e.owner ≢ a) × (v.limit < seen_bytes d)
 FreeReplies v a e d _ = ⊥
 
-pub free_applies : (v : Listing) (a : ℕ) (pair : ℕ × ℕ) (e : Entry) (lent : List Entry) (d : DeskListing) (r : Reply) → refusal_seen v (Free a pair) ≡ None →
+pub free_applies : (v : Listing) (a : ℕ) (pair : ℕ × ℕ) (e : Entry) (lent : List Entry) (d : DeskListing) (r : Reply) →
+    refusal_seen v (Free a pair) ≡ None →
     e.slot ≡ slot_at pair → FreeEdits v a e lent d → FreeReplies v a e d r → Applies v (Free a pair) (Ok r) (after_edits v a lent d)
 free_applies v a pair e lent d r z s f p st count h =
     (after_free st a (slot_at pair), ((n, replies r p), refl), shown)
@@ -66,14 +67,20 @@ free_applies v a pair e lent d r z s f p st count h =
     shown = free_shown v st count a pair e lent d h l n s f
 
     owner : e.owner ≡ owner_of st (slot_at pair)
-    owner = (All-head (Labelled st) e lent (All-permutation (Labelled st) v.lent (e ∷ lent) (IsPermutation-sym (e ∷ lent) v.lent f.leaves) h.lent)).0 ∙ ap (owner_of st) s
+    owner = (All-head (Labelled st) e lent (All-permutation (Labelled st) v.lent (e ∷ lent)
+        (IsPermutation-sym (e ∷ lent) v.lent f.leaves) h.lent)).0 ∙ ap (owner_of st) s
 
     bytes : bytes_with st a (slot_at pair) ≡ seen_bytes d
-    bytes = bytes_seen (after_edits v a lent d) (after_free st a (slot_at pair)) (λ s. if same_slot (slot_at pair) s then 0 else count s) a shown ∙ ap seen_bytes (desk_here v a d l)
+    bytes = bytes_seen (after_edits v a lent d) (after_free st a (slot_at pair)) (λ s. if same_slot (slot_at pair) s then 0 else count s) a shown
+        ∙ ap seen_bytes (desk_here v a d l)
 
     replies : (r : Reply) → FreeReplies v a e d r → Replies st (Free a pair) r
     replies Home p = sym owner ∙ p
-    replies Cached p = ((λ q. p.0 (owner ∙ q)), subst (λ m. bytes_with st a (slot_at pair) ≤ m) h.frame.limit (subst (λ m. m ≤ v.limit) (sym bytes) p.1))
+    replies Cached p = (
+      (λ q. p.0 (owner ∙ q)),
+      subst (λ m. bytes_with st a (slot_at pair) ≤ m) h.frame.limit
+          (subst (λ m. m ≤ v.limit) (sym bytes) p.1),
+    )
     replies Due p = ((λ q. p.0 (owner ∙ q)), subst (λ m. m < bytes_with st a (slot_at pair)) h.frame.limit (subst (λ m. v.limit < m) (sym bytes) p.1))
     replies Done p = elim p [ ]
     replies (Chunk m) p = elim p [ ]
@@ -88,7 +95,8 @@ pub record SendMoves (v : Listing) (a t : ℕ) (bs : List Entry) (d : DeskListin
   pub taken : IsPermutation (filter (λ (e : Entry). goes_by v.digits a t e.owner) (desk_listing v a).cache) bs
   pub left : IsPermutation (filter (λ (e : Entry). not (goes_by v.digits a t e.owner)) (desk_listing v a).cache) d.cache
 
-pub send_applies : (v : Listing) (a t : ℕ) (bs : List Entry) (d : DeskListing) → length v.inboxes ≡ length v.desks → refusal_seen v (Send a t) ≡ None → SendMoves v a t bs d →
+pub send_applies : (v : Listing) (a t : ℕ) (bs : List Entry) (d : DeskListing) → length v.inboxes ≡ length v.desks →
+    refusal_seen v (Send a t) ≡ None → SendMoves v a t bs d →
     Applies v (Send a t) (Ok (Batch v.next (length bs))) (after_sending v a t bs d)
 send_applies v a t bs d k z f st count h =
     let p = or_parts _ _ (none_holds _ _ _ z).0 in
@@ -102,6 +110,16 @@ send_applies v a t bs d k z f st count h =
       left = subst (λ w. IsPermutation (filter (λ (e : Entry). not (goes_by w a t e.owner)) (desk_listing v a).cache) d.cache) h.frame.digits f.left;
     } in (
       after_send st a t,
-      ((n, (h.frame.next, length_permutation (filter (λ (e : Entry). goes_by st.digits a t e.owner) (desk_listing v a).cache) bs g.taken ∙ sym (bucket_length v st count a t h))), refl),
+      (
+        (
+          n,
+          (
+            h.frame.next,
+            length_permutation (filter (λ (e : Entry). goes_by st.digits a t e.owner) (desk_listing v a).cache) bs g.taken
+                ∙ sym (bucket_length v st count a t h),
+          ),
+        ),
+        refl,
+      ),
       send_shown v st count a t bs d h l m g n,
     )

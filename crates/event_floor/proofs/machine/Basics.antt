@@ -47,7 +47,11 @@ pub Member-push_cases : (w v : Waiting) (xs : List Waiting) → Member w (xs ++ 
 Member-push_cases w v [] (inl e) = inr e
 Member-push_cases w v [] (inr m) = elim m [ ]
 Member-push_cases w v (x ∷ xs) (inl e) = inl (inl e)
-Member-push_cases w v (x ∷ xs) (inr m) = elim (Member-push_cases w v xs m) as (λ _. Member w (x ∷ xs) ⊎ (w ≡ v)) [ inl k ↦ inl (inr k) | inr e ↦ inr e ]
+Member-push_cases w v (x ∷ xs) (inr m) = elim (Member-push_cases w v xs m) as (λ _. Member w (x ∷ xs) ⊎ (w ≡ v)) [
+  | inl k ↦ inl
+      (inr k)
+  | inr e ↦ inr e
+]
 
 pub Member-filter : (p : Waiting → Bool) (w : Waiting) (xs : List Waiting) → Member w xs → p w ≡ true → Member w (filter p xs)
 Member-filter p w [] m e = elim m [ ]
@@ -69,7 +73,8 @@ filter_member p w (x ∷ xs) m = go (p x) refl (filter_member p w xs) m
     at_head e f (inl q) = (inl q, ap p q ∙ e)
     at_head e f (inr k) = after_head (f k)
 
-    go : (b : Bool) → p x ≡ b → (Member w (filter p xs) → Member w xs × (p w ≡ true)) → Member w (cond b (x ∷ filter p xs) (filter p xs)) → Member w (x ∷ xs) × (p w ≡ true)
+    go : (b : Bool) → p x ≡ b → (Member w (filter p xs) → Member w xs × (p w ≡ true)) → Member w (cond b (x ∷ filter p xs) (filter p xs)) →
+        Member w (x ∷ xs) × (p w ≡ true)
     go true e f k = at_head e f k
     go false e f k = after_head (f k)
 
@@ -96,10 +101,12 @@ front_is p (x ∷ xs) e = go (p x) refl (front_is p xs) e
     go true q f l = (x, inl refl, q, refl, l)
     go false q f l = let h = f l in (h.0, inr h.1, h.2, h.3, h.4)
 
-pub link_keeps : (n : ℕ) (w : Waiting) → ((link_one n w).number ≡ w.number) × ((link_one n w).sender ≡ w.sender) × ((link_one n w).address ≡ w.address)
+pub link_keeps : (n : ℕ) (w : Waiting) → ((link_one n w).number ≡ w.number) × ((link_one n w).sender ≡ w.sender)
+    × ((link_one n w).address ≡ w.address)
 link_keeps n w = go (n == w.number)
   where
-    go : (b : Bool) → ((if b then record w { linked = true } else w).number ≡ w.number) × ((if b then record w { linked = true } else w).sender ≡ w.sender) × ((if b then record w { linked = true } else w).address ≡ w.address)
+    go : (b : Bool) → ((if b then record w { linked = true } else w).number ≡ w.number)
+        × ((if b then record w { linked = true } else w).sender ≡ w.sender) × ((if b then record w { linked = true } else w).address ≡ w.address)
     go true = (refl, refl, refl)
     go false = (refl, refl, refl)
 

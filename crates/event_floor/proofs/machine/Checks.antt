@@ -88,7 +88,8 @@ replies_right st (Send a t) (Batch n m) e =
     let h = both_true (n == st.next) (m == length (bucket st a t)) e in (eqb-true _ _ h.0, eqb-true _ _ h.1)
 replies_right st (Link n) Done e = tt
 replies_right st (Take b) (Counts h o) e =
-    let k = both_true (h == length (filter (λ s. owner_of st s == b) (slots_of_batch st (front_of st b)))) (o == length (filter (λ s. not (owner_of st s == b)) (slots_of_batch st (front_of st b)))) e in
+    let k = both_true (h == length (filter (λ s. owner_of st s == b) (slots_of_batch st (front_of st b))))
+    (o == length (filter (λ s. not (owner_of st s == b)) (slots_of_batch st (front_of st b)))) e in
     (eqb-true _ _ k.0, eqb-true _ _ k.1)
 replies_right st _ _ e = absurd (false≢true e)
 
@@ -99,19 +100,23 @@ replies_all st (Claim a c) (Chunk k) g = and_from (nat_lt k st.chunks) (is_none 
 replies_all st (Alloc a n) (Lent s) g = g
 replies_all st (Free a pair) Home g = eq-eqb _ _ g
 replies_all st (Free a pair) Cached g =
-    and_from (not (owner_of st (slot_at pair) == a)) (nat_le (bytes_with st a (slot_at pair)) st.limit) (not_from_false _ (ne_eqb _ _ g.0)) (le-leb _ _ g.1)
+    and_from (not (owner_of st (slot_at pair) == a)) (nat_le (bytes_with st a (slot_at pair)) st.limit) (not_from_false _ (ne_eqb _ _ g.0))
+    (le-leb _ _ g.1)
 replies_all st (Free a pair) Due g =
-    and_from (not (owner_of st (slot_at pair) == a)) (nat_lt st.limit (bytes_with st a (slot_at pair))) (not_from_false _ (ne_eqb _ _ g.0)) (lt-ltb _ _ g.1)
+    and_from (not (owner_of st (slot_at pair) == a)) (nat_lt st.limit (bytes_with st a (slot_at pair))) (not_from_false _ (ne_eqb _ _ g.0))
+    (lt-ltb _ _ g.1)
 replies_all st (Send a t) (Batch n m) g = and_from (n == st.next) (m == length (bucket st a t)) (eq-eqb _ _ g.0) (eq-eqb _ _ g.1)
 replies_all st (Link n) Done g = refl
 replies_all st (Take b) (Counts h o) g = and_from
-    (h == length (filter (λ s. owner_of st s == b) (slots_of_batch st (front_of st b)))) (o == length (filter (λ s. not (owner_of st s == b)) (slots_of_batch st (front_of st b))))
+    (h == length (filter (λ s. owner_of st s == b) (slots_of_batch st (front_of st b))))
+    (o == length (filter (λ s. not (owner_of st s == b)) (slots_of_batch st (front_of st b))))
     (eq-eqb _ _ g.0) (eq-eqb _ _ g.1)
 replies_all st _ _ g = elim g [ ]
 
 -- a refusal is told by its number
 abbrev named : ℕ → Refusal
-named n = slice_index_or (NoDesk ∷ NoDesk ∷ Idle ∷ TooLarge ∷ NeedChunk ∷ NotNeeded ∷ NoChunk ∷ NotLent ∷ NothingFor ∷ NotAnOwner ∷ ToSelf ∷ NoBatch ∷ Nothing ∷ Unsettled ∷ Held ∷ NoMemory ∷ BadClass ∷ Spent ∷ Spent ∷ []) n NoDesk
+named n = slice_index_or (NoDesk ∷ NoDesk ∷ Idle ∷ TooLarge ∷ NeedChunk ∷ NotNeeded ∷ NoChunk ∷ NotLent ∷ NothingFor ∷ NotAnOwner ∷ ToSelf ∷
+    NoBatch ∷ Nothing ∷ Unsettled ∷ Held ∷ NoMemory ∷ BadClass ∷ Spent ∷ Spent ∷ []) n NoDesk
 
 named_code : (r : Refusal) → named (code r) ≡ r
 named_code NoDesk = refl
@@ -167,7 +172,8 @@ answers_all st q (Err r) m (inl e) = refused_same (refusal st q) r e
 answers_all st q (Err r) m (inr g) = absurd (false≢true (sym (ap (λ x. is_ample (Err x)) g.2) ∙ m))
 
 -- what the test doesn't pass is no run
-pub runs_all : (st : State) (qs : List Request) (ys : List Answer) (new : State) → list_all is_ample ys ≡ true → Run st qs ys new → runs st qs ys ≡ true
+pub runs_all : (st : State) (qs : List Request) (ys : List Answer) (new : State) → list_all is_ample ys ≡ true → Run st qs ys new →
+    runs st qs ys ≡ true
 runs_all st [] [] new m g = refl
 runs_all st (q ∷ qs) (y ∷ ys) new m g =
     let k = both_true (is_ample y) (list_all is_ample ys) m in
@@ -181,6 +187,7 @@ pub gives : (st : State) (told : List (Request × Answer)) → runs st (asked to
 unfolding Gives
 gives st told e = (left_by st (asked told) (answered told), runs_right st (asked told) (answered told) e)
 
-pub never : (st : State) (told : List (Request × Answer)) → list_all is_ample (answered told) ≡ true → runs st (asked told) (answered told) ≡ false → NeverGives st told
+pub never : (st : State) (told : List (Request × Answer)) → list_all is_ample (answered told) ≡ true →
+    runs st (asked told) (answered told) ≡ false → NeverGives st told
 unfolding NeverGives
 never st told m e new g = false≢true (sym e ∙ runs_all st (asked told) (answered told) new m g)

@@ -78,7 +78,8 @@ module _ (v : Listing) (st : State) (count : Slot → ℕ) (a c k : ℕ) (d : De
   elsewhere s e = go (k == s.chunk) refl
     where
       go : (b : Bool) → (k == s.chunk) ≡ b → b ≡ false
-      go true q = absurd (true≢false (sym e ∙ (h.sound.placed s ∙ (ap (λ n. has_index s.index (st.drawn n)) (sym (eqb-true k s.chunk q)) ∙ ap (has_index s.index) un))))
+      go true q = absurd (true≢false (sym e ∙ (h.sound.placed s ∙ (ap (λ n. has_index s.index (st.drawn n)) (sym (eqb-true k s.chunk q))
+          ∙ ap (has_index s.index) un))))
       go false q = refl
 
   same_drawn : (s : Slot) → is_some (st.place s) ≡ true → st.drawn s.chunk ≡ new.drawn s.chunk
@@ -94,20 +95,23 @@ module _ (v : Listing) (st : State) (count : Slot → ℕ) (a c k : ℕ) (d : De
 
   drawn_here : (i : ℕ) → Labelled new (chunk_buffer k a c i)
   drawn_here i =
-      let z : Some (record { owner = a; class = c }) ≡ new.drawn k = ap (λ (b : Bool). if b then Some (record { owner = a; class = c }) else st.drawn k) (sym (eq-eqb k k refl)) in
+      let z : Some (record { owner = a; class = c }) ≡ new.drawn k = ap
+      (λ (b : Bool). if b then Some (record { owner = a; class = c }) else st.drawn k) (sym (eq-eqb k k refl)) in
       (ap owner_or z, ap class_or z)
 
   home_labels : All (Labelled new) d.home
   home_labels = All-permutation (Labelled new) (chunk_buffers k a c ++ (desk_listing v a).home) d.home f.home
       (All-append (Labelled new) (chunk_buffers k a c) (desk_listing v a).home
       (All-map (Labelled new) (chunk_buffer k a c) (range_with_len 0 (slots_of c)) (λ i e m. drawn_here (get_or (range_with_len 0 (slots_of c)) i e)))
-      (All-both (λ (e : Entry). named_of st e.slot ≡ Some (HomeOf a)) (Labelled st) (Labelled new) (desk_listing v a).home (label (HomeOf a)) (home_place v st count h a) (h.homes a)))
+      (All-both (λ (e : Entry). named_of st e.slot ≡ Some (HomeOf a)) (Labelled st) (Labelled new) (desk_listing v a).home (label (HomeOf a))
+      (home_place v st count h a) (h.homes a)))
 
   homes_at : (b : ℕ) (y : Bool) → (a == b) ≡ y → All (Labelled new) (desk_listing (with_desk v a d) b).home
   homes_at b true q = subst (λ m. All (Labelled new) (desk_listing (with_desk v a d) m).home) (eqb-true a b q)
       (subst (λ (x : DeskListing). All (Labelled new) x.home) (sym (desk_here v a d l)) home_labels)
   homes_at b false q = subst (λ (x : DeskListing). All (Labelled new) x.home) (sym (desk_other v a b d q))
-      (All-both (λ (e : Entry). named_of st e.slot ≡ Some (HomeOf b)) (Labelled st) (Labelled new) (desk_listing v b).home (label (HomeOf b)) (home_place v st count h b) (h.homes b))
+      (All-both (λ (e : Entry). named_of st e.slot ≡ Some (HomeOf b)) (Labelled st) (Labelled new) (desk_listing v b).home (label (HomeOf b))
+      (home_place v st count h b) (h.homes b))
 
   -- the slots of the new chunk
   in_chunk : Slot → Bool
@@ -120,13 +124,15 @@ module _ (v : Listing) (st : State) (count : Slot → ℕ) (a c k : ℕ) (d : De
 
   home_times : (s : Slot) → times s (slots_seen d.home) ≡ one_if (in_chunk s) + times s (slots_seen (desk_listing v a).home)
   home_times s =
-      sum_by-IsPermutation (λ x. cond (same_slot s x) 1 0) (slots_seen (chunk_buffers k a c ++ (desk_listing v a).home)) (slots_seen d.home) (slots_permuted (chunk_buffers k a c ++ (desk_listing v a).home) d.home f.home)
+      sum_by-IsPermutation (λ x. cond (same_slot s x) 1 0) (slots_seen (chunk_buffers k a c ++ (desk_listing v a).home)) (slots_seen d.home)
+      (slots_permuted (chunk_buffers k a c ++ (desk_listing v a).home) d.home f.home)
       ∙ (ap (times s) (map-append (λ (x : Entry). x.slot) (chunk_buffers k a c) (desk_listing v a).home)
       ∙ (count_append (same_slot s) (slots_seen (chunk_buffers k a c)) (slots_seen (desk_listing v a).home)
       ∙ ap (λ n. n + times s (slots_seen (desk_listing v a).home)) (chunk_once s)))
 
   -- the lists after a claim, by the lists before
-  list_times : (m : Named) (s : Slot) → times s (list_named (after_claim v a c k d) m) ≡ one_if (in_chunk s && same_list m (HomeOf a)) + times s (list_named v m)
+  list_times : (m : Named) (s : Slot) → times s (list_named (after_claim v a c k d) m) ≡ one_if (in_chunk s && same_list m (HomeOf a)) + times s
+      (list_named v m)
   list_times (HomeOf b) s = go (a == b) refl
     where
       none : (x : Bool) → 0 ≡ one_if (x && false)
@@ -137,18 +143,24 @@ module _ (v : Listing) (st : State) (count : Slot → ℕ) (a c k : ℕ) (d : De
       all true = refl
       all false = refl
 
-      go : (y : Bool) → (a == b) ≡ y → times s (slots_seen (desk_listing (with_desk v a d) b).home) ≡ one_if (in_chunk s && (b == a)) + times s (slots_seen (desk_listing v b).home)
-      go true q = subst (λ m. times s (slots_seen (desk_listing (with_desk v a d) m).home) ≡ one_if (in_chunk s && (m == a)) + times s (slots_seen (desk_listing v m).home)) (eqb-true a b q)
+      go : (y : Bool) → (a == b) ≡ y → times s (slots_seen (desk_listing (with_desk v a d) b).home) ≡ one_if (in_chunk s && (b == a)) + times s
+          (slots_seen (desk_listing v b).home)
+      go true q = subst (λ m. times s (slots_seen (desk_listing (with_desk v a d) m).home) ≡ one_if (in_chunk s && (m == a)) + times s
+          (slots_seen (desk_listing v m).home)) (eqb-true a b q)
           (ap (λ (p : DeskListing). times s (slots_seen p.home)) (desk_here v a d l)
-          ∙ (home_times s ∙ ap (λ n. n + times s (slots_seen (desk_listing v a).home)) (all (in_chunk s) ∙ ap (λ b. one_if (in_chunk s && b)) (sym (eq-eqb a a refl)))))
+          ∙ (home_times s ∙ ap (λ n. n + times s (slots_seen (desk_listing v a).home))
+          (all (in_chunk s) ∙ ap (λ b. one_if (in_chunk s && b)) (sym (eq-eqb a a refl)))))
       go false q = ap (λ (p : DeskListing). times s (slots_seen p.home)) (desk_other v a b d q)
-          ∙ (sym (zero-add (times s (slots_seen (desk_listing v b).home))) ∙ ap (λ n. n + times s (slots_seen (desk_listing v b).home)) (none (in_chunk s) ∙ ap (λ x. one_if (in_chunk s && x)) (sym (eqb_turn b a ∙ q))))
+          ∙ (sym (zero-add (times s (slots_seen (desk_listing v b).home)))
+          ∙ ap (λ n. n + times s (slots_seen (desk_listing v b).home))
+          (none (in_chunk s) ∙ ap (λ x. one_if (in_chunk s && x)) (sym (eqb_turn b a ∙ q))))
   list_times Loans s = plain (in_chunk s) (times s (slots_seen v.lent))
     where
       plain : (x : Bool) (n : ℕ) → n ≡ one_if (x && false) + n
       plain true n = sym (zero-add n)
       plain false n = sym (zero-add n)
-  list_times (CacheOf b) s = ap (λ xs. times s (slots_seen xs)) (desk_keeps (λ p. p.cache) v a d l f.cache b) ∙ plain (in_chunk s) (times s (slots_seen (desk_listing v b).cache))
+  list_times (CacheOf b) s = ap (λ xs. times s (slots_seen xs)) (desk_keeps (λ p. p.cache) v a d l f.cache b)
+      ∙ plain (in_chunk s) (times s (slots_seen (desk_listing v b).cache))
     where
       plain : (x : Bool) (n : ℕ) → n ≡ one_if (x && false) + n
       plain true n = sym (zero-add n)
@@ -160,7 +172,8 @@ module _ (v : Listing) (st : State) (count : Slot → ℕ) (a c k : ℕ) (d : De
       plain false n = sym (zero-add n)
 
   unplaced : (s : Slot) → (k == s.chunk) ≡ true → st.place s ≡ None
-  unplaced s q = go (st.place s) (h.sound.placed s ∙ (ap (λ n. has_index s.index (st.drawn n)) (sym (eqb-true k s.chunk q)) ∙ ap (has_index s.index) un))
+  unplaced s q = go (st.place s) (h.sound.placed s ∙ (ap (λ n. has_index s.index (st.drawn n)) (sym (eqb-true k s.chunk q))
+      ∙ ap (has_index s.index) un))
     where
       go : (p : Option Place) → is_some p ≡ false → p ≡ None
       go None e = refl
@@ -175,12 +188,14 @@ module _ (v : Listing) (st : State) (count : Slot → ℕ) (a c k : ℕ) (d : De
 
       go : (x : Bool) → (k == s.chunk) ≡ x → (y : Bool) → nat_lt s.index (slots_of c) ≡ y →
           one_if ((x && y) && same_list m (HomeOf a)) + times s (list_named v m)
-          ≡ one_if (is_list m (option_map (named (owner_or (if x then Some (record { owner = a; class = c }) else st.drawn s.chunk))) (if x && y then Some AtHome else st.place s)))
+          ≡ one_if (is_list m (option_map (named (owner_or (if x then Some (record { owner = a; class = c }) else st.drawn s.chunk)))
+          (if x && y then Some AtHome else st.place s)))
       go true q true r = let z = old_none q in omega (arith, z)
       go true q false r = ap (λ n. 0 + n) (old_none q) ∙ ap (λ p. one_if (is_list m (option_map (named a) p))) (sym (unplaced s q))
       go false q y r = zero-add (times s (list_named v m)) ∙ h.in_place m s
 
-  drawn_at : (m : ℕ) → slice_get (v.drawn ++ record { owner = a; class = c } ∷ []) m ≡ (if k == m then Some (record { owner = a; class = c }) else st.drawn m)
+  drawn_at : (m : ℕ) → slice_get (v.drawn ++ record { owner = a; class = c } ∷
+      []) m ≡ (if k == m then Some (record { owner = a; class = c }) else st.drawn m)
   drawn_at m = slice_get-push v.drawn (record { owner = a; class = c }) m
       ∙ ap₂ (λ n (o : Option Drawn). if n == m then Some (record { owner = a; class = c }) else o) (sym f.next) (h.frame.drawn m)
 
@@ -200,12 +215,16 @@ module _ (v : Listing) (st : State) (count : Slot → ℕ) (a c k : ℕ) (d : De
     };
     in_place = place_claimed;
     homes = λ b. homes_at b (a == b) refl;
-    lent = All-both (λ (e : Entry). named_of st e.slot ≡ Some Loans) (Labelled st) (Labelled new) v.lent (label Loans) (lent_place v st count h) h.lent;
+    lent = All-both (λ (e : Entry). named_of st e.slot ≡ Some Loans) (Labelled st) (Labelled new) v.lent (label Loans)
+        (lent_place v st count h) h.lent;
     cached = λ b. subst (λ xs. All (Counted new count) xs) (sym (desk_keeps (λ p. p.cache) v a d l f.cache b))
-        (All-both (λ (e : Entry). named_of st e.slot ≡ Some (CacheOf b)) (Counted st count) (Counted new count) (desk_listing v b).cache (relabel (CacheOf b)) (cache_place v st count h b) (h.cached b));
-    posted = λ b. All-both (λ (w : BatchListing). All (λ (e : Entry). named_of st e.slot ≡ Some (BatchOf w.number)) w.buffers) (λ (w : BatchListing). All (Counted st count) w.buffers)
+        (All-both (λ (e : Entry). named_of st e.slot ≡ Some (CacheOf b)) (Counted st count) (Counted new count) (desk_listing v b).cache
+        (relabel (CacheOf b)) (cache_place v st count h b) (h.cached b));
+    posted = λ b. All-both (λ (w : BatchListing). All (λ (e : Entry). named_of st e.slot ≡ Some (BatchOf w.number)) w.buffers)
+        (λ (w : BatchListing). All (Counted st count) w.buffers)
         (λ (w : BatchListing). All (Counted new count) w.buffers) (inbox_listing v b)
-        (λ w p q. All-both (λ (e : Entry). named_of st e.slot ≡ Some (BatchOf w.number)) (Counted st count) (Counted new count) w.buffers (relabel (BatchOf w.number)) p q)
+        (λ w p q. All-both (λ (e : Entry). named_of st e.slot ≡ Some (BatchOf w.number)) (Counted st count) (Counted new count) w.buffers
+        (relabel (BatchOf w.number)) p q)
         (posted_place v st count h b) (h.posted b);
   }
 

@@ -1,5 +1,5 @@
 -- The least class.
-use Rattle.std.proofs.Common.{◌≡◌, ℕ, ◌<◌, ◌≤◌, true, false, nat_le, length, take, get_or-take, get_or, refl, sym, subst₂, subst, arith, inl, inr}
+use Rattle.std.proofs.Common.{true, false, ◌≡◌, ℕ, ◌<◌, ◌≤◌, nat_le, length, take, get_or-take, get_or, refl, sym, subst₂, subst, arith, inl, inr}
 use Rattle.std.proofs.Common.{lt_of_lt_of_le}
 use Rattle.std.proofs.lemmas.Bool.{leb-true, leb-false, cases_lt}
 use Rattle.std.proofs.lemmas.List.Sums.{fails_before_first, passes_at_first}
@@ -20,12 +20,14 @@ sizes_long Pool2 = refl
 pub first_is : (p : Profile) (n c : ℕ) → least_class p n ≡ c → c < classes_of p → IsLeastFor p n c
 first_is p n c e l = record {
   is_used = l;
-  holds = subst (λ k. n ≤ size_of k) e (leb-true n (size_of (least_class p n)) (subst (λ z. nat_le n z ≡ true) (sizes_of p (least_class p n) (subst (λ k. k < classes_of p) (sym e) l))
+  holds = subst (λ k. n ≤ size_of k) e (leb-true n (size_of (least_class p n))
+      (subst (λ z. nat_le n z ≡ true) (sizes_of p (least_class p n) (subst (λ k. k < classes_of p) (sym e) l))
       (passes_at_first (λ z. nat_le n z) (take (classes_of p) SIZES) 0 (subst₂ (λ k m. k < m) (sym e) (sym (sizes_long p)) l))));
   is_least = λ d h m. (elim (cases_lt d c) as (λ _. c ≤ d) [
     | inr k ↦ k
     | inl k ↦ absurd (
-        let f = leb-false n (size_of d) (subst (λ z. nat_le n z ≡ false) (sizes_of p d m) (fails_before_first (λ z. nat_le n z) (take (classes_of p) SIZES) d 0 (subst (λ x. d < x) (sym e) k))) in
+        let f = leb-false n (size_of d) (subst (λ z. nat_le n z ≡ false) (sizes_of p d m)
+        (fails_before_first (λ z. nat_le n z) (take (classes_of p) SIZES) d 0 (subst (λ x. d < x) (sym e) k))) in
         omega arith)
   ]);
 }

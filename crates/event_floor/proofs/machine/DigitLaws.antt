@@ -86,9 +86,6 @@ common-le s x y = (IsCommon-common s x y).within
 common-agree : (s : Scheme) (x y : ℕ) → Agree s x y (common s x y)
 common-agree s x y = (IsCommon-common s x y).agree
 
-common-differ : (s : Scheme) (x y : ℕ) → common s x y < count s → digit s x (common s x y) ≢ digit s y (common s x y)
-common-differ s x y = (IsCommon-common s x y).differ
-
 -- all digits agree for equal numbers alone
 same_from_common : (s : Scheme) → IsScheme s → (x y : ℕ) → x < 2 ^ s.bits → y < 2 ^ s.bits → common s x y ≡ count s → x ≡ y
 same_from_common s i x y bx by e =
@@ -102,7 +99,8 @@ same_from_common s i x y bx by e =
 pub owners_below : (s : Scheme) → IsScheme s → (x y : ℕ) → x < 2 ^ s.bits → y < 2 ^ s.bits → x ≢ y → common s x y < count s
 owners_below s i x y bx by ne =
     let le = common-le s x y in
-    ⊎_elim (λ lt. lt) (λ (ge : count s ≤ common s x y). let e : common s x y ≡ count s = omega arith in absurd (ne (same_from_common s i x y bx by e)))
+    ⊎_elim (λ lt. lt) (λ (ge : count s ≤ common s x y). let e : common s x y ≡ count s =
+    omega arith in absurd (ne (same_from_common s i x y bx by e)))
     (cases_lt (common s x y) (count s))
 
 -- what is nearer t than a is shares with a what t does

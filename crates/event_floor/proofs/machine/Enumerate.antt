@@ -22,9 +22,6 @@ count_map p f [] = refl
 count_map p f (x ∷ xs) =
     count_cons p (f x) (map f xs) ∙ (ap (λ n. cond (p (f x)) 1 0 + n) (count_map p f xs) ∙ sym (count_cons (λ y. p (f y)) x xs))
 
-pub count_agree : {A : Type 0} (p q : A → Bool) (xs : List A) → ((x : A) → p x ≡ q x) → count_by p xs ≡ count_by q xs
-count_agree p q xs e = ap (λ r. count_by r xs) (λ i x. e x i)
-
 pub count_none : {A : Type 0} (p : A → Bool) (xs : List A) → ((x : A) → p x ≡ false) → count_by p xs ≡ 0
 count_none p [] e = refl
 count_none p (x ∷ xs) e = count_cons p x xs ∙ ap₂ (λ b n. cond b 1 0 + n) (e x) (count_none p xs e)
@@ -52,7 +49,8 @@ chunk_times s k (Some d) =
   where
     go : (b : Bool) → count_by (λ i. b && (s.index == i)) (range_with_len 0 (slots_of d.class)) ≡ one_if (b && nat_lt s.index (slots_of d.class))
     go true = count_range s.index (slots_of d.class) 0
-        ∙ (ap (λ b. one_if (b && nat_lt s.index (0 + slots_of d.class))) (from_zero s.index) ∙ ap (λ n. one_if (nat_lt s.index n)) (zero-add (slots_of d.class)))
+        ∙ (ap (λ b. one_if (b && nat_lt s.index (0 + slots_of d.class))) (from_zero s.index)
+        ∙ ap (λ n. one_if (nat_lt s.index n)) (zero-add (slots_of d.class)))
     go false = count_none (λ i. false) (range_with_len 0 (slots_of d.class)) (λ i. refl)
 
 -- the slots of the chunks from a on
@@ -70,7 +68,8 @@ chunks_times drawn s (suc m) a =
   where
     here : (b : Bool) → (s.chunk == a) ≡ b → times s (slots_of_chunk a (drawn a)) ≡ one_if ((s.chunk == a) && has_index s.index (drawn s.chunk))
     here true e = chunk_times s a (drawn a) ∙ ap (λ k. one_if ((s.chunk == a) && has_index s.index (drawn k))) (sym (eqb-true s.chunk a e))
-    here false e = chunk_times s a (drawn a) ∙ (ap (λ b. one_if (b && has_index s.index (drawn a))) e ∙ ap (λ b. one_if (b && has_index s.index (drawn s.chunk))) (sym e))
+    here false e = chunk_times s a (drawn a) ∙ (ap (λ b. one_if (b && has_index s.index (drawn a))) e
+        ∙ ap (λ b. one_if (b && has_index s.index (drawn s.chunk))) (sym e))
 
     step : (h : Bool) → one_if ((s.chunk == a) && h) + one_if ((nat_le (a + 1) s.chunk && nat_lt s.chunk (a + 1 + m)) && h)
         ≡ one_if ((nat_le a s.chunk && nat_lt s.chunk (a + suc m)) && h)
@@ -81,7 +80,8 @@ chunks_times drawn s (suc m) a =
 pub slots_once : (st : State) (c : Slot → ℕ) → Sound st c → ExactlyOnce (slots st) st.drawn
 slots_once st c h s = chunks_times st.drawn s st.chunks 0 ∙ low (st.drawn s.chunk) refl
   where
-    low : (o : Option Drawn) → st.drawn s.chunk ≡ o → one_if ((nat_le 0 s.chunk && nat_lt s.chunk (0 + st.chunks)) && has_index s.index o) ≡ one_if (has_index s.index o)
+    low : (o : Option Drawn) → st.drawn s.chunk ≡ o → one_if ((nat_le 0 s.chunk && nat_lt s.chunk (0 + st.chunks)) && has_index s.index o) ≡ one_if
+        (has_index s.index o)
     low None e = none (nat_le 0 s.chunk && nat_lt s.chunk (0 + st.chunks))
       where
         none : (b : Bool) → one_if (b && false) ≡ 0

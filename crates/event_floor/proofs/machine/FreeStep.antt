@@ -25,14 +25,16 @@ seen_counts xs k d l =
     let s = (get_or xs k d).slot in
     let e = count_map (same_slot s) (λ (x : Entry). x.slot) xs in
     let m = get_or-le-sum_by (λ (x : Entry). cond (same_slot s x.slot) 1 0) xs k d l in
-    let n : 1 ≤ count_by (λ (x : Entry). same_slot s x.slot) xs = subst (λ b. cond b 1 0 ≤ count_by (λ (x : Entry). same_slot s x.slot) xs) (same_slot_self s) m in
+    let n : 1 ≤ count_by (λ (x : Entry). same_slot s x.slot) xs = subst (λ b. cond b 1 0 ≤ count_by (λ (x : Entry). same_slot s x.slot) xs)
+    (same_slot_self s) m in
     subst (λ z. 0 < z) (sym e) n
 
 pub batch_counts : (s : Slot) (n : ℕ) (ws : List BatchListing) (j : ℕ) (d : BatchListing) → j < length ws → (get_or ws j d).number ≡ n →
     times s (slots_seen (get_or ws j d).buffers) ≤ times s (flat_map (if_numbered n) ws)
 batch_counts s n [] j d l e = absurd (omega arith)
 batch_counts s n (w ∷ ws) zero d l e =
-    let f : times s (if_numbered n w) ≡ times s (slots_seen w.buffers) = ap (λ (b : Bool). times s (if b then slots_seen w.buffers else [])) (eq-eqb n w.number (sym e)) in
+    let f : times s (if_numbered n w) ≡ times s (slots_seen w.buffers) =
+    ap (λ (b : Bool). times s (if b then slots_seen w.buffers else [])) (eq-eqb n w.number (sym e)) in
     let g = count_append (same_slot s) (if_numbered n w) (flat_map (if_numbered n) ws) in
     omega (arith, f, g)
 batch_counts s n (w ∷ ws) (suc j) d l e =
@@ -52,7 +54,8 @@ inbox_counts s n (ws ∷ is) (suc b) =
     omega (arith, g, h)
 
 -- what is counted in a list is named there
-pub named_there : (v : Listing) (st : State) (count : Slot → ℕ) → Shown v st count → (l : Named) (s : Slot) → 0 < times s (list_named v l) → named_of st s ≡ Some l
+pub named_there : (v : Listing) (st : State) (count : Slot → ℕ) → Shown v st count → (l : Named) (s : Slot) → 0 < times s (list_named v l) →
+    named_of st s ≡ Some l
 named_there v st count h l s p = go (named_of st s) (subst (λ n. 0 < n) (h.in_place l s) p)
   where
     go : (o : Option Named) → 0 < one_if (is_list l o) → o ≡ Some l
@@ -65,10 +68,8 @@ named_there v st count h l s p = go (named_of st s) (subst (λ n. 0 < n) (h.in_p
 
 -- ---- what stays labelled
 
-recount : (Slot → ℕ) → Slot → Slot → ℕ
-recount count r s = if same_slot r s then 0 else count s
-
-apart_slots : (st : State) (r s : Slot) (k : Named) → named_of st r ≡ Some Loans → named_of st s ≡ Some k → same_list k Loans ≡ false → same_slot r s ≡ false
+apart_slots : (st : State) (r s : Slot) (k : Named) → named_of st r ≡ Some Loans → named_of st s ≡ Some k → same_list k Loans ≡ false →
+    same_slot r s ≡ false
 apart_slots st r s k e f g = go (same_slot r s) refl
   where
     go : (b : Bool) → same_slot r s ≡ b → b ≡ false
@@ -110,11 +111,15 @@ posted_stay v st count r q b h e = λ j d l. λ k c m.
 -- ---- a free
 
 -- what a free does to the floor's lists: the buffer leaves the lent ones, and goes home or into the cache of desk a
+-- the buffer as it is freed
+abbrev pub freed : Entry → Entry
+freed e = record e { forwards = 0 }
+
 pub record FreeEdits (v : Listing) (a : ℕ) (e : Entry) (lent : List Entry) (d : DeskListing) : Type 0 where
   pub leaves : IsPermutation (e ∷ lent) v.lent
   pub worker : d.worker ≡ (desk_listing v a).worker
-  pub own : e.owner ≡ a → IsPermutation (record e { forwards = 0 } ∷ (desk_listing v a).home) d.home × (d.cache ≡ (desk_listing v a).cache)
-  pub other : e.owner ≢ a → (d.home ≡ (desk_listing v a).home) × IsPermutation (record e { forwards = 0 } ∷ (desk_listing v a).cache) d.cache
+  pub own : e.owner ≡ a → IsPermutation (freed e ∷ (desk_listing v a).home) d.home × (d.cache ≡ (desk_listing v a).cache)
+  pub other : e.owner ≢ a → (d.home ≡ (desk_listing v a).home) × IsPermutation (freed e ∷ (desk_listing v a).cache) d.cache
 
 abbrev pub after_edits : Listing → ℕ → List Entry → DeskListing → Listing
 after_edits v a lent d = record (with_desk v a d) { lent = lent }
@@ -167,7 +172,8 @@ module _ (v : Listing) (st : State) (count : Slot → ℕ) (a : ℕ) (e : Entry)
         in_place = moved_in_place st (list_named v) (list_named (after_edits v a lent d)) e.slot AtHome Loans h.in_place there refl
             (slots_permuted (e ∷ lent) v.lent f.leaves)
             (subst (λ b. IsPermutation (e.slot ∷ slots_seen (desk_listing v b).home) (slots_seen (desk_listing (with_desk v a d) b).home)) (sym o)
-            (subst (λ p. IsPermutation (e.slot ∷ slots_seen (desk_listing v a).home) (slots_seen p.home)) (sym (desk_here v a d l)) (slots_permuted (record e { forwards = 0 } ∷ (desk_listing v a).home) d.home g.0)))
+            (subst (λ p. IsPermutation (e.slot ∷ slots_seen (desk_listing v a).home) (slots_seen p.home)) (sym (desk_here v a d l))
+            (slots_permuted (freed e ∷ (desk_listing v a).home) d.home g.0)))
             (λ k x y. others o g.1 k x y);
         homes = λ b. homes_at g.0 b (a == b) refl;
         lent = All-tail (Labelled st) e lent labelled;
@@ -176,14 +182,16 @@ module _ (v : Listing) (st : State) (count : Slot → ℕ) (a : ℕ) (e : Entry)
         posted = λ b. posted_stay v st count e.slot AtHome b h there;
       }
     where
-      homes_at : IsPermutation (record e { forwards = 0 } ∷ (desk_listing v a).home) d.home → (b : ℕ) (y : Bool) → (a == b) ≡ y → All (Labelled st) (desk_listing (with_desk v a d) b).home
+      homes_at : IsPermutation (freed e ∷ (desk_listing v a).home) d.home → (b : ℕ) (y : Bool) → (a == b) ≡ y →
+          All (Labelled st) (desk_listing (with_desk v a d) b).home
       homes_at p b true q = subst (λ n. All (Labelled st) (desk_listing (with_desk v a d) n).home) (eqb-true a b q)
           (subst (λ (x : DeskListing). All (Labelled st) x.home) (sym (desk_here v a d l))
-          (All-permutation (Labelled st) (record e { forwards = 0 } ∷ (desk_listing v a).home) d.home p
-          (All-cons (Labelled st) (record e { forwards = 0 }) (desk_listing v a).home label (h.homes a))))
+          (All-permutation (Labelled st) (freed e ∷ (desk_listing v a).home) d.home p
+          (All-cons (Labelled st) (freed e) (desk_listing v a).home label (h.homes a))))
       homes_at p b false q = subst (λ (x : DeskListing). All (Labelled st) x.home) (sym (desk_other v a b d q)) (h.homes b)
 
-      others : owner_of st e.slot ≡ a → d.cache ≡ (desk_listing v a).cache → (k : Named) → same_list k Loans ≡ false → same_list k (HomeOf (owner_of st e.slot)) ≡ false →
+      others : owner_of st e.slot ≡ a → d.cache ≡ (desk_listing v a).cache → (k : Named) → same_list k Loans ≡ false →
+          same_list k (HomeOf (owner_of st e.slot)) ≡ false →
           list_named (after_edits v a lent d) k ≡ list_named v k
       others o c (HomeOf b) x y = ap (λ p. slots_seen p.home) (desk_other v a b d (turned b y))
         where
@@ -203,7 +211,7 @@ module _ (v : Listing) (st : State) (count : Slot → ℕ) (a : ℕ) (e : Entry)
         in_place = moved_in_place st (list_named v) (list_named (after_edits v a lent d)) e.slot (InCache a) Loans h.in_place there refl
             (slots_permuted (e ∷ lent) v.lent f.leaves)
             (subst (λ p. IsPermutation (e.slot ∷ slots_seen (desk_listing v a).cache) (slots_seen p.cache)) (sym (desk_here v a d l))
-            (slots_permuted (record e { forwards = 0 } ∷ (desk_listing v a).cache) d.cache g.1))
+            (slots_permuted (freed e ∷ (desk_listing v a).cache) d.cache g.1))
             (λ k x y. others g.0 k x y);
         homes = λ b. subst (λ xs. All (Labelled st) xs) (sym (desk_keeps (λ p. p.home) v a d l g.0 b)) (h.homes b);
         lent = All-tail (Labelled st) e lent labelled;
@@ -224,11 +232,14 @@ module _ (v : Listing) (st : State) (count : Slot → ℕ) (a : ℕ) (e : Entry)
       Labels : List Entry → Type 0
       Labels xs = All (Counted (relocate (move_one e.slot (InCache a)) st) (λ s. if same_slot e.slot s then 0 else count s)) xs
 
-      cached_at : IsPermutation (record e { forwards = 0 } ∷ (desk_listing v a).cache) d.cache → (b : ℕ) (y : Bool) → (a == b) ≡ y → Labels (desk_listing (with_desk v a d) b).cache
+      cached_at : IsPermutation (freed e ∷ (desk_listing v a).cache) d.cache → (b : ℕ) (y : Bool) → (a == b) ≡ y →
+          Labels (desk_listing (with_desk v a d) b).cache
       cached_at p b true q = subst (λ n. Labels (desk_listing (with_desk v a d) n).cache) (eqb-true a b q)
           (subst (λ x. Labels x.cache) (sym (desk_here v a d l))
-          (All-permutation (Counted (relocate (move_one e.slot (InCache a)) st) (λ s. if same_slot e.slot s then 0 else count s)) (record e { forwards = 0 } ∷ (desk_listing v a).cache) d.cache p
-          (All-cons (Counted (relocate (move_one e.slot (InCache a)) st) (λ s. if same_slot e.slot s then 0 else count s)) (record e { forwards = 0 }) (desk_listing v a).cache
+          (All-permutation (Counted (relocate (move_one e.slot (InCache a)) st) (λ s. if same_slot e.slot s then 0 else count s))
+          (freed e ∷ (desk_listing v a).cache) d.cache p
+          (All-cons (Counted (relocate (move_one e.slot (InCache a)) st) (λ s. if same_slot e.slot s then 0 else count s)) (freed e)
+          (desk_listing v a).cache
           (label.0, label.1, ap (λ (x : Bool). if x then 0 else count e.slot) (sym (same_slot_self e.slot)))
           (cached_stay v st count e.slot (InCache a) a h there))))
       cached_at p b false q = subst (λ x. Labels x.cache) (sym (desk_other v a b d q)) (cached_stay v st count e.slot (InCache a) b h there)

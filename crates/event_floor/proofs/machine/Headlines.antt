@@ -46,10 +46,12 @@ start_shown v st count h = record {
   homes = h.homes;
   lent = h.lent;
   cached = λ a k d l. (let f = get_or (desk_listing v a).cache k d in
-      label f (in_cache a (st.place f.slot) (owner_of st f.slot) (named_there v st count h (CacheOf a) f.slot (seen_counts (desk_listing v a).cache k d l))) (h.cached a k d l));
+      label f (in_cache a (st.place f.slot) (owner_of st f.slot) (named_there v st count h (CacheOf a) f.slot
+      (seen_counts (desk_listing v a).cache k d l))) (h.cached a k d l));
   posted = λ b j d l k c m. (let w = get_or (inbox_listing v b) j d in let f = get_or w.buffers k c in
       label f (in_batch w.number (st.place f.slot) (owner_of st f.slot) (named_there v st count h (BatchOf w.number) f.slot
-      (lt_of_lt_of_le (seen_counts w.buffers k c m) (le_trans (batch_counts f.slot w.number (inbox_listing v b) j d l refl) (inbox_counts f.slot w.number v.inboxes b)))))
+      (lt_of_lt_of_le (seen_counts w.buffers k c m) (le_trans (batch_counts f.slot w.number (inbox_listing v b) j d l refl)
+      (inbox_counts f.slot w.number v.inboxes b)))))
       (h.posted b j d l k c m));
 }
   where
@@ -79,8 +81,10 @@ headline old qs ys new f st count h =
         frame = g.2.frame;
         once = shown_once new g.0 (λ s. forwards st qs ys s (start_count st count s)) g.2;
         in_place = g.2.in_place;
-        carried = g.2.cached;
-        carried_in_batches = g.2.posted;
+        homes = g.2.homes;
+        lent = g.2.lent;
+        cached = g.2.cached;
+        posted = g.2.posted;
         few = g.2.sound.few;
       },
     )

@@ -22,7 +22,8 @@ move_named : (st : State) (r : Slot) (q : Place) (l : Named) → named_of st r �
     named_of (relocate (move_one r q) st) s ≡ (if same_slot r s && is_list l (named_of st s) then Some (named (owner_of st r) q) else named_of st s)
 move_named st r q l e s = go (same_slot r s) refl
   where
-    some_named : (o : ℕ) (p : Option Place) → option_map (named o) p ≡ Some l → option_map (named o) (option_map (λ (old : Place). q) p) ≡ Some (named o q)
+    some_named : (o : ℕ) (p : Option Place) → option_map (named o) p ≡ Some l →
+        option_map (named o) (option_map (λ (old : Place). q) p) ≡ Some (named o q)
     some_named o None h = absurd (false≢true (ap is_some h))
     some_named o (Some p) h = refl
 
@@ -82,10 +83,12 @@ send_named st a t s = go (owner_of st s) (st.place s) (nat_lt (near st a t) (nea
 -- a send: what goes from the cache is the new batch
 pub sent_in_place : (st : State) (before after : Named → List Slot) (a t : ℕ) →
     PlacedAs before st →
-    SomeMove (λ k s. times s (before k)) (λ k s. times s (after k)) (CacheOf a) (BatchOf st.next) (λ s. nat_lt (near st a t) (near st (owner_of st s) t)) →
+    SomeMove (λ k s. times s (before k)) (λ k s. times s (after k)) (CacheOf a) (BatchOf st.next)
+    (λ s. nat_lt (near st a t) (near st (owner_of st s) t)) →
     PlacedAs after (after_send st a t)
 sent_in_place st before after a t h m =
-    some_moved (λ k s. times s (before k)) (λ k s. times s (after k)) (CacheOf a) (BatchOf st.next) (λ s. nat_lt (near st a t) (near st (owner_of st s) t)) (named_of st)
+    some_moved (λ k s. times s (before k)) (λ k s. times s (after k)) (CacheOf a) (BatchOf st.next)
+    (λ s. nat_lt (near st a t) (near st (owner_of st s) t)) (named_of st)
     m h (named_of (after_send st a t)) (send_named st a t)
 
 -- ---- what replies tell of the lists
@@ -110,4 +113,5 @@ cache_listed st c lists a h p = listed st c (cached_by st a) (lists (CacheOf a))
 -- the bytes in a cache are the sum over the cache's list
 pub bytes_listed : (st : State) (c : Slot → ℕ) (lists : Named → List Slot) (a : ℕ) → Sound st c → PlacedAs lists st →
     cached_bytes st a ≡ sum_by (slot_size st) (lists (CacheOf a))
-bytes_listed st c lists a h p = sum_by-IsPermutation (slot_size st) (lists (CacheOf a)) (filter (cached_by st a) (slots st)) (cache_listed st c lists a h p)
+bytes_listed st c lists a h p = sum_by-IsPermutation (slot_size st) (lists (CacheOf a)) (filter (cached_by st a) (slots st))
+    (cache_listed st c lists a h p)

@@ -16,7 +16,8 @@ module _ (s : Slot) (f : DeskListing → List Slot) where
   desks_none (d ∷ ds) h =
       count_append (same_slot s) (f d) (flat_map f ds) ∙ ap₂ ◌+◌ (h zero (omega arith)) (desks_none ds (λ a l. h (suc a) (omega arith)))
 
-  desks_one : (ds : List DeskListing) (o : ℕ) → o < length ds → ((a : ℕ) → a < length ds → times s (f (get_or ds a empty_desk)) ≡ one_if (a == o)) → times s (flat_map f ds) ≡ 1
+  desks_one : (ds : List DeskListing) (o : ℕ) → o < length ds → ((a : ℕ) → a < length ds → times s (f (get_or ds a empty_desk)) ≡ one_if (a == o)) →
+      times s (flat_map f ds) ≡ 1
   desks_one [] o l h = absurd (omega arith)
   desks_one (d ∷ ds) zero l h =
       count_append (same_slot s) (f d) (flat_map f ds)
@@ -32,7 +33,8 @@ module _ (s : Slot) (f : DeskListing → List Slot) where
 
 -- the batches, where the slot is in none but those of one number
 module _ (s : Slot) (n : ℕ) where
-  one_inbox : (ws : List BatchListing) → ((j : ℕ) (d : BatchListing) → j < length ws → (n == (get_or ws j d).number) ≡ false → times s (slots_seen (get_or ws j d).buffers) ≡ 0) →
+  one_inbox : (ws : List BatchListing) → ((j : ℕ) (d : BatchListing) → j < length ws → (n == (get_or ws j d).number) ≡ false →
+      times s (slots_seen (get_or ws j d).buffers) ≡ 0) →
       times s (flat_map (λ (w : BatchListing). slots_seen w.buffers) ws) ≡ times s (flat_map (if_numbered n) ws)
   one_inbox [] h = refl
   one_inbox (w ∷ ws) h =
@@ -45,11 +47,14 @@ module _ (s : Slot) (n : ℕ) where
       here false e = h zero w (omega arith) e ∙ ap (λ (b : Bool). times s (if b then slots_seen w.buffers else [])) (sym e)
 
   all_inboxes : (is : List (List BatchListing)) →
-      ((b j : ℕ) (d : BatchListing) → j < length (get_or is b []) → (n == (get_or (get_or is b []) j d).number) ≡ false → times s (slots_seen (get_or (get_or is b []) j d).buffers) ≡ 0) →
-      times s (flat_map (λ ws. flat_map (λ (w : BatchListing). slots_seen w.buffers) ws) is) ≡ times s (flat_map (λ ws. flat_map (if_numbered n) ws) is)
+      ((b j : ℕ) (d : BatchListing) → j < length (get_or is b []) → (n == (get_or (get_or is b []) j d).number) ≡ false →
+      times s (slots_seen (get_or (get_or is b []) j d).buffers) ≡ 0) →
+      times s (flat_map (λ ws. flat_map (λ (w : BatchListing). slots_seen w.buffers) ws) is) ≡ times s
+      (flat_map (λ ws. flat_map (if_numbered n) ws) is)
   all_inboxes [] h = refl
   all_inboxes (ws ∷ is) h =
-      count_append (same_slot s) (flat_map (λ (w : BatchListing). slots_seen w.buffers) ws) (flat_map (λ us. flat_map (λ (w : BatchListing). slots_seen w.buffers) us) is)
+      count_append (same_slot s) (flat_map (λ (w : BatchListing). slots_seen w.buffers) ws)
+      (flat_map (λ us. flat_map (λ (w : BatchListing). slots_seen w.buffers) us) is)
       ∙ (ap₂ ◌+◌ (one_inbox ws (λ j d l e. h zero j d l e)) (all_inboxes is (λ b j d l e. h (suc b) j d l e))
       ∙ sym (count_append (same_slot s) (flat_map (if_numbered n) ws) (flat_map (λ us. flat_map (if_numbered n) us) is)))
 
@@ -82,7 +87,8 @@ module _ (v : Listing) (st : State) (count : Slot → ℕ) (h : Shown v st count
   no_caches o e f = desks_none s (λ (d : DeskListing). slots_seen d.cache) v.desks (λ a l. at_list (CacheOf a) o e ∙ ap one_if (f a))
 
   -- all batches have no more of the slot than those of the number n, where it is named in no other
-  batches_of : (n : ℕ) (o : Option Named) → named_of st s ≡ o → ((m : ℕ) → (n == m) ≡ false → is_list (BatchOf m) o ≡ false) → times s batches ≡ one_if (is_list (BatchOf n) o)
+  batches_of : (n : ℕ) (o : Option Named) → named_of st s ≡ o → ((m : ℕ) → (n == m) ≡ false → is_list (BatchOf m) o ≡ false) →
+      times s batches ≡ one_if (is_list (BatchOf n) o)
   unfolding batches
   batches_of n o e f = all_inboxes s n v.inboxes (λ b j d l q. none b j d l q) ∙ at_list (BatchOf n) o e
     where
@@ -99,26 +105,33 @@ module _ (v : Listing) (st : State) (count : Slot → ℕ) (h : Shown v st count
   in_desks : (o : ℕ) → o < st.desks → o < length v.desks
   in_desks o l = subst (λ n. o < n) (sym h.frame.desks) l
 
-  total : (hs ls cs bs : ℕ) → times s homes ≡ hs → times s (slots_seen v.lent) ≡ ls → times s caches ≡ cs → times s batches ≡ bs → times s (joined v) ≡ hs + (ls + (cs + bs))
+  total : (hs ls cs bs : ℕ) → times s homes ≡ hs → times s (slots_seen v.lent) ≡ ls → times s caches ≡ cs → times s batches ≡ bs →
+      times s (joined v) ≡ hs + (ls + (cs + bs))
   total hs ls cs bs a b c d = four ∙ ap₂ ◌+◌ a (ap₂ ◌+◌ b (ap₂ ◌+◌ c d))
 
-  by_place : (p : Option Place) → option_map (named (owner_of st s)) p ≡ named_of st s → Fits st (owner_of st s) (count s) p → times s (joined v) ≡ one_if (is_some p)
+  by_place : (p : Option Place) → option_map (named (owner_of st s)) p ≡ named_of st s → Fits st (owner_of st s) (count s) p →
+      times s (joined v) ≡ one_if (is_some p)
   unfolding homes caches
-  by_place None e f = total 0 0 0 0 (no_homes None (sym e) (λ a. refl)) (at_list Loans None (sym e)) (no_caches None (sym e) (λ a. refl)) (batches_of 0 None (sym e) (λ m q. refl))
+  by_place None e f = total 0 0 0 0 (no_homes None (sym e) (λ a. refl)) (at_list Loans None (sym e)) (no_caches None (sym e) (λ a. refl))
+      (batches_of 0 None (sym e) (λ m q. refl))
   by_place (Some AtHome) e f = total 1 0 0 0
       (home_one (sym e) f.0)
-      (at_list Loans (Some (HomeOf (owner_of st s))) (sym e)) (no_caches (Some (HomeOf (owner_of st s))) (sym e) (λ a. refl)) (batches_of 0 (Some (HomeOf (owner_of st s))) (sym e) (λ m q. refl))
+      (at_list Loans (Some (HomeOf (owner_of st s))) (sym e)) (no_caches (Some (HomeOf (owner_of st s))) (sym e) (λ a. refl))
+      (batches_of 0 (Some (HomeOf (owner_of st s))) (sym e) (λ m q. refl))
     where
       home_one : named_of st s ≡ Some (HomeOf (owner_of st s)) → owner_of st s < st.desks → times s homes ≡ 1
-      home_one e l = desks_one s (λ (d : DeskListing). slots_seen d.home) v.desks (owner_of st s) (in_desks (owner_of st s) l) (λ a m. at_list (HomeOf a) (Some (HomeOf (owner_of st s))) e)
+      home_one e l = desks_one s (λ (d : DeskListing). slots_seen d.home) v.desks (owner_of st s) (in_desks (owner_of st s) l)
+          (λ a m. at_list (HomeOf a) (Some (HomeOf (owner_of st s))) e)
   by_place (Some OnLoan) e f = total 0 1 0 0
-      (no_homes (Some Loans) (sym e) (λ a. refl)) (at_list Loans (Some Loans) (sym e)) (no_caches (Some Loans) (sym e) (λ a. refl)) (batches_of 0 (Some Loans) (sym e) (λ m q. refl))
+      (no_homes (Some Loans) (sym e) (λ a. refl)) (at_list Loans (Some Loans) (sym e)) (no_caches (Some Loans) (sym e) (λ a. refl))
+      (batches_of 0 (Some Loans) (sym e) (λ m q. refl))
   by_place (Some (InCache c)) e f = total 0 0 1 0
       (no_homes (Some (CacheOf c)) (sym e) (λ a. refl)) (at_list Loans (Some (CacheOf c)) (sym e))
       (cache_one c (sym e) f.1.0) (batches_of 0 (Some (CacheOf c)) (sym e) (λ m q. refl))
     where
       cache_one : (c : ℕ) → named_of st s ≡ Some (CacheOf c) → c < st.desks → times s caches ≡ 1
-      cache_one c e l = desks_one s (λ (d : DeskListing). slots_seen d.cache) v.desks c (in_desks c l) (λ a m. at_list (CacheOf a) (Some (CacheOf c)) e)
+      cache_one c e l = desks_one s (λ (d : DeskListing). slots_seen d.cache) v.desks c (in_desks c l)
+          (λ a m. at_list (CacheOf a) (Some (CacheOf c)) e)
   by_place (Some (InBatch n)) e f = total 0 0 0 1
       (no_homes (Some (BatchOf n)) (sym e) (λ a. refl)) (at_list Loans (Some (BatchOf n)) (sym e)) (no_caches (Some (BatchOf n)) (sym e) (λ a. refl))
       (batches_of n (Some (BatchOf n)) (sym e) (λ m q. turned m q) ∙ ap one_if (eq-eqb n n refl))

@@ -11,13 +11,6 @@ use Rattle.event_floor.specs.machine.Headline.{Applies, AppliesAll}
 pub applies_none : (v : Listing) → AppliesAll v [] [] v
 applies_none v st count h = (st, refl, h)
 
-pub applies_more : (u v w : Listing) (q : Request) (y : Answer) (qs : List Request) (ys : List Answer) →
-    Applies u q y v → AppliesAll v qs ys w → AppliesAll u (q ∷ qs) (y ∷ ys) w
-applies_more u v w q y qs ys one more st count h =
-    let f = one st count h in
-    let g = more (after st q y) (λ s. counted st q y s (count s)) (subst (λ x. Shown v x (λ s. counted st q y s (count s))) f.1.1 f.2) in
-    (g.0, (f.1.0, g.1), g.2)
-
 -- one more request at the end
 run_push : (qs : List Request) (ys : List Answer) (old mid : State) (q : Request) (y : Answer) → Run old qs ys mid → Answers mid q y →
     Run old (qs ++ q ∷ []) (ys ++ y ∷ []) (after mid q y)

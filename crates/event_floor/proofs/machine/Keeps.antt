@@ -144,7 +144,8 @@ claim_sound st c k a z h kl al un = record {
     unplaced s e = h.placed s ∙ (ap (λ n. has_index s.index (st.drawn n)) (sym (eqb-true k s.chunk e)) ∙ ap (has_index s.index) un)
 
     placed_at : (s : Slot) (b : Bool) → (k == s.chunk) ≡ b → (e : Bool) → nat_lt s.index (slots_of z) ≡ e →
-        is_some (if b && e then Some AtHome else st.place s) ≡ has_index s.index (if b then Some (record { owner = a; class = z }) else st.drawn s.chunk)
+        is_some (if b && e then Some AtHome else st.place s) ≡ has_index s.index
+        (if b then Some (record { owner = a; class = z }) else st.drawn s.chunk)
     placed_at s true p true q = sym q
     placed_at s true p false q = unplaced s p ∙ sym q
     placed_at s false p e q = h.placed s
@@ -182,7 +183,8 @@ link_sound st c n h = record {
   few = h.few;
 }
   where
-    in_batch : (s : Slot) (m : ℕ) → FitsIn st (owner_of st s) (c s) (InBatch m) → FitsIn (record st { waiting = map (link_one n) st.waiting }) (owner_of st s) (c s) (InBatch m)
+    in_batch : (s : Slot) (m : ℕ) → FitsIn st (owner_of st s) (c s) (InBatch m) →
+        FitsIn (record st { waiting = map (link_one n) st.waiting }) (owner_of st s) (c s) (InBatch m)
     in_batch s m f = (
       f.0,
       (let g = f.1 in (link_one n g.0, Member-map (link_one n) g.0 st.waiting g.1, (link_keeps n g.0).0 ∙ g.2)),
@@ -196,14 +198,16 @@ link_sound st c n h = record {
           )),
     )
 
-    fits_at : (s : Slot) (p : Option Place) → Fits st (owner_of st s) (c s) p → Fits (record st { waiting = map (link_one n) st.waiting }) (owner_of st s) (c s) p
+    fits_at : (s : Slot) (p : Option Place) → Fits st (owner_of st s) (c s) p →
+        Fits (record st { waiting = map (link_one n) st.waiting }) (owner_of st s) (c s) p
     fits_at s None f = tt
     fits_at s (Some AtHome) f = f
     fits_at s (Some OnLoan) f = f
     fits_at s (Some (InCache a)) f = f
     fits_at s (Some (InBatch m)) f = (f.0, in_batch s m f.1)
 
-    waits_at : (w : Waiting) → (v : Waiting) × Member v st.waiting × (w ≡ link_one n v) → FitsWaiting (record st { waiting = map (link_one n) st.waiting }) w
+    waits_at : (w : Waiting) → (v : Waiting) × Member v st.waiting × (w ≡ link_one n v) →
+        FitsWaiting (record st { waiting = map (link_one n) st.waiting }) w
     waits_at w g =
         let k = h.waits g.0 g.1 in
         let t = link_keeps n g.0 in
@@ -245,7 +249,8 @@ send_sound st c a t h al tl ne found = record {
       ],
     )
 
-    new_batch : (s : Slot) → nat_lt (near st a t) (near st (owner_of st s) t) ≡ true → c s ≤ near st (owner_of st s) a → FitsIn new (owner_of st s) (c s) (InBatch st.next)
+    new_batch : (s : Slot) → nat_lt (near st a t) (near st (owner_of st s) t) ≡ true → c s ≤ near st (owner_of st s) a →
+        FitsIn new (owner_of st s) (c s) (InBatch st.next)
     new_batch s e k = (
       omega arith,
       (sent, Member_last sent st.waiting, refl),
@@ -313,19 +318,27 @@ take_sound st c b h bl front = record {
     comes : (s : Slot) (n : ℕ) → (front_of st b == n) ≡ true → FitsIn st (owner_of st s) (c s) (InBatch n) → suc (c s) ≤ near st (owner_of st s) b
     comes s n e f =
         let g = f.2 front.0 front.1 (front.3 ∙ eqb-true (front_of st b) n e) in
-        let k : near st (owner_of st s) front.0.sender < near st (owner_of st s) b = subst (λ x. near st (owner_of st s) front.0.sender < near st (owner_of st s) x) (sym (eqb-true b front.0.address front.2)) g.1 in
+        let k : near st (owner_of st s) front.0.sender < near st (owner_of st s) b =
+        subst (λ x. near st (owner_of st s) front.0.sender < near st (owner_of st s) x) (sym (eqb-true b front.0.address front.2)) g.1 in
         lt_of_le_of_lt g.0 k
 
-    stays : (s : Slot) (n : ℕ) → (front_of st b == n) ≡ false → FitsIn st (owner_of st s) (c s) (InBatch n) → FitsIn (after_take st b) (owner_of st s) (c s) (InBatch n)
+    stays : (s : Slot) (n : ℕ) → (front_of st b == n) ≡ false → FitsIn st (owner_of st s) (c s) (InBatch n) →
+        FitsIn (after_take st b) (owner_of st s) (c s) (InBatch n)
     stays s n e f = (
       f.0,
-      (let g = f.1 in (g.0, Member-filter (λ v. not (front_of st b == v.number)) g.0 st.waiting g.1 (ap not (ap (λ x. front_of st b == x) g.2 ∙ e)), g.2)),
+      (let g = f.1 in (
+        g.0,
+        Member-filter (λ v. not (front_of st b == v.number)) g.0 st.waiting g.1
+            (ap not (ap (λ x. front_of st b == x) g.2 ∙ e)),
+        g.2,
+      )),
       λ w m q. f.2 w (filter_member (λ v. not (front_of st b == v.number)) w st.waiting m).0 q,
     )
 
     batch_at : (s : Slot) (n : ℕ) (x : Bool) → (front_of st b == n) ≡ x → (y : Bool) → (owner_of st s == b) ≡ y →
         Fits st (owner_of st s) (c s) (Some (InBatch n)) →
-        Fits (after_take st b) (owner_of st s) (if x && not y then suc (c s) else c s) (Some (if x then (if y then AtHome else InCache b) else InBatch n))
+        Fits (after_take st b) (owner_of st s) (if x && not y then suc (c s) else c s)
+        (Some (if x then (if y then AtHome else InCache b) else InBatch n))
     batch_at s n true e true q f = (f.0, tt)
     batch_at s n true e false q f = (f.0, (bl, eqb-false (owner_of st s) b q, comes s n e f.1))
     batch_at s n false e y q f = (f.0, stays s n e f.1)
@@ -362,7 +375,8 @@ take_sound st c b h bl front = record {
       reaches = (
         k.reaches.0,
         ap (option_map (move_batch st b (front_of st b) k.reaches.0)) k.reaches.1
-            ∙ ap (λ x. Some (if x then (if owner_of st k.reaches.0 == b then AtHome else InCache b) else InBatch w.number)) (not-true (front_of st b == w.number) e),
+            ∙ ap (λ x. Some (if x then (if owner_of st k.reaches.0 == b then AtHome else InCache b) else InBatch w.number))
+            (not-true (front_of st b == w.number) e),
         k.reaches.2,
       );
     }
@@ -406,7 +420,8 @@ send_step st c a t h e =
     let e5 = none_holds (not (list_any (λ s. in_bucket st a t s && (owner_of st s == t)) (slots st))) _ _ e4.1 in
     let d = or_parts (no_desk st a) (no_desk st t) e1.0 in
     send_sound st c a t h (a_desk_from st a d.0) (a_desk_from st t d.1) (eqb-false a t e3.0)
-    (any_witness (λ s. in_bucket st a t s && (owner_of st s == t)) (slots st) (not-false (list_any (λ s. in_bucket st a t s && (owner_of st s == t)) (slots st)) e5.0))
+    (any_witness (λ s. in_bucket st a t s && (owner_of st s == t)) (slots st)
+    (not-false (list_any (λ s. in_bucket st a t s && (owner_of st s == t)) (slots st)) e5.0))
 
 pub take_step : (st : State) (c : Slot → ℕ) (b : ℕ) → Sound st c → refusal st (Take b) ≡ None →
     Sound (after_take st b) (λ s. if is_posted (front_of st b) (st.place s) && not (owner_of st s == b) then suc (c s) else c s)
@@ -416,7 +431,8 @@ take_step st c b h e =
     let e3 = none_holds (not (front_ready (inbox st b))) _ _ e2.1 in
     take_sound st c b h (a_desk_from st b e1.0) (front_is (λ w. b == w.address) st.waiting (not-false (front_ready (inbox st b)) e3.0))
 
-pub claim_step : (st : State) (c : Slot → ℕ) (a z k : ℕ) → Sound st c → refusal st (Claim a z) ≡ None → (k < st.chunks) × (st.drawn k ≡ None) → Sound (with_chunk k a z st) c
+pub claim_step : (st : State) (c : Slot → ℕ) (a z k : ℕ) → Sound st c → refusal st (Claim a z) ≡ None → (k < st.chunks) × (st.drawn k ≡ None) →
+    Sound (with_chunk k a z st) c
 claim_step st c a z k h e r = claim_sound st c k a z h r.0 (a_desk_from st a (none_holds (no_desk st a) _ _ e).0) r.1
 
 pub sound_step : (st : State) (c : Slot → ℕ) (q : Request) (y : Answer) → Sound st c → Answers st q y →

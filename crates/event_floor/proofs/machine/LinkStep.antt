@@ -39,15 +39,6 @@ module _ (v : Listing) (st : State) (count : Slot → ℕ) (h : Shown v st count
   waits_there b j d l = filter_member (λ w. b == w.address) (as_waiting (get_or (inbox_listing v b) j d)) st.waiting
       (subst (λ ws. Member (as_waiting (get_or (inbox_listing v b) j d)) ws) (h.frame.inboxes b) (row_member (inbox_listing v b) j d l))
 
-  -- a number stands in one inbox
-  pub one_row : (b c i j : ℕ) (d e : BatchListing) → i < length (inbox_listing v b) → j < length (inbox_listing v c) →
-      (get_or (inbox_listing v b) i d).number ≡ (get_or (inbox_listing v c) j e).number → b ≡ c
-  one_row b c i j d e l m q =
-      let x = waits_there b i d l in
-      let y = waits_there c j e m in
-      let z = same_number st.waiting _ _ h.sound.rising x.0 y.0 q in
-      eqb-true b _ x.1 ∙ (ap (λ (w : Waiting). w.address) z ∙ sym (eqb-true c _ y.1))
-
   pub row_rises : (b : ℕ) → Rising (map as_waiting (inbox_listing v b))
   row_rises b = subst (λ ws. Rising ws) (sym (h.frame.inboxes b)) (Rising-filter (λ w. b == w.address) st.waiting h.sound.rising)
 
@@ -70,7 +61,8 @@ link_row (w ∷ ws) zero n d r l e = ap₂ ◌∷◌
     (sym (ap (λ (b : Bool). if b then record (as_waiting w) { linked = true } else as_waiting w) (eq-eqb n w.number (sym e))))
     (sym (links_none n (map as_waiting ws) (λ u m. ne_eqb n u.number (λ q. absurd (let k : w.number < u.number = r.0 u m in omega arith)))))
 link_row (w ∷ ws) (suc j) n d r l e = ap₂ ◌∷◌
-    (sym (link_same n (as_waiting w) (ne_eqb n w.number (λ q. absurd (let k : w.number < (get_or ws j d).number = r.0 _ (row_member ws j d (omega arith)) in omega arith)))))
+    (sym (link_same n (as_waiting w) (ne_eqb n w.number (λ q. absurd (let k : w.number < (get_or ws j d).number =
+    r.0 _ (row_member ws j d (omega arith)) in omega arith)))))
     (link_row ws j n d r.1 (omega arith) e)
 
 filter_links : (n b : ℕ) (xs : List Waiting) → filter (λ w. b == w.address) (map (link_one n) xs) ≡ map (link_one n) (filter (λ w. b == w.address) xs)
@@ -110,7 +102,8 @@ module _ (v : Listing) (st : State) (count : Slot → ℕ) (n b j : ℕ) (d : Ba
   other c q = get_or-set_other v.inboxes b c row [] (λ r. eqb-false b c q (sym r))
 
   waiting_at : (c : ℕ) (y : Bool) → (b == c) ≡ y → map as_waiting (inbox_listing after c) ≡ filter (λ w. c == w.address) (map (link_one n) st.waiting)
-  waiting_at c true q = subst (λ z. map as_waiting (inbox_listing after z) ≡ filter (λ w. z == w.address) (map (link_one n) st.waiting)) (eqb-true b c q)
+  waiting_at c true q = subst (λ z. map as_waiting (inbox_listing after z) ≡ filter (λ w. z == w.address) (map (link_one n) st.waiting))
+      (eqb-true b c q)
       (ap (map as_waiting) here ∙ (link_row (inbox_listing v b) j n d (row_rises v st count h b) m e
       ∙ (ap (map (link_one n)) (h.frame.inboxes b) ∙ sym (filter_links n b st.waiting))))
   waiting_at c false q = ap (map as_waiting) (other c q) ∙ (h.frame.inboxes c
@@ -127,12 +120,14 @@ module _ (v : Listing) (st : State) (count : Slot → ℕ) (n b j : ℕ) (d : Ba
   lists_at (HomeOf c) = refl
   lists_at Loans = refl
   lists_at (CacheOf c) = refl
-  lists_at (BatchOf i) = flat_set (λ ws. flat_map (if_numbered i) ws) v.inboxes b row [] (flat_set (if_numbered i) (inbox_listing v b) j (linked (get_or (inbox_listing v b) j d)) d refl)
+  lists_at (BatchOf i) = flat_set (λ ws. flat_map (if_numbered i) ws) v.inboxes b row []
+      (flat_set (if_numbered i) (inbox_listing v b) j (linked (get_or (inbox_listing v b) j d)) d refl)
 
   posted_at : (c : ℕ) (y : Bool) → (b == c) ≡ y → All (λ (w : BatchListing). All (Counted st count) w.buffers) (inbox_listing after c)
   posted_at c true q = subst (λ z. All (λ (w : BatchListing). All (Counted st count) w.buffers) (inbox_listing after z)) (eqb-true b c q)
       (subst (λ ws. All (λ (w : BatchListing). All (Counted st count) w.buffers) ws) (sym here)
-      (All-set (λ (w : BatchListing). All (Counted st count) w.buffers) (inbox_listing v b) j (linked (get_or (inbox_listing v b) j d)) (h.posted b j d m) (h.posted b)))
+      (All-set (λ (w : BatchListing). All (Counted st count) w.buffers) (inbox_listing v b) j (linked (get_or (inbox_listing v b) j d))
+      (h.posted b j d m) (h.posted b)))
   posted_at c false q = subst (λ ws. All (λ (w : BatchListing). All (Counted st count) w.buffers) ws) (sym (other c q)) (h.posted c)
 
   pub link_shown : Shown (after_link v b j (get_or (inbox_listing v b) j d)) (record st { waiting = map (link_one n) st.waiting }) count
@@ -157,7 +152,18 @@ module _ (v : Listing) (st : State) (count : Slot → ℕ) (n b j : ℕ) (d : Ba
   }
 
 -- an accepted link
-pub link_applies : (v : Listing) (n b j : ℕ) (d : BatchListing) → refusal_seen v (Link n) ≡ None → b < length v.inboxes → j < length (inbox_listing v b) →
+pub link_applies : (v : Listing) (n b j : ℕ) (d : BatchListing) → refusal_seen v (Link n) ≡ None → b < length v.inboxes →
+    j < length (inbox_listing v b) →
     (get_or (inbox_listing v b) j d).number ≡ n → Applies v (Link n) (Ok Done) (after_link v b j (get_or (inbox_listing v b) j d))
-link_applies v n b j d z l m e st count h =
-    (record st { waiting = map (link_one n) st.waiting }, ((refusal_agrees v st count h (Link n) ∙ z, tt), refl), link_shown v st count n b j d h l m e)
+link_applies v n b j d z l m e st count h = (
+  record st { waiting = map (link_one n) st.waiting },
+  (
+    (
+      refusal_agrees v st count h (Link n)
+          ∙ z,
+      tt,
+    ),
+    refl,
+  ),
+  link_shown v st count n b j d h l m e,
+)

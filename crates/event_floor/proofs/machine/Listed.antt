@@ -29,7 +29,8 @@ permutation_from_times [] [] e = IsPermutation-refl []
 permutation_from_times [] (y ∷ ys) e =
     absurd (let h = e y ∙ (times_cons y y ys ∙ ap (λ b. one_if b + times y ys) (same_slot_self y)) in let k : 0 ≡ 1 + times y ys = h in omega arith)
 permutation_from_times (x ∷ xs) ys e =
-    let there : 0 < times x ys = subst (λ n. 0 < n) (sym (times_cons x x xs ∙ ap (λ b. one_if b + times x xs) (same_slot_self x)) ∙ e x) (omega arith) in
+    let there : 0 < times x ys = subst (λ n. 0 < n) (sym (times_cons x x xs ∙ ap (λ b. one_if b + times x xs) (same_slot_self x)) ∙ e x)
+    (omega arith) in
     let h = split_at x ys there in
     subst (λ zs. IsPermutation (x ∷ xs) zs) (sym h.2)
     (IsPermutation-trans (x ∷ xs) (x ∷ (h.0 ++ h.1)) (h.0 ++ x ∷ h.1)

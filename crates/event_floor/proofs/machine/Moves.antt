@@ -74,7 +74,8 @@ module _ (before after : Named → Slot → ℕ) (l m : Named) (p : Slot → Boo
           after k s ≡ one_if (is_list k (if p s && is_list l (name s) then Some m else name s))
       go true q y r = subst (λ z. after z s ≡ one_if (is_list z (if p s && is_list l (name s) then Some m else name s))) (sym (same_list_eq k l q))
           (at_source s (p s) refl (is_list l (name s)) refl)
-      go false q true r = subst (λ z. after z s ≡ one_if (is_list z (if p s && is_list l (name s) then Some m else name s))) (sym (same_list_eq k m r))
+      go false q true r = subst (λ z. after z s ≡ one_if (is_list z (if p s && is_list l (name s) then Some m else name s)))
+          (sym (same_list_eq k m r))
           (at_target s (p s) refl (is_list l (name s)) refl)
       go false q false r = elsewhere k s q r (p s) (is_list l (name s)) refl
 
@@ -106,7 +107,8 @@ one_moves before after l m r name shows there f out into rest = record {
     pushed_in s = sum_by_pushed (λ x. cond (same_slot s x) 1 0) r (before m) (after m) into
 
     once : (s : Slot) → same_slot r s ≡ true → times s (before l) ≡ 1
-    once s e = shows l s ∙ (ap (λ z. one_if (is_list l (name z))) (sym (same_slot_eq r s e)) ∙ (ap (λ o. one_if (is_list l o)) there ∙ ap one_if (same_list_self l)))
+    once s e = shows l s ∙ (ap (λ z. one_if (is_list l (name z))) (sym (same_slot_eq r s e))
+        ∙ (ap (λ o. one_if (is_list l o)) there ∙ ap one_if (same_list_self l)))
 
     leaves : (s : Slot) (b : Bool) → same_slot r s ≡ b → times s (after l) ≡ cond b 0 (times s (before l))
     leaves s true e =

@@ -1,5 +1,5 @@
--- A run keeps the numbers of its pool.
-use Rattle.std.proofs.Common.{List, [], ◌∷◌, Ok, Err, refl, sym, ◌∙◌, subst}
+-- A run keeps the numbers of its pool, and its answers fix the state that it leads to.
+use Rattle.std.proofs.Common.{◌≡◌, List, [], ◌∷◌, Ok, Err, refl, sym, ◌∙◌, subst}
 use Rattle.event_floor.specs.declared.request.Request.{Request}
 use Rattle.event_floor.specs.declared.request.Request.TheVariants.{Adopt, Retire, Claim, Alloc, Free, Send, Link, Take}
 use Rattle.event_floor.specs.declared.reply.Reply.TheVariants.{Chunk, Slot as Lent}
@@ -31,3 +31,9 @@ run_numbers (q ∷ qs) (y ∷ ys) old new g =
     record { desks = more.desks ∙ one.desks; chunks = more.chunks ∙ one.chunks; digits = more.digits ∙ one.digits; limit = more.limit ∙ one.limit }
 run_numbers [] (y ∷ ys) old new g = elim g [ ]
 run_numbers (q ∷ qs) [] old new g = elim g [ ]
+
+pub run_fixes : (qs : List Request) (ys : List Answer) (old new new' : State) → Run old qs ys new → Run old qs ys new' → new ≡ new'
+run_fixes [] [] old new new' g h = g ∙ sym h
+run_fixes (q ∷ qs) (y ∷ ys) old new new' g h = run_fixes qs ys (after old q y) new new' g.1 h.1
+run_fixes [] (y ∷ ys) old new new' g h = elim g [ ]
+run_fixes (q ∷ qs) [] old new new' g h = elim g [ ]

@@ -14,7 +14,8 @@ some_digit s i =
     let some : 0 < s.bits = i.bits_low in
     le-div 1 (s.bits + s.width - 1) s.width low (omega arith)
 
-pub opening_sound : (desks chunks : ℕ) (digits : Scheme) (limit : ℕ) → IsScheme digits → desks ≤ 2 ^ digits.bits → Sound (opening desks chunks digits limit) (λ s. 0)
+pub opening_sound : (desks chunks : ℕ) (digits : Scheme) (limit : ℕ) → IsScheme digits → desks ≤ 2 ^ digits.bits →
+    Sound (opening desks chunks digits limit) (λ s. 0)
 opening_sound desks chunks digits limit i l = record {
   desks_fit = l;
   digits_fit = i;

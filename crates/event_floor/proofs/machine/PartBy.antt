@@ -23,7 +23,8 @@ any_filter {A} p q (x ∷ xs) = go (p x) (any_filter p q xs)
     go true e = ap (λ z. q x || z) e
     go false e = e
 
-pub any_seen : (q : Slot → Bool) (p : Entry → Bool) (xs : List Entry) → All (λ (e : Entry). p e ≡ q e.slot) xs → list_any q (slots_seen xs) ≡ list_any p xs
+pub any_seen : (q : Slot → Bool) (p : Entry → Bool) (xs : List Entry) → All (λ (e : Entry). p e ≡ q e.slot) xs →
+    list_any q (slots_seen xs) ≡ list_any p xs
 any_seen q p [] h = refl
 any_seen q p (x ∷ xs) h =
     ap₂ ◌||◌ (sym (All-head (λ (e : Entry). p e ≡ q e.slot) x xs h)) (any_seen q p xs (All-tail (λ (e : Entry). p e ≡ q e.slot) x xs h))
@@ -69,7 +70,8 @@ lent_named o (Some (InBatch n)) = refl
 
 pub home_with_is : (st : State) (a c : ℕ) (s : Slot) → home_with st a c s ≡ is_list (HomeOf a) (named_of st s) && (class_of st s == c)
 home_with_is st a c s =
-    together (is_home (st.place s)) (owner_of st s == a) (class_of st s == c) ∙ ap (λ b. b && (class_of st s == c)) (sym (at_home_is a (owner_of st s) (st.place s)))
+    together (is_home (st.place s)) (owner_of st s == a) (class_of st s == c)
+    ∙ ap (λ b. b && (class_of st s == c)) (sym (at_home_is a (owner_of st s) (st.place s)))
   where
     together : (x y z : Bool) → (x && (y && z)) ≡ ((x && y) && z)
     together true y z = refl

@@ -20,9 +20,6 @@ use Rattle.digit_route.specs.Digits.{Scheme, IsScheme}
 use Rattle.region_cut.specs.Classes.{size_of}
 use Rattle.event_floor.proofs.machine.InPlace.{bytes_listed}
 
-OwnerSaid : State → Entry → Type 0
-OwnerSaid st e = e.owner ≡ owner_of st e.slot
-
 module _ (st : State) (p : ℕ → Bool) where
   -- a test of the owner is a test of the slot
   pub part_times : (s : Slot) (xs : List Entry) → All (λ (e : Entry). e.owner ≡ owner_of st e.slot) xs →
@@ -44,8 +41,10 @@ module _ (st : State) (p : ℕ → Bool) where
 
       go : (b : Bool) → p x.owner ≡ b → (e : Bool) → same_slot s x.slot ≡ e → (d : Bool) → p (owner_of st s) ≡ d →
           times s (slots_seen (filter (λ (e : Entry). p e.owner) xs)) ≡ cond d (times s (slots_seen xs)) 0 →
-          times s (slots_seen (cond b (x ∷ filter (λ (e : Entry). p e.owner) xs) (filter (λ (e : Entry). p e.owner) xs))) ≡ cond d (times s (x.slot ∷ slots_seen xs)) 0
-      go true k e m true r ih = one e m (slots_seen (filter (λ (e : Entry). p e.owner) xs)) ∙ (ap (λ n. one_if e + n) ih ∙ sym (one e m (slots_seen xs)))
+          times s (slots_seen (cond b (x ∷ filter (λ (e : Entry). p e.owner) xs) (filter (λ (e : Entry). p e.owner) xs))) ≡ cond d
+          (times s (x.slot ∷ slots_seen xs)) 0
+      go true k e m true r ih = one e m (slots_seen (filter (λ (e : Entry). p e.owner) xs))
+          ∙ (ap (λ n. one_if e + n) ih ∙ sym (one e m (slots_seen xs)))
       go true k true m false r ih = absurd (true≢false (sym k ∙ (agree m ∙ r)))
       go true k false m false r ih = one false m (slots_seen (filter (λ (e : Entry). p e.owner) xs)) ∙ ap (λ n. 0 + n) ih
       go false k true m true r ih = absurd (false≢true (sym k ∙ (agree m ∙ r)))
@@ -150,10 +149,13 @@ opening_shown desks chunks digits limit i l = record {
     inboxes = λ b. ap (map as_waiting) (same_read desks [] b);
   };
   in_place = λ k s. at k s;
-  homes = λ a. subst (λ (d : DeskListing). All (Labelled (opening desks chunks digits limit)) d.home) (sym (same_read desks empty_desk a)) (λ k d n. absurd (omega arith));
+  homes = λ a. subst (λ (d : DeskListing). All (Labelled (opening desks chunks digits limit)) d.home) (sym (same_read desks empty_desk a))
+      (λ k d n. absurd (omega arith));
   lent = λ k d n. absurd (omega arith);
-  cached = λ a. subst (λ (d : DeskListing). All (Counted (opening desks chunks digits limit) (λ s. 0)) d.cache) (sym (same_read desks empty_desk a)) (λ k d n. absurd (omega arith));
-  posted = λ b. subst (λ (ws : List BatchListing). All (λ (w : BatchListing). All (Counted (opening desks chunks digits limit) (λ s. 0)) w.buffers) ws) (sym (same_read desks [] b)) (λ k d n. absurd (omega arith));
+  cached = λ a. subst (λ (d : DeskListing). All (Counted (opening desks chunks digits limit) (λ s. 0)) d.cache) (sym (same_read desks empty_desk a))
+      (λ k d n. absurd (omega arith));
+  posted = λ b. subst (λ (ws : List BatchListing). All (λ (w : BatchListing). All
+      (Counted (opening desks chunks digits limit) (λ s. 0)) w.buffers) ws) (sym (same_read desks [] b)) (λ k d n. absurd (omega arith));
 }
   where
     at : (k : Named) (s : Slot) → times s (list_named (opened desks chunks digits limit) k) ≡ 0

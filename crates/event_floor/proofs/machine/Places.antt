@@ -13,14 +13,17 @@ module _ (v : Listing) (st : State) (count : Slot → ℕ) (h : Shown v st count
   lent_place = λ k d l. named_there v st count h Loans (get_or v.lent k d).slot (seen_counts v.lent k d l)
 
   pub cache_place : (b : ℕ) → All (λ (e : Entry). named_of st e.slot ≡ Some (CacheOf b)) (desk_listing v b).cache
-  cache_place b = λ k d l. named_there v st count h (CacheOf b) (get_or (desk_listing v b).cache k d).slot (seen_counts (desk_listing v b).cache k d l)
+  cache_place b = λ k d l. named_there v st count h (CacheOf b) (get_or (desk_listing v b).cache k d).slot
+      (seen_counts (desk_listing v b).cache k d l)
 
-  pub posted_place : (b : ℕ) → All (λ (w : BatchListing). All (λ (e : Entry). named_of st e.slot ≡ Some (BatchOf w.number)) w.buffers) (inbox_listing v b)
+  pub posted_place : (b : ℕ) → All (λ (w : BatchListing). All (λ (e : Entry). named_of st e.slot ≡ Some (BatchOf w.number)) w.buffers)
+      (inbox_listing v b)
   posted_place b = λ j d l k c m.
       let w = get_or (inbox_listing v b) j d in
       let f = get_or w.buffers k c in
       named_there v st count h (BatchOf w.number) f.slot
-      (lt_of_lt_of_le (seen_counts w.buffers k c m) (le_trans (batch_counts f.slot w.number (inbox_listing v b) j d l refl) (inbox_counts f.slot w.number v.inboxes b)))
+      (lt_of_lt_of_le (seen_counts w.buffers k c m) (le_trans (batch_counts f.slot w.number (inbox_listing v b) j d l refl)
+      (inbox_counts f.slot w.number v.inboxes b)))
 
 -- two facts of each element
 pub All-both : {A : Type 0} (P Q R : A → Type 0) (xs : List A) → ((x : A) → P x → Q x → R x) → All P xs → All Q xs → All R xs

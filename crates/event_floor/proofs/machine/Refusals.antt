@@ -52,7 +52,8 @@ conditions_seen v (Send a t) =
     ∷ (nat_le (2 ^ 32) v.next, Spent) ∷ []
 conditions_seen v (Link n) = (not (any_posted (is_half n) v.inboxes), NoBatch) ∷ []
 conditions_seen v (Take b) =
-    (nat_le (length v.desks) b, NoDesk) ∷ (is_none (desk_listing v b).worker, Idle) ∷ (not (front_ready (map as_waiting (inbox_listing v b))), Nothing) ∷ []
+    (nat_le (length v.desks) b, NoDesk) ∷ (is_none (desk_listing v b).worker, Idle) ∷
+    (not (front_ready (map as_waiting (inbox_listing v b))), Nothing) ∷ []
 
 abbrev pub refusal_seen : Listing → Request → Option Refusal
 refusal_seen v q = first (conditions_seen v q)
@@ -72,7 +73,8 @@ member_of_any : (p : Waiting → Bool) (xs : List Waiting) → list_any p xs ≡
 member_of_any p [] e = absurd (false≢true e)
 member_of_any p (x ∷ xs) e = go (p x) refl (member_of_any p xs) e
   where
-    go : (b : Bool) → p x ≡ b → (list_any p xs ≡ true → (w : Waiting) × Member w xs × (p w ≡ true)) → (b || list_any p xs) ≡ true → (w : Waiting) × Member w (x ∷ xs) × (p w ≡ true)
+    go : (b : Bool) → p x ≡ b → (list_any p xs ≡ true → (w : Waiting) × Member w xs × (p w ≡ true)) → (b || list_any p xs) ≡ true → (w : Waiting)
+        × Member w (x ∷ xs) × (p w ≡ true)
     go true q f l = (x, inl refl, q)
     go false q f l = let h = f l in (h.0, inr h.1, h.2)
 
@@ -80,7 +82,8 @@ filter_any : (p q : Waiting → Bool) (xs : List Waiting) → list_any p (filter
 filter_any p q [] e = e
 filter_any p q (x ∷ xs) e = go (q x) (p x) refl (filter_any p q xs) e
   where
-    go : (b c : Bool) → p x ≡ c → (list_any p (filter q xs) ≡ true → list_any p xs ≡ true) → list_any p (cond b (x ∷ filter q xs) (filter q xs)) ≡ true → (p x || list_any p xs) ≡ true
+    go : (b c : Bool) → p x ≡ c → (list_any p (filter q xs) ≡ true → list_any p xs ≡ true) →
+        list_any p (cond b (x ∷ filter q xs) (filter q xs)) ≡ true → (p x || list_any p xs) ≡ true
     go b true k f l = ap (λ y. y || list_any p xs) k
     go true false k f l = ap (λ y. y || list_any p xs) k ∙ f (ap (λ y. y || list_any p (filter q xs)) (sym k) ∙ l)
     go false false k f l = ap (λ y. y || list_any p xs) k ∙ f l
@@ -93,11 +96,13 @@ row_of_any : (p : List BatchListing → Bool) (is : List (List BatchListing)) �
 row_of_any p [] e = absurd (false≢true e)
 row_of_any p (ws ∷ is) e = go (p ws) refl (row_of_any p is) e
   where
-    go : (b : Bool) → p ws ≡ b → (list_any p is ≡ true → (b : ℕ) × (p (get_or is b []) ≡ true)) → (b || list_any p is) ≡ true → (b : ℕ) × (p (get_or (ws ∷ is) b []) ≡ true)
+    go : (b : Bool) → p ws ≡ b → (list_any p is ≡ true → (b : ℕ) × (p (get_or is b []) ≡ true)) → (b || list_any p is) ≡ true → (b : ℕ)
+        × (p (get_or (ws ∷ is) b []) ≡ true)
     go true q f l = (zero, q)
     go false q f l = let h = f l in (suc h.0, h.1)
 
-pub any_of_row : (p : List BatchListing → Bool) (is : List (List BatchListing)) (b : ℕ) → p [] ≡ false → p (get_or is b []) ≡ true → list_any p is ≡ true
+pub any_of_row : (p : List BatchListing → Bool) (is : List (List BatchListing)) (b : ℕ) → p [] ≡ false → p (get_or is b []) ≡ true →
+    list_any p is ≡ true
 any_of_row p [] b n e = absurd (true≢false (sym e ∙ n))
 any_of_row p (ws ∷ is) zero n e = ap (λ b. b || list_any p is) e
 any_of_row p (ws ∷ is) (suc b) n e = ap (λ y. p ws || y) (any_of_row p is b n e) ∙ or_true (p ws)
@@ -106,7 +111,8 @@ any_of_row p (ws ∷ is) (suc b) n e = ap (λ y. p ws || y) (any_of_row p is b n
     or_true true = refl
     or_true false = refl
 
-pub posted_any : (v : Listing) (st : State) (count : Slot → ℕ) → Shown v st count → (p : Waiting → Bool) → list_any p st.waiting ≡ any_posted p v.inboxes
+pub posted_any : (v : Listing) (st : State) (count : Slot → ℕ) → Shown v st count → (p : Waiting → Bool) →
+    list_any p st.waiting ≡ any_posted p v.inboxes
 posted_any v st count h p = bools_agree (list_any p st.waiting) (any_posted p v.inboxes) there back
   where
     in_inbox : (b : ℕ) → list_any p (inbox st b) ≡ list_any (λ w. p (as_waiting w)) (inbox_listing v b)
@@ -117,7 +123,8 @@ posted_any v st count h p = bools_agree (list_any p st.waiting) (any_posted p v.
         let m = member_of_any p st.waiting e in
         any_of_row (λ ws. list_any (λ w. p (as_waiting w)) ws) v.inboxes m.0.address refl
         (sym (in_inbox m.0.address)
-        ∙ any_of_member p m.0 (inbox st m.0.address) (Member-filter (λ w. m.0.address == w.address) m.0 st.waiting m.1 (eq-eqb m.0.address m.0.address refl)) m.2)
+        ∙ any_of_member p m.0 (inbox st m.0.address) (Member-filter (λ w. m.0.address == w.address) m.0 st.waiting m.1
+        (eq-eqb m.0.address m.0.address refl)) m.2)
 
     back : any_posted p v.inboxes ≡ true → list_any p st.waiting ≡ true
     back e =
@@ -146,7 +153,8 @@ any_times s (x ∷ xs) e = subst (λ n. 0 < n) (sym (count_cons (same_slot s) x.
 
 pub lent_any : (v : Listing) (st : State) (count : Slot → ℕ) → Shown v st count → (s : Slot) →
     is_lent (st.place s) ≡ list_any (λ (e : Entry). same_slot s e.slot) v.lent
-lent_any v st count h s = go (is_lent (st.place s)) (sym (lent_named (owner_of st s) (st.place s))) (list_any (λ (e : Entry). same_slot s e.slot) v.lent) refl
+lent_any v st count h s = go (is_lent (st.place s)) (sym (lent_named (owner_of st s) (st.place s)))
+    (list_any (λ (e : Entry). same_slot s e.slot) v.lent) refl
   where
     go : (x : Bool) → x ≡ is_list Loans (named_of st s) → (y : Bool) → list_any (λ (e : Entry). same_slot s e.slot) v.lent ≡ y → x ≡ y
     go true k true e = refl
@@ -178,7 +186,8 @@ all_below n (suc m) a l = elim (cases_lt a n) as (λ _. list_all (λ k. nat_lt k
 pub drawn_all : (v : Listing) (st : State) (count : Slot → ℕ) → Shown v st count →
     list_all (λ k. is_some (st.drawn k)) (range_with_len 0 st.chunks) ≡ nat_le v.chunks (length v.drawn)
 drawn_all v st count h =
-    ap₂ (λ n (f : ℕ → Bool). list_all f (range_with_len 0 n)) (sym h.frame.chunks) (λ i k. (ap is_some (sym (h.frame.drawn k)) ∙ some_below v.drawn k) i)
+    ap₂ (λ n (f : ℕ → Bool). list_all f (range_with_len 0 n)) (sym h.frame.chunks)
+    (λ i k. (ap is_some (sym (h.frame.drawn k)) ∙ some_below v.drawn k) i)
     ∙ (all_below (length v.drawn) v.chunks 0 zero-le ∙ ap (λ n. nat_le n (length v.drawn)) (zero-add v.chunks))
 
 -- ---- the conditions
@@ -194,8 +203,10 @@ module _ (v : Listing) (st : State) (count : Slot → ℕ) (h : Shown v st count
   home_any a c = part_any st count (HomeOf a) (λ e. e.class == c) (λ s. class_of st s == c) (home_with st a c) (desk_listing v a).home h.sound
       (λ k d l. ap (λ x. x == c) (h.homes a k d l).1) (λ s. h.in_place (HomeOf a) s) (λ s. home_with_is st a c s)
 
-  pub cache_any : (a : ℕ) (p : ℕ → Bool) → list_any (λ s. cached_by st a s && p (owner_of st s)) (slots st) ≡ list_any (λ (e : Entry). p e.owner) (desk_listing v a).cache
-  cache_any a p = part_any st count (CacheOf a) (λ e. p e.owner) (λ s. p (owner_of st s)) (λ s. cached_by st a s && p (owner_of st s)) (desk_listing v a).cache h.sound
+  pub cache_any : (a : ℕ) (p : ℕ → Bool) → list_any (λ s. cached_by st a s && p (owner_of st s)) (slots st) ≡ list_any (λ (e : Entry). p e.owner)
+      (desk_listing v a).cache
+  cache_any a p = part_any st count (CacheOf a) (λ e. p e.owner) (λ s. p (owner_of st s)) (λ s. cached_by st a s && p (owner_of st s))
+      (desk_listing v a).cache h.sound
       (λ k d l. ap p (h.cached a k d l).0) (λ s. h.in_place (CacheOf a) s)
       (λ s. ap (λ b. b && p (owner_of st s)) (sym (in_cache_is a (owner_of st s) (st.place s))))
 
@@ -206,16 +217,15 @@ module _ (v : Listing) (st : State) (count : Slot → ℕ) (h : Shown v st count
       and_true true = refl
       and_true false = refl
 
-  width_is : (a t o : ℕ) → nat_lt (near st a t) (near st o t) ≡ goes_by v.digits a t o
-  width_is a t o = ap (λ w. goes_by w a t o) (sym h.frame.digits)
-
   bucket_any : (a t : ℕ) → list_any (in_bucket st a t) (slots st) ≡ list_any (λ (e : Entry). goes_by v.digits a t e.owner) (desk_listing v a).cache
-  bucket_any a t = cache_any a (λ o. nat_lt (near st a t) (near st o t)) ∙ ap (λ w. list_any (λ (e : Entry). goes_by w a t e.owner) (desk_listing v a).cache) (sym h.frame.digits)
+  bucket_any a t = cache_any a (λ o. nat_lt (near st a t) (near st o t))
+      ∙ ap (λ w. list_any (λ (e : Entry). goes_by w a t e.owner) (desk_listing v a).cache) (sym h.frame.digits)
 
   owner_any : (a t : ℕ) → list_any (λ s. in_bucket st a t s && (owner_of st s == t)) (slots st)
       ≡ list_any (λ (e : Entry). goes_by v.digits a t e.owner && (e.owner == t)) (desk_listing v a).cache
   owner_any a t =
-      any_same (λ s. in_bucket st a t s && (owner_of st s == t)) (λ s. cached_by st a s && (nat_lt (near st a t) (near st (owner_of st s) t) && (owner_of st s == t))) (slots st)
+      any_same (λ s. in_bucket st a t s && (owner_of st s == t)) (λ s. cached_by st a s && (nat_lt (near st a t)
+      (near st (owner_of st s) t) && (owner_of st s == t))) (slots st)
       (λ s. apart (cached_by st a s) (nat_lt (near st a t) (near st (owner_of st s) t)) (owner_of st s == t))
       ∙ (cache_any a (λ o. nat_lt (near st a t) (near st o t) && (o == t))
       ∙ ap (λ w. list_any (λ (e : Entry). goes_by w a t e.owner && (e.owner == t)) (desk_listing v a).cache) (sym h.frame.digits))
@@ -233,17 +243,20 @@ module _ (v : Listing) (st : State) (count : Slot → ℕ) (h : Shown v st count
       ap₂ ◌∷◌ (ap (λ b. (b, NoDesk)) (no_desk_is a)) (ap₂ ◌∷◌ (ap (λ b. (b, Idle)) (idle_is a))
       (ap (λ b. (b, Unsettled) ∷ []) (ap₂ ◌||◌ (cache_some a) (posted_any v st count h (λ w. (a == w.sender) && not w.linked)))))
   conditions_agree (Claim a c) =
-      ap₂ ◌∷◌ (ap (λ b. (b, NoDesk)) (no_desk_is a)) (ap₂ ◌∷◌ (ap (λ b. (b, Idle)) (idle_is a)) (ap₂ ◌∷◌ (ap (λ (s : Scheme). (nat_le (classes_of (profile_of s.bits)) c, BadClass)) (sym h.frame.digits))
+      ap₂ ◌∷◌ (ap (λ b. (b, NoDesk)) (no_desk_is a)) (ap₂ ◌∷◌ (ap (λ b. (b, Idle)) (idle_is a))
+      (ap₂ ◌∷◌ (ap (λ (s : Scheme). (nat_le (classes_of (profile_of s.bits)) c, BadClass)) (sym h.frame.digits))
       (ap₂ ◌∷◌ (ap (λ b. (b, NotNeeded)) (home_any a c)) (ap (λ b. (b, NoChunk) ∷ []) (drawn_all v st count h)))))
   conditions_agree (Alloc a n) =
-      ap₂ ◌∷◌ (ap (λ b. (b, NoDesk)) (no_desk_is a)) (ap₂ ◌∷◌ (ap (λ b. (b, Idle)) (idle_is a)) (ap₂ ◌∷◌ (ap (λ (s : Scheme). (nat_lt (largest_of (profile_of s.bits)) n, TooLarge)) (sym h.frame.digits))
+      ap₂ ◌∷◌ (ap (λ b. (b, NoDesk)) (no_desk_is a)) (ap₂ ◌∷◌ (ap (λ b. (b, Idle)) (idle_is a))
+      (ap₂ ◌∷◌ (ap (λ (s : Scheme). (nat_lt (largest_of (profile_of s.bits)) n, TooLarge)) (sym h.frame.digits))
       (ap (λ b. (not b, NeedChunk) ∷ []) (home_any a (least_class (profile_at st) n)
       ∙ ap (λ (s : Scheme). list_any (λ (e : Entry). e.class == least_class (profile_of s.bits) n) (desk_listing v a).home) (sym h.frame.digits)))))
   conditions_agree (Free a pair) =
       ap₂ ◌∷◌ (ap (λ b. (b, NoDesk)) (no_desk_is a)) (ap₂ ◌∷◌ (ap (λ b. (b, Idle)) (idle_is a))
       (ap (λ b. (not b, NotLent) ∷ []) (lent_any v st count h (slot_at pair))))
   conditions_agree (Send a t) =
-      ap₂ ◌∷◌ (ap (λ b. (b, NoDesk)) (ap₂ ◌||◌ (no_desk_is a) (no_desk_is t))) (ap₂ ◌∷◌ (ap (λ b. (b, Idle)) (idle_is a)) (ap (λ cs. (a == t, ToSelf) ∷ cs)
+      ap₂ ◌∷◌ (ap (λ b. (b, NoDesk)) (ap₂ ◌||◌ (no_desk_is a) (no_desk_is t)))
+      (ap₂ ◌∷◌ (ap (λ b. (b, Idle)) (idle_is a)) (ap (λ cs. (a == t, ToSelf) ∷ cs)
       (ap₂ ◌∷◌ (ap (λ b. (not b, NothingFor)) (bucket_any a t)) (ap₂ ◌∷◌ (ap (λ b. (not b, NotAnOwner)) (owner_any a t))
       (ap (λ n. (nat_le (2 ^ 32) n, Spent) ∷ []) (sym h.frame.next))))))
   conditions_agree (Link n) = ap (λ b. (not b, NoBatch) ∷ []) (posted_any v st count h (is_half n))

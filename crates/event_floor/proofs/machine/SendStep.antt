@@ -46,18 +46,21 @@ pub one_more : (s : Slot) (n : ℕ) (w : BatchListing) (is : List (List BatchLis
 one_more s n w [] t l = absurd (omega arith)
 one_more s n w (ws ∷ is) zero l =
     let a = count_append (same_slot s) (flat_map (if_numbered n) (ws ++ w ∷ [])) (flat_map (λ us. flat_map (if_numbered n) us) is) in
-    let b = ap (times s) (flat_append (if_numbered n) ws (w ∷ [])) ∙ count_append (same_slot s) (flat_map (if_numbered n) ws) (flat_map (if_numbered n) (w ∷ [])) in
+    let b = ap (times s) (flat_append (if_numbered n) ws (w ∷ [])) ∙ count_append (same_slot s) (flat_map (if_numbered n) ws)
+    (flat_map (if_numbered n) (w ∷ [])) in
     let c = count_append (same_slot s) (flat_map (if_numbered n) ws) (flat_map (λ us. flat_map (if_numbered n) us) is) in
     let d = ap (times s) (append-nil (if_numbered n w)) in
     omega (arith, a, b, c, d)
 one_more s n w (ws ∷ is) (suc t) l =
-    let a = count_append (same_slot s) (flat_map (if_numbered n) ws) (flat_map (λ us. flat_map (if_numbered n) us) (set is t (get_or is t [] ++ w ∷ []))) in
+    let a = count_append (same_slot s) (flat_map (if_numbered n) ws) (flat_map (λ us. flat_map (if_numbered n) us)
+    (set is t (get_or is t [] ++ w ∷ []))) in
     let b = one_more s n w is t (omega arith) in
     let c = count_append (same_slot s) (flat_map (if_numbered n) ws) (flat_map (λ us. flat_map (if_numbered n) us) is) in
     omega (arith, a, b, c)
 
 pub seen_permuted : (s : Slot) (xs ys : List Entry) → IsPermutation xs ys → times s (slots_seen ys) ≡ times s (slots_seen xs)
-seen_permuted s xs ys p = sum_by-IsPermutation (λ x. cond (same_slot s x) 1 0) (slots_seen xs) (slots_seen ys) (IsPermutation-map (λ (x : Entry). x.slot) xs ys p)
+seen_permuted s xs ys p = sum_by-IsPermutation (λ x. cond (same_slot s x) 1 0) (slots_seen xs) (slots_seen ys)
+    (IsPermutation-map (λ (x : Entry). x.slot) xs ys p)
 
 module _ (v : Listing) (st : State) (count : Slot → ℕ) (a t : ℕ) (bs : List Entry) (d : DeskListing)
     (h : Shown v st count) (al : a < length v.desks) (tl : t < length v.inboxes) (f : SendEdits v st a t bs d) where
@@ -69,7 +72,8 @@ module _ (v : Listing) (st : State) (count : Slot → ℕ) (a t : ℕ) (bs : Lis
 
   left_times : (s : Slot) → times s (slots_seen d.cache) ≡ cond (goes s) 0 (times s (slots_seen (desk_listing v a).cache))
   unfolding goes
-  left_times s = seen_permuted s _ d.cache f.left ∙ (part_times st (λ o. not (nearer_owner st a t o)) s (desk_listing v a).cache owners ∙ turned (nearer_owner st a t (owner_of st s)))
+  left_times s = seen_permuted s _ d.cache f.left ∙ (part_times st (λ o. not (nearer_owner st a t o)) s (desk_listing v a).cache owners
+      ∙ turned (nearer_owner st a t (owner_of st s)))
     where
       turned : (b : Bool) → cond (not b) (times s (slots_seen (desk_listing v a).cache)) 0 ≡ cond b 0 (times s (slots_seen (desk_listing v a).cache))
       turned true = refl
@@ -79,20 +83,24 @@ module _ (v : Listing) (st : State) (count : Slot → ℕ) (a t : ℕ) (bs : Lis
   unfolding goes
   taken_times s = seen_permuted s _ bs f.taken ∙ part_times st (nearer_owner st a t) s (desk_listing v a).cache owners
 
-  moves : SomeMove (λ k s. times s (list_named v k)) (λ k s. times s (list_named (after_sending v a t bs d) k)) (CacheOf a) (BatchOf st.next) (λ s. nearer_owner st a t (owner_of st s))
+  moves : SomeMove (λ k s. times s (list_named v k)) (λ k s. times s (list_named (after_sending v a t bs d) k)) (CacheOf a) (BatchOf st.next)
+      (λ s. nearer_owner st a t (owner_of st s))
   unfolding goes
   moves = record {
     apart = refl;
     leave = λ s. ap (λ (p : DeskListing). times s (slots_seen p.cache)) (desk_here v a d al) ∙ left_times s;
     arrive = λ s. one_more s st.next (new_batch v a t bs) v.inboxes t tl
-        ∙ ap (λ n. times s (list_named v (BatchOf st.next)) + n) (ap (λ (b : Bool). times s (if b then slots_seen bs else [])) (eq-eqb st.next v.next (sym h.frame.next)) ∙ taken_times s);
+        ∙ ap (λ n. times s (list_named v (BatchOf st.next)) + n) (ap (λ (b : Bool). times s (if b then slots_seen bs else []))
+        (eq-eqb st.next v.next (sym h.frame.next)) ∙ taken_times s);
     stay = λ k s x y. stays k s x y;
   }
     where
-      stays : (k : Named) (s : Slot) → same_list k (CacheOf a) ≡ false → same_list k (BatchOf st.next) ≡ false → times s (list_named (after_sending v a t bs d) k) ≡ times s (list_named v k)
+      stays : (k : Named) (s : Slot) → same_list k (CacheOf a) ≡ false → same_list k (BatchOf st.next) ≡ false →
+          times s (list_named (after_sending v a t bs d) k) ≡ times s (list_named v k)
       stays (HomeOf b) s x y = ap (λ xs. times s (slots_seen xs)) (desk_keeps (λ p. p.home) v a d al f.home b)
       stays Loans s x y = refl
-      stays (CacheOf b) s x y = ap (λ (p : DeskListing). times s (slots_seen p.cache)) (desk_other v a b d (ne_eqb a b (λ q. eqb-false b a x (sym q))))
+      stays (CacheOf b) s x y = ap (λ (p : DeskListing). times s (slots_seen p.cache))
+          (desk_other v a b d (ne_eqb a b (λ q. eqb-false b a x (sym q))))
       stays (BatchOf m) s x y = one_more s m (new_batch v a t bs) v.inboxes t tl
           ∙ (ap (λ n. times s (list_named v (BatchOf m)) + n)
           (ap (λ (b : Bool). times s (if b then slots_seen bs else [])) (ap (λ n. m == n) h.frame.next ∙ y))
@@ -103,16 +111,19 @@ module _ (v : Listing) (st : State) (count : Slot → ℕ) (a t : ℕ) (bs : Lis
 
   new_labels : All (Counted (after_send st a t) count) bs
   new_labels = All-permutation (Counted (after_send st a t) count) _ bs f.taken
-      (All-filter (λ (e : Entry). nearer_owner st a t e.owner) (Counted (after_send st a t) count) (desk_listing v a).cache (λ k e l. same_label _ (h.cached a k e l)))
+      (All-filter (λ (e : Entry). nearer_owner st a t e.owner) (Counted (after_send st a t) count) (desk_listing v a).cache
+      (λ k e l. same_label _ (h.cached a k e l)))
 
   left_labels : All (Counted (after_send st a t) count) d.cache
   left_labels = All-permutation (Counted (after_send st a t) count) _ d.cache f.left
-      (All-filter (λ (e : Entry). not (nearer_owner st a t e.owner)) (Counted (after_send st a t) count) (desk_listing v a).cache (λ k e l. same_label _ (h.cached a k e l)))
+      (All-filter (λ (e : Entry). not (nearer_owner st a t e.owner)) (Counted (after_send st a t) count) (desk_listing v a).cache
+      (λ k e l. same_label _ (h.cached a k e l)))
 
   cached_at : (b : ℕ) (y : Bool) → (a == b) ≡ y → All (Counted (after_send st a t) count) (desk_listing (with_desk v a d) b).cache
   cached_at b true q = subst (λ n. All (Counted (after_send st a t) count) (desk_listing (with_desk v a d) n).cache) (eqb-true a b q)
       (subst (λ (p : DeskListing). All (Counted (after_send st a t) count) p.cache) (sym (desk_here v a d al)) left_labels)
-  cached_at b false q = subst (λ (p : DeskListing). All (Counted (after_send st a t) count) p.cache) (sym (desk_other v a b d q)) (λ k e l. same_label _ (h.cached b k e l))
+  cached_at b false q = subst (λ (p : DeskListing). All (Counted (after_send st a t) count) p.cache) (sym (desk_other v a b d q))
+      (λ k e l. same_label _ (h.cached b k e l))
 
   inbox_here : inbox_listing (after_sending v a t bs d) t ≡ inbox_listing v t ++ new_batch v a t bs ∷ []
   inbox_here = get_or-set_same v.inboxes t (inbox_listing v t ++ new_batch v a t bs ∷ []) [] tl
@@ -120,12 +131,15 @@ module _ (v : Listing) (st : State) (count : Slot → ℕ) (a t : ℕ) (bs : Lis
   inbox_other : (b : ℕ) → (t == b) ≡ false → inbox_listing (after_sending v a t bs d) b ≡ inbox_listing v b
   inbox_other b e = get_or-set_other v.inboxes t b (inbox_listing v t ++ new_batch v a t bs ∷ []) [] (λ q. eqb-false t b e (sym q))
 
-  posted_at : (b : ℕ) (y : Bool) → (t == b) ≡ y → All (λ (w : BatchListing). All (Counted (after_send st a t) count) w.buffers) (inbox_listing (after_sending v a t bs d) b)
-  posted_at b true q = subst (λ n. All (λ (w : BatchListing). All (Counted (after_send st a t) count) w.buffers) (inbox_listing (after_sending v a t bs d) n)) (eqb-true t b q)
+  posted_at : (b : ℕ) (y : Bool) → (t == b) ≡ y → All (λ (w : BatchListing). All (Counted (after_send st a t) count) w.buffers)
+      (inbox_listing (after_sending v a t bs d) b)
+  posted_at b true q = subst (λ n. All (λ (w : BatchListing). All (Counted (after_send st a t) count) w.buffers)
+      (inbox_listing (after_sending v a t bs d) n)) (eqb-true t b q)
       (subst (λ (ws : List BatchListing). All (λ (w : BatchListing). All (Counted (after_send st a t) count) w.buffers) ws) (sym inbox_here)
       (All-push (λ (w : BatchListing). All (Counted (after_send st a t) count) w.buffers) (inbox_listing v t) (new_batch v a t bs)
       (λ j w l. λ k e m. same_label _ (h.posted t j w l k e m)) new_labels))
-  posted_at b false q = subst (λ (ws : List BatchListing). All (λ (w : BatchListing). All (Counted (after_send st a t) count) w.buffers) ws) (sym (inbox_other b q))
+  posted_at b false q = subst (λ (ws : List BatchListing). All (λ (w : BatchListing). All (Counted (after_send st a t) count) w.buffers) ws)
+      (sym (inbox_other b q))
       (λ j w l. λ k e m. same_label _ (h.posted b j w l k e m))
 
   sent : Waiting
@@ -135,10 +149,12 @@ module _ (v : Listing) (st : State) (count : Slot → ℕ) (a t : ℕ) (bs : Lis
   unfolding sent
   waiting_here b true q = subst (λ n. map as_waiting (inbox_listing (after_sending v a t bs d) n) ≡ inbox (after_send st a t) n) (eqb-true t b q)
       (ap (map as_waiting) inbox_here ∙ (map-append as_waiting (inbox_listing v t) (new_batch v a t bs ∷ [])
-      ∙ (ap₂ ◌++◌ (h.frame.inboxes t) (ap (λ n. record { number = n; sender = a; address = t; linked = false } ∷ []) h.frame.next ∙ ap (λ (x : Bool). cond x (sent ∷ []) []) (sym (eq-eqb t t refl)))
+      ∙ (ap₂ ◌++◌ (h.frame.inboxes t) (ap (λ n. record { number = n; sender = a; address = t; linked = false } ∷ []) h.frame.next
+      ∙ ap (λ (x : Bool). cond x (sent ∷ []) []) (sym (eq-eqb t t refl)))
       ∙ sym (filter-append (λ (w : Waiting). t == w.address) st.waiting (sent ∷ [])))))
   waiting_here b false q = ap (map as_waiting) (inbox_other b q) ∙ (h.frame.inboxes b
-      ∙ (sym (append-nil (inbox st b)) ∙ (ap (λ (x : Bool). inbox st b ++ cond x (sent ∷ []) []) (sym (turned q)) ∙ sym (filter-append (λ (w : Waiting). b == w.address) st.waiting (sent ∷ [])))))
+      ∙ (sym (append-nil (inbox st b)) ∙ (ap (λ (x : Bool). inbox st b ++ cond x (sent ∷ []) []) (sym (turned q))
+      ∙ sym (filter-append (λ (w : Waiting). b == w.address) st.waiting (sent ∷ [])))))
     where
       turned : (t == b) ≡ false → (b == t) ≡ false
       turned q = ne_eqb b t (λ r. eqb-false t b q (sym r))

@@ -26,7 +26,7 @@ use Rattle.event_floor.proofs.machine.Places.{cache_place, posted_place, All-bot
 use Rattle.event_floor.proofs.machine.Refusals.{refusal_seen, refusal_agrees}
 
 abbrev pub passed_on : Entry → Entry
-passed_on e = record e { forwards = suc e.forwards }
+passed_on e = record e { forwards = e.forwards + 1 }
 
 -- what a take does to the floor's lists: the front batch goes, its own buffers go home, the others into the cache
 pub record TakeEdits (v : Listing) (b : ℕ) (w : BatchListing) (rest : List BatchListing) (d : DeskListing) : Type 0 where
@@ -46,7 +46,8 @@ filter_swap p q (x ∷ xs) = go (p x) refl (q x) refl (filter_swap p q xs)
   where
     go : (b : Bool) → p x ≡ b → (c : Bool) → q x ≡ c → filter p (filter q xs) ≡ filter q (filter p xs) →
         filter p (cond c (x ∷ filter q xs) (filter q xs)) ≡ filter q (cond b (x ∷ filter p xs) (filter p xs))
-    go true e true f h = ap (λ y. cond y (x ∷ filter p (filter q xs)) (filter p (filter q xs))) e ∙ (ap (λ ys. x ∷ ys) h ∙ sym (ap (λ y. cond y (x ∷ filter q (filter p xs)) (filter q (filter p xs))) f))
+    go true e true f h = ap (λ y. cond y (x ∷ filter p (filter q xs)) (filter p (filter q xs))) e
+        ∙ (ap (λ ys. x ∷ ys) h ∙ sym (ap (λ y. cond y (x ∷ filter q (filter p xs)) (filter q (filter p xs))) f))
     go true e false f h = h ∙ sym (ap (λ y. cond y (x ∷ filter q (filter p xs)) (filter q (filter p xs))) f)
     go false e true f h = ap (λ y. cond y (x ∷ filter p (filter q xs)) (filter p (filter q xs))) e ∙ h
     go false e false f h = h
@@ -69,13 +70,16 @@ slots_passed [] = refl
 slots_passed (x ∷ xs) = ap (λ ss. x.slot ∷ ss) (slots_passed xs)
 
 module _ (s : Slot) (n : ℕ) where
-  row_none : (ws : List BatchListing) → ((j : ℕ) (d : BatchListing) → j < length ws → (n == (get_or ws j d).number) ≡ false) → times s (flat_map (if_numbered n) ws) ≡ 0
+  row_none : (ws : List BatchListing) → ((j : ℕ) (d : BatchListing) → j < length ws → (n == (get_or ws j d).number) ≡ false) →
+      times s (flat_map (if_numbered n) ws) ≡ 0
   row_none [] f = refl
   row_none (w ∷ ws) f =
       count_append (same_slot s) (if_numbered n w) (flat_map (if_numbered n) ws)
-      ∙ ap₂ ◌+◌ (ap (λ (b : Bool). times s (if b then slots_seen w.buffers else [])) (f zero w (omega arith))) (row_none ws (λ j d l. f (suc j) d (omega arith)))
+      ∙ ap₂ ◌+◌ (ap (λ (b : Bool). times s (if b then slots_seen w.buffers else [])) (f zero w (omega arith)))
+      (row_none ws (λ j d l. f (suc j) d (omega arith)))
 
-  rows_none : (is : List (List BatchListing)) → ((c j : ℕ) (d : BatchListing) → j < length (get_or is c []) → (n == (get_or (get_or is c []) j d).number) ≡ false) →
+  rows_none : (is : List (List BatchListing)) → ((c j : ℕ) (d : BatchListing) → j < length (get_or is c []) →
+      (n == (get_or (get_or is c []) j d).number) ≡ false) →
       times s (flat_map (λ ws. flat_map (if_numbered n) ws) is) ≡ 0
   rows_none [] f = refl
   rows_none (ws ∷ is) f =
@@ -84,7 +88,8 @@ module _ (s : Slot) (n : ℕ) where
 
   -- the front of one inbox goes
   popped : (w : BatchListing) (rest : List BatchListing) (is : List (List BatchListing)) (b : ℕ) → b < length is → get_or is b [] ≡ w ∷ rest →
-      times s (flat_map (λ ws. flat_map (if_numbered n) ws) is) ≡ times s (if_numbered n w) + times s (flat_map (λ ws. flat_map (if_numbered n) ws) (set is b rest))
+      times s (flat_map (λ ws. flat_map (if_numbered n) ws) is) ≡ times s (if_numbered n w) + times s
+      (flat_map (λ ws. flat_map (if_numbered n) ws) (set is b rest))
   popped w rest [] b l e = absurd (omega arith)
   popped w rest (ws ∷ is) zero l e =
       let x = count_append (same_slot s) (flat_map (if_numbered n) ws) (flat_map (λ us. flat_map (if_numbered n) us) is) in
@@ -155,11 +160,13 @@ module _ (v : Listing) (st : State) (count : Slot → ℕ) (b : ℕ) (w : BatchL
   left_apart c j p = go (b == c) refl
     where
       go : (y : Bool) → (b == c) ≡ y → j < length (inbox_listing new c) → (front_of st b == (get_or (inbox_listing new c) j p).number) ≡ false
-      go true q = subst (λ z. j < length (inbox_listing new z) → (front_of st b == (get_or (inbox_listing new z) j p).number) ≡ false) (eqb-true b c q)
+      go true q = subst (λ z. j < length (inbox_listing new z) → (front_of st b == (get_or (inbox_listing new z) j p).number) ≡ false)
+          (eqb-true b c q)
           (subst (λ ws. j < length ws → (front_of st b == (get_or ws j p).number) ≡ false) (sym here)
           (λ m. behind _ (row_member rest j p m)))
       go false q = subst (λ ws. j < length ws → (front_of st b == (get_or ws j p).number) ≡ false) (sym (other c q))
-          (λ m. apart c q _ (subst (λ ws. Member (as_waiting (get_or (inbox_listing v c) j p)) ws) (h.frame.inboxes c) (row_member (inbox_listing v c) j p m)))
+          (λ m. apart c q _ (subst (λ ws. Member (as_waiting (get_or (inbox_listing v c) j p)) ws) (h.frame.inboxes c)
+          (row_member (inbox_listing v c) j p m)))
 
   gone : (s : Slot) → times s (list_named new (BatchOf (front_of st b))) ≡ 0
   gone s = rows_none s (front_of st b) (set v.inboxes b rest) left_apart
@@ -176,7 +183,8 @@ module _ (v : Listing) (st : State) (count : Slot → ℕ) (b : ℕ) (w : BatchL
   buffers_counted = subst (λ (p : BatchListing). All (Counted st count) p.buffers) first_is (h.posted b 0 w nonempty)
 
   buffers_placed : All (λ (e : Entry). named_of st e.slot ≡ Some (BatchOf w.number)) w.buffers
-  buffers_placed = subst (λ (p : BatchListing). All (λ (e : Entry). named_of st e.slot ≡ Some (BatchOf p.number)) p.buffers) first_is (posted_place v st count h b 0 w nonempty)
+  buffers_placed = subst (λ (p : BatchListing). All (λ (e : Entry). named_of st e.slot ≡ Some (BatchOf p.number)) p.buffers) first_is
+      (posted_place v st count h b 0 w nonempty)
 
   owners : All (λ (e : Entry). e.owner ≡ owner_of st e.slot) w.buffers
   owners = λ k e m. (buffers_counted k e m).0
@@ -196,8 +204,10 @@ module _ (v : Listing) (st : State) (count : Slot → ℕ) (b : ℕ) (w : BatchL
   cache_times s =
       let x = ap (λ (p : DeskListing). times s (slots_seen p.cache)) (desk_here v b d l) in
       let y = seen_permuted s _ d.cache f.cache in
-      let z = ap (times s) (map-append (λ (e : Entry). e.slot) (map passed_on (filter (λ (e : Entry). not (e.owner == b)) w.buffers)) (desk_listing v b).cache)
-      ∙ count_append (same_slot s) (slots_seen (map passed_on (filter (λ (e : Entry). not (e.owner == b)) w.buffers))) (slots_seen (desk_listing v b).cache) in
+      let z = ap (times s) (map-append (λ (e : Entry). e.slot) (map passed_on (filter (λ (e : Entry). not (e.owner == b)) w.buffers))
+      (desk_listing v b).cache)
+      ∙ count_append (same_slot s) (slots_seen (map passed_on (filter (λ (e : Entry). not (e.owner == b)) w.buffers)))
+      (slots_seen (desk_listing v b).cache) in
       let t = ap (times s) (slots_passed (filter (λ (e : Entry). not (e.owner == b)) w.buffers)) in
       let u = part_times st (λ o. not (o == b)) s w.buffers owners
       ∙ (turned (owner_of st s == b) (times s (slots_seen w.buffers)) ∙ ap (λ n. cond (owner_of st s == b) 0 n) (sym (batch_is s))) in
@@ -215,14 +225,18 @@ module _ (v : Listing) (st : State) (count : Slot → ℕ) (b : ℕ) (w : BatchL
     stay = λ k s x y z. stays k s x y z;
   }
     where
-      stays : (k : Named) (s : Slot) → same_list k (HomeOf b) ≡ false → same_list k (CacheOf b) ≡ false → same_list k (BatchOf (front_of st b)) ≡ false →
+      stays : (k : Named) (s : Slot) → same_list k (HomeOf b) ≡ false → same_list k (CacheOf b) ≡ false →
+          same_list k (BatchOf (front_of st b)) ≡ false →
           times s (list_named new k) ≡ times s (list_named v k)
-      stays (HomeOf c) s x y z = ap (λ (p : DeskListing). times s (slots_seen p.home)) (desk_other v b c d (ne_eqb b c (λ q. eqb-false c b x (sym q))))
+      stays (HomeOf c) s x y z = ap (λ (p : DeskListing). times s (slots_seen p.home))
+          (desk_other v b c d (ne_eqb b c (λ q. eqb-false c b x (sym q))))
       stays Loans s x y z = refl
-      stays (CacheOf c) s x y z = ap (λ (p : DeskListing). times s (slots_seen p.cache)) (desk_other v b c d (ne_eqb b c (λ q. eqb-false c b y (sym q))))
+      stays (CacheOf c) s x y z = ap (λ (p : DeskListing). times s (slots_seen p.cache))
+          (desk_other v b c d (ne_eqb b c (λ q. eqb-false c b y (sym q))))
       stays (BatchOf m) s x y z =
           let p = popped s m w rest v.inboxes b bl f.front in
-          let q : times s (if_numbered m w) ≡ 0 = ap (λ (b : Bool). times s (if b then slots_seen w.buffers else [])) (ap (λ n. m == n) (sym number_is) ∙ z) in
+          let q : times s (if_numbered m w) ≡ 0 = ap (λ (b : Bool). times s (if b then slots_seen w.buffers else []))
+          (ap (λ n. m == n) (sym number_is) ∙ z) in
           omega (arith, p, q)
 
   -- ---- labels
@@ -231,15 +245,18 @@ module _ (v : Listing) (st : State) (count : Slot → ℕ) (b : ℕ) (w : BatchL
   kept m s e g = ap (λ (x : Bool). if x && not (owner_of st s == b) then suc (count s) else count s)
       (sym (posted_is (front_of st b) (owner_of st s) (st.place s) ∙ (ap (is_list (BatchOf (front_of st b))) e ∙ g)))
 
-  relabel : (m : Named) → same_list (BatchOf (front_of st b)) m ≡ false → (e : Entry) → named_of st e.slot ≡ Some m → Counted st count e → Counted next risen e
+  relabel : (m : Named) → same_list (BatchOf (front_of st b)) m ≡ false → (e : Entry) → named_of st e.slot ≡ Some m → Counted st count e →
+      Counted next risen e
   relabel m g e p c = (c.0, c.1, c.2 ∙ kept m e.slot p g)
 
-  on_label : (e : Entry) → named_of st e.slot ≡ Some (BatchOf w.number) × Counted st count e → not (e.owner == b) ≡ true → Counted next risen (passed_on e)
+  on_label : (e : Entry) → named_of st e.slot ≡ Some (BatchOf w.number) × Counted st count e → not (e.owner == b) ≡ true →
+      Counted next risen (passed_on e)
   on_label e p t = (
     p.1.0,
     p.1.1,
-    ap suc p.1.2 ∙ ap₂ (λ (x y : Bool). if x && y then suc (count e.slot) else count e.slot)
-        (sym (posted_is (front_of st b) (owner_of st e.slot) (st.place e.slot) ∙ (ap (is_list (BatchOf (front_of st b))) p.0 ∙ eq-eqb (front_of st b) w.number number_is)))
+    (let c : e.forwards ≡ count e.slot = p.1.2 in omega (arith, c)) ∙ ap₂ (λ (x y : Bool). if x && y then suc (count e.slot) else count e.slot)
+        (sym (posted_is (front_of st b) (owner_of st e.slot) (st.place e.slot)
+        ∙ (ap (is_list (BatchOf (front_of st b))) p.0 ∙ eq-eqb (front_of st b) w.number number_is)))
         (sym (ap (λ o. not (o == b)) (sym p.1.0) ∙ t)),
   )
 
@@ -251,9 +268,11 @@ module _ (v : Listing) (st : State) (count : Slot → ℕ) (b : ℕ) (w : BatchL
   cache_labels = All-permutation (Counted next risen) _ d.cache f.cache
       (All-append (Counted next risen) (map passed_on (filter (λ (e : Entry). not (e.owner == b)) w.buffers)) (desk_listing v b).cache
       (All-map (Counted next risen) passed_on (filter (λ (e : Entry). not (e.owner == b)) w.buffers)
-      (All-both (λ (e : Entry). named_of st e.slot ≡ Some (BatchOf w.number) × Counted st count e) (λ (e : Entry). not (e.owner == b) ≡ true) (λ e. Counted next risen (passed_on e))
+      (All-both (λ (e : Entry). named_of st e.slot ≡ Some (BatchOf w.number) × Counted st count e) (λ (e : Entry). not (e.owner == b) ≡ true)
+      (λ e. Counted next risen (passed_on e))
       (filter (λ (e : Entry). not (e.owner == b)) w.buffers) on_label
-      (All-filter (λ (e : Entry). not (e.owner == b)) (λ (e : Entry). named_of st e.slot ≡ Some (BatchOf w.number) × Counted st count e) w.buffers (λ k e m. (buffers_placed k e m, buffers_counted k e m)))
+      (All-filter (λ (e : Entry). not (e.owner == b)) (λ (e : Entry). named_of st e.slot ≡ Some (BatchOf w.number) × Counted st count e) w.buffers
+      (λ k e m. (buffers_placed k e m, buffers_counted k e m)))
       (filter_passes (λ (e : Entry). not (e.owner == b)) w.buffers)))
       (old_cache b))
 
@@ -274,9 +293,11 @@ module _ (v : Listing) (st : State) (count : Slot → ℕ) (b : ℕ) (w : BatchL
   cached_at c false q = subst (λ (x : DeskListing). All (Counted next risen) x.cache) (sym (desk_other v b c d q)) (old_cache c)
 
   -- a batch that stays
-  posted_stays : (p : BatchListing) → (front_of st b == p.number) ≡ false → All (λ (e : Entry). named_of st e.slot ≡ Some (BatchOf p.number)) p.buffers → All (Counted st count) p.buffers →
+  posted_stays : (p : BatchListing) → (front_of st b == p.number) ≡ false →
+      All (λ (e : Entry). named_of st e.slot ≡ Some (BatchOf p.number)) p.buffers → All (Counted st count) p.buffers →
       All (Counted next risen) p.buffers
-  posted_stays p g x y = All-both (λ (e : Entry). named_of st e.slot ≡ Some (BatchOf p.number)) (Counted st count) (Counted next risen) p.buffers (relabel (BatchOf p.number) g) x y
+  posted_stays p g x y = All-both (λ (e : Entry). named_of st e.slot ≡ Some (BatchOf p.number)) (Counted st count) (Counted next risen) p.buffers
+      (relabel (BatchOf p.number) g) x y
 
   Both : BatchListing → Type 0
   Both p = All (λ (e : Entry). named_of st e.slot ≡ Some (BatchOf p.number)) p.buffers × All (Counted st count) p.buffers
@@ -301,7 +322,8 @@ module _ (v : Listing) (st : State) (count : Slot → ℕ) (b : ℕ) (w : BatchL
   waiting_at c true q = subst (λ z. map as_waiting (inbox_listing new z) ≡ inbox next z) (eqb-true b c q)
       (ap (map as_waiting) here
       ∙ (sym (filter_all (λ w. not (front_of st b == w.number)) (map as_waiting rest) (λ u m. ap not (behind u m)))
-      ∙ (ap (λ (x : Bool). cond (not x) (as_waiting w ∷ filter (λ w. not (front_of st b == w.number)) (map as_waiting rest)) (filter (λ w. not (front_of st b == w.number)) (map as_waiting rest)))
+      ∙ (ap (λ (x : Bool). cond (not x) (as_waiting w ∷ filter (λ w. not (front_of st b == w.number)) (map as_waiting rest))
+      (filter (λ w. not (front_of st b == w.number)) (map as_waiting rest)))
       (sym (eq-eqb (front_of st b) w.number number_is))
       ∙ (ap (filter (λ w. not (front_of st b == w.number))) (sym row_is)
       ∙ filter_swap (λ w. not (front_of st b == w.number)) (λ w. b == w.address) st.waiting))))
@@ -309,7 +331,8 @@ module _ (v : Listing) (st : State) (count : Slot → ℕ) (b : ℕ) (w : BatchL
       ∙ (sym (filter_all (λ w. not (front_of st b == w.number)) (inbox st c) (λ u m. ap not (apart c q u m)))
       ∙ filter_swap (λ w. not (front_of st b == w.number)) (λ w. c == w.address) st.waiting))
 
-  pub take_shown : refusal st (Take b) ≡ None → Shown (after_taking v b rest d) (after_take st b) (λ s. if is_posted (front_of st b) (st.place s) && not (owner_of st s == b) then suc (count s) else count s)
+  pub take_shown : refusal st (Take b) ≡ None → Shown (after_taking v b rest d) (after_take st b)
+      (λ s. if is_posted (front_of st b) (st.place s) && not (owner_of st s == b) then suc (count s) else count s)
   take_shown z = record {
     sound = take_step st count b h.sound z;
     frame = record {
@@ -331,16 +354,20 @@ module _ (v : Listing) (st : State) (count : Slot → ℕ) (b : ℕ) (w : BatchL
   }
 
   -- the numbers of a batch's slots, from its buffers
-  pub batch_length : (p : ℕ → Bool) → length (filter (λ (e : Entry). p e.owner) w.buffers) ≡ length (filter (λ s. p (owner_of st s)) (slots_of_batch st (front_of st b)))
+  pub batch_length : (p : ℕ → Bool) → length (filter (λ (e : Entry). p e.owner) w.buffers) ≡ length
+      (filter (λ s. p (owner_of st s)) (slots_of_batch st (front_of st b)))
   batch_length p =
-      sym (part_length st count (BatchOf (front_of st b)) p (λ s. is_posted (front_of st b) (st.place s) && p (owner_of st s)) w.buffers h.sound owners
+      sym (part_length st count (BatchOf (front_of st b)) p (λ s. is_posted (front_of st b) (st.place s) && p
+      (owner_of st s)) w.buffers h.sound owners
       (λ s. sym (batch_is s) ∙ h.in_place (BatchOf (front_of st b)) s)
       (λ s. ap (λ x. x && p (owner_of st s)) (posted_is (front_of st b) (owner_of st s) (st.place s))))
       ∙ ap length (sym (filter_twice (λ s. p (owner_of st s)) (λ s. is_posted (front_of st b) (st.place s)) (slots st)))
 
 -- an accepted take
-pub take_applies : (v : Listing) (b : ℕ) (w : BatchListing) (rest : List BatchListing) (d : DeskListing) → refusal_seen v (Take b) ≡ None → TakeEdits v b w rest d →
-    Applies v (Take b) (Ok (Counts (length (filter (λ (e : Entry). e.owner == b) w.buffers)) (length (filter (λ (e : Entry). not (e.owner == b)) w.buffers)))) (after_taking v b rest d)
+pub take_applies : (v : Listing) (b : ℕ) (w : BatchListing) (rest : List BatchListing) (d : DeskListing) → refusal_seen v (Take b) ≡ None →
+    TakeEdits v b w rest d →
+    Applies v (Take b) (Ok (Counts (length (filter (λ (e : Entry). e.owner == b) w.buffers))
+    (length (filter (λ (e : Entry). not (e.owner == b)) w.buffers)))) (after_taking v b rest d)
 take_applies v b w rest d z f st count h =
     let l = leb-false (length v.desks) b (none_holds _ _ _ z).0 in
     let n = refusal_agrees v st count h (Take b) ∙ z in (

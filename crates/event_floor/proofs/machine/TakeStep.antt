@@ -13,13 +13,15 @@ pub record TakeMoves (before after : Named → Slot → ℕ) (n b : ℕ) (own : 
   pub home : (s : Slot) → after (HomeOf b) s ≡ before (HomeOf b) s + cond (own s) (before (BatchOf n) s) 0
   pub cache : (s : Slot) → after (CacheOf b) s ≡ before (CacheOf b) s + cond (own s) 0 (before (BatchOf n) s)
   pub gone : (s : Slot) → after (BatchOf n) s ≡ 0
-  pub stay : (k : Named) (s : Slot) → same_list k (HomeOf b) ≡ false → same_list k (CacheOf b) ≡ false → same_list k (BatchOf n) ≡ false → after k s ≡ before k s
+  pub stay : (k : Named) (s : Slot) → same_list k (HomeOf b) ≡ false → same_list k (CacheOf b) ≡ false → same_list k (BatchOf n) ≡ false →
+      after k s ≡ before k s
 
 module _ (before after : Named → Slot → ℕ) (n b : ℕ) (own : Slot → Bool) (name : Slot → Option Named)
     (h : TakeMoves before after n b own) (shows : (k : Named) (s : Slot) → before k s ≡ one_if (is_list k (name s))) where
   -- when its own slots are home, and the others still in the batch
   abbrev mid : Named → Slot → ℕ
-  mid k s = if same_list k (HomeOf b) then after (HomeOf b) s else (if same_list k (BatchOf n) then cond (own s) 0 (before (BatchOf n) s) else before k s)
+  mid k s = if same_list k (HomeOf b) then after (HomeOf b) s else (if same_list k (BatchOf n) then cond (own s) 0
+      (before (BatchOf n) s) else before k s)
 
   abbrev middle_name : Slot → Option Named
   middle_name s = if own s && is_list (BatchOf n) (name s) then Some (HomeOf b) else name s
@@ -52,7 +54,8 @@ module _ (before after : Named → Slot → ℕ) (n b : ℕ) (own : Slot → Boo
     stay = λ k s e f. kept k s e f (same_list k (HomeOf b)) refl;
   }
     where
-      kept : (k : Named) (s : Slot) → same_list k (BatchOf n) ≡ false → same_list k (CacheOf b) ≡ false → (x : Bool) → same_list k (HomeOf b) ≡ x → after k s ≡ mid k s
+      kept : (k : Named) (s : Slot) → same_list k (BatchOf n) ≡ false → same_list k (CacheOf b) ≡ false → (x : Bool) → same_list k (HomeOf b) ≡ x →
+          after k s ≡ mid k s
       kept k s e f true q = subst (λ z. after z s ≡ mid z s) (sym (same_list_eq k (HomeOf b) q)) (sym (mid_home s))
       kept k s e f false q = h.stay k s q f e ∙ sym (mid_other k s q e)
 
@@ -63,32 +66,39 @@ module _ (before after : Named → Slot → ℕ) (n b : ℕ) (own : Slot → Boo
 -- the names after a take
 take_named : (st : State) (b : ℕ) (s : Slot) →
     named_of (after_take st b) s
-    ≡ (if is_list (BatchOf (front_of st b)) (if (owner_of st s == b) && is_list (BatchOf (front_of st b)) (named_of st s) then Some (HomeOf b) else named_of st s)
+    ≡ (if is_list (BatchOf (front_of st b)) (if (owner_of st s == b) && is_list (BatchOf (front_of st b)) (named_of st s) then Some
+    (HomeOf b) else named_of st s)
     then Some (CacheOf b) else (if (owner_of st s == b) && is_list (BatchOf (front_of st b)) (named_of st s) then Some (HomeOf b) else named_of st s))
 take_named st b s = go (st.place s) (owner_of st s == b) refl
   where
     batch : (m : ℕ) (x : Bool) → (front_of st b == m) ≡ x → (y : Bool) → (owner_of st s == b) ≡ y →
         Some (named (owner_of st s) (if x then (if y then AtHome else InCache b) else InBatch m))
-        ≡ (if is_list (BatchOf (front_of st b)) (if y && x then Some (HomeOf b) else Some (BatchOf m)) then Some (CacheOf b) else (if y && x then Some (HomeOf b) else Some (BatchOf m)))
+        ≡ (if is_list (BatchOf (front_of st b)) (if y && x then Some (HomeOf b) else Some (BatchOf m)) then Some (CacheOf b) else
+        (if y && x then Some (HomeOf b) else Some (BatchOf m)))
     batch m true e true q = ap (λ o. Some (HomeOf o)) (eqb-true (owner_of st s) b q)
     batch m true e false q = ap (λ (x : Bool). if x then Some (CacheOf b) else Some (BatchOf m)) (sym e)
     batch m false e true q = ap (λ (x : Bool). if x then Some (CacheOf b) else Some (BatchOf m)) (sym e)
     batch m false e false q = ap (λ (x : Bool). if x then Some (CacheOf b) else Some (BatchOf m)) (sym e)
 
     other : (o : Option Named) → is_list (BatchOf (front_of st b)) o ≡ false → (y : Bool) →
-        o ≡ (if is_list (BatchOf (front_of st b)) (if y && is_list (BatchOf (front_of st b)) o then Some (HomeOf b) else o) then Some (CacheOf b) else (if y && is_list (BatchOf (front_of st b)) o then Some (HomeOf b) else o))
+        o ≡ (if is_list (BatchOf (front_of st b)) (if y && is_list (BatchOf (front_of st b)) o then Some (HomeOf b) else o) then Some
+        (CacheOf b) else (if y && is_list (BatchOf (front_of st b)) o then Some (HomeOf b) else o))
     other o e y = go y (is_list (BatchOf (front_of st b)) o) e refl
       where
         go : (y x : Bool) → x ≡ false → is_list (BatchOf (front_of st b)) o ≡ x →
-            o ≡ (if is_list (BatchOf (front_of st b)) (if y && x then Some (HomeOf b) else o) then Some (CacheOf b) else (if y && x then Some (HomeOf b) else o))
+            o ≡ (if is_list (BatchOf (front_of st b)) (if y && x then Some (HomeOf b) else o) then Some (CacheOf b) else
+            (if y && x then Some (HomeOf b) else o))
         go y true e q = absurd (true≢false e)
         go true false e q = ap (λ (x : Bool). if x then Some (CacheOf b) else o) (sym q)
         go false false e q = ap (λ (x : Bool). if x then Some (CacheOf b) else o) (sym q)
 
     go : (p : Option Place) (y : Bool) → (owner_of st s == b) ≡ y →
-        option_map (named (owner_of st s)) (option_map (λ old. if is_posted (front_of st b) (Some old) then (if y then AtHome else InCache b) else old) p)
-        ≡ (if is_list (BatchOf (front_of st b)) (if y && is_list (BatchOf (front_of st b)) (option_map (named (owner_of st s)) p) then Some (HomeOf b) else option_map (named (owner_of st s)) p)
-        then Some (CacheOf b) else (if y && is_list (BatchOf (front_of st b)) (option_map (named (owner_of st s)) p) then Some (HomeOf b) else option_map (named (owner_of st s)) p))
+        option_map (named (owner_of st s)) (option_map (λ old. if is_posted (front_of st b) (Some old) then
+        (if y then AtHome else InCache b) else old) p)
+        ≡ (if is_list (BatchOf (front_of st b)) (if y && is_list (BatchOf (front_of st b)) (option_map (named (owner_of st s)) p) then Some
+        (HomeOf b) else option_map (named (owner_of st s)) p)
+        then Some (CacheOf b) else (if y && is_list (BatchOf (front_of st b)) (option_map (named (owner_of st s)) p) then Some
+        (HomeOf b) else option_map (named (owner_of st s)) p))
     go None y q = other None refl y
     go (Some AtHome) y q = other (Some (HomeOf (owner_of st s))) refl y
     go (Some OnLoan) y q = other (Some Loans) refl y

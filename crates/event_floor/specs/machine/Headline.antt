@@ -6,7 +6,7 @@ use Rattle.event_floor.specs.machine.Slots.{ExactlyOnce}
 use Rattle.event_floor.specs.machine.State.{State, Place, InCache, InBatch, digits_of}
 use Rattle.event_floor.specs.machine.Steps.{Answer, Step, Run}
 use Rattle.event_floor.specs.machine.Forwards.{counted, forwards}
-use Rattle.event_floor.specs.machine.Listing.{Listing, DeskListing, BatchListing, desk_listing, inbox_listing, slots_seen, Counted, ShowsFrame, InPlace, Shown}
+use Rattle.event_floor.specs.machine.Listing.{Listing, DeskListing, BatchListing, desk_listing, inbox_listing, slots_seen, Labelled, Counted, ShowsFrame, InPlace, Shown}
 
 -- one request is one step of the machine, from each state that the floor shows to one that it shows afterwards
 abbrev pub Applies : Listing → Request → Answer → Listing → Type 0
@@ -40,17 +40,25 @@ is_kept _ = false
 abbrev pub start_count : State → (Slot → ℕ) → Slot → ℕ
 start_count st count s = if is_kept (st.place s) then count s else 0
 
--- after the run, each slot of a drawn chunk is once in the floor's lists, in the list that the machine names,
--- and was passed on fewer times since it was last freed than an owner's number has digits
+-- how often it was passed on since it was last freed, once the run is over
+abbrev pub count_after : State → (Slot → ℕ) → List Request → List Answer → Slot → ℕ
+count_after st count requests answers s = forwards st requests answers s (start_count st count s)
+
+-- The answers are a run. After it each slot of a drawn chunk is once in the floor's lists joined, in the list that the machine names;
+-- each buffer has the owner and the class of its slot, and in a cache or a batch it carries how often it was passed on, which is less
+-- often than the number of a desk has digits.
 pub record HeadlineAt (st : State) (count : Slot → ℕ) (requests : List Request) (answers : List Answer) (new : Listing) (end : State) : Type 0 where
   pub run : Run st requests answers end
   pub frame : ShowsFrame new end
   pub once : ExactlyOnce (joined new) end.drawn
   pub in_place : InPlace new end
-  pub carried : (a : ℕ) → All (Counted end (λ s. forwards st requests answers s (start_count st count s))) (desk_listing new a).cache
-  pub carried_in_batches : (b : ℕ) → All (λ (w : BatchListing). All (Counted end (λ s. forwards st requests answers s (start_count st count s))) w.buffers) (inbox_listing new b)
-  pub few : (s : Slot) → forwards st requests answers s (start_count st count s) < digits_of end
+  pub homes : (a : ℕ) → All (Labelled end) (desk_listing new a).home
+  pub lent : All (Labelled end) new.lent
+  pub cached : (a : ℕ) → All (Counted end (count_after st count requests answers)) (desk_listing new a).cache
+  pub posted : (b : ℕ) → All (λ (w : BatchListing). All (Counted end (count_after st count requests answers)) w.buffers) (inbox_listing new b)
+  pub few : (s : Slot) → count_after st count requests answers s < digits_of end
 
+-- so it is from each state that the floor shows before
 abbrev pub Headline : Listing → List Request → List Answer → Listing → Type 0
 Headline old requests answers new = (st : State) (count : Slot → ℕ) → Shown old st count →
     (end : State) × HeadlineAt st count requests answers new end

@@ -46,6 +46,11 @@ pub record HasSameNumbers (old new : State) : Type 0 where
 abbrev pub RunsKeepNumbers : Type 0
 RunsKeepNumbers = (requests : List Request) (answers : List Answer) (old new : State) → Run old requests answers new → HasSameNumbers old new
 
+-- requests and answers fix the state that they lead to
+abbrev pub AnswersFixTheState : Type 0
+AnswersFixTheState = (requests : List Request) (answers : List Answer) (old new new' : State)
+    → Run old requests answers new → Run old requests answers new' → new ≡ new'
+
 -- every request has an answer, in every state
 abbrev pub RequestsAreAnswered : Type 0
 RequestsAreAnswered = (st : State) (request : Request) → (answer : Answer) × Answers st request answer

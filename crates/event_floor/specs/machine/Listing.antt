@@ -39,10 +39,11 @@ pub record Listing : Type 0 where
   pub inboxes : List (List BatchListing)
   pub next : ℕ
 
--- the desk of a number, and its inbox
+-- an idle desk with nothing at home
 abbrev pub empty_desk : DeskListing
 empty_desk = record { worker = None; home = []; cache = [] }
 
+-- the desk of a number, and its inbox
 abbrev pub desk_listing : Listing → ℕ → DeskListing
 desk_listing v a = slice_index_or v.desks a empty_desk
 
@@ -62,6 +63,7 @@ pub data Named : Type 0 where
   CacheOf : (desk : ℕ) → Named
   BatchOf : (number : ℕ) → Named
 
+-- the two are the same list
 abbrev pub same_list : Named → Named → Bool
 same_list (HomeOf a) (HomeOf b) = a == b
 same_list Loans Loans = true
@@ -80,6 +82,7 @@ named owner (InBatch n) = BatchOf n
 abbrev pub named_of : State → Slot → Option Named
 named_of st s = option_map (named (owner_of st s)) (st.place s)
 
+-- l is the list that is named, where one is
 abbrev pub is_list : Named → Option Named → Bool
 is_list l None = false
 is_list l (Some m) = same_list l m
@@ -88,9 +91,11 @@ is_list l (Some m) = same_list l m
 abbrev pub slots_seen : List Entry → List Slot
 slots_seen xs = map (λ (e : Entry). e.slot) xs
 
+-- the slots of a batch, where it has the number n
 abbrev pub if_numbered : ℕ → BatchListing → List Slot
 if_numbered n w = if n == w.number then slots_seen w.buffers else []
 
+-- the slots of the list of this name
 abbrev pub list_named : Listing → Named → List Slot
 list_named v (HomeOf a) = slots_seen (desk_listing v a).home
 list_named v Loans = slots_seen v.lent

@@ -40,11 +40,12 @@ abbrev pub move_batch : State → ℕ → ℕ → Slot → Place → Place
 move_batch st b n s old =
     if is_posted n (Some old) then (if owner_of st s == b then AtHome else InCache b) else old
 
--- the number of the front of an inbox
+-- the number of the first batch
 abbrev pub front_number : List Waiting → ℕ
 front_number [] = 0
 front_number (w ∷ ws) = w.number
 
+-- the number of the front of the inbox of b
 abbrev pub front_of : State → ℕ → ℕ
 front_of st b = front_number (inbox st b)
 

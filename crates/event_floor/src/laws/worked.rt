@@ -9,7 +9,7 @@ ghost use Rattle.event_floor.specs.machine.Refusals.{slot_at};
 ghost use Rattle.event_floor.specs.machine.Worked.{pool, pool2, Gives, NeverGives};
 
 /// A pool of one desk: a slot is lent, freed by its owner, and at home again.
-pub fn home()
+pub fn lending()
     ensures answers { Gives (pool 1 1 2) (
         (Adopt 0 5, Ok Done) ∷ (Claim 0 0, Ok (Chunk 0)) ∷ (Alloc 0 16, Ok (Lent (slot_at (0, 0)))) ∷
         (Free 0 (0, 0), Ok Home) ∷ []) }
@@ -110,7 +110,7 @@ pub fn adopting()
 {}
 
 /// Eight slots of 512 bytes fill a cache of 4,096 bytes, and the ninth makes it due.
-pub fn due()
+pub fn a_due_cache()
     ensures answers { Gives (pool 2 2 2) (
         (Adopt 0 0, Ok Done) ∷ (Adopt 1 1, Ok Done) ∷ (Claim 1 15, Ok (Chunk 0)) ∷ (Alloc 1 512, Ok (Lent (slot_at (0, 0)))) ∷
         (Alloc 1 512, Ok (Lent (slot_at (0, 1)))) ∷ (Alloc 1 512, Ok (Lent (slot_at (0, 2)))) ∷

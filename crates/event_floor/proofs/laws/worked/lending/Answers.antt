@@ -1,7 +1,7 @@
 use Rattle.digit_route.specs.Digits.{digit, count, common_up_to, common}
 use Rattle.event_floor.proofs.machine.Checks.{gives, never}
 use Rattle.std.proofs.Common.{refl}
-use Rattle.event_floor.proofs.laws.worked.due.Goals as goal
+use Rattle.event_floor.proofs.laws.worked.lending.Goals as goal
 
 pub returns-clause-answers : goal.returns-clause-answers
 unfolding digit count common_up_to common
