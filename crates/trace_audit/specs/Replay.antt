@@ -1,10 +1,10 @@
 -- What a replay reads, how it ends, and what it writes.
-use Rattle.std.specs.Prelude.{ℕ, ◌≡◌, ◌≢◌, ◌⊎◌, ◌+◌, ◌≤◌, List, [], ◌∷◌, ◌++◌, length, Option, Bool, true, false}
+use Rattle.std.specs.Prelude.{ℕ, ◌≡◌, ◌≢◌, ◌⊎◌, ◌+◌, ◌≤◌, List, [], ◌++◌, length, Option, Bool, true, false}
 use Rattle.std.specs.List.{flat_map, AllByRecursion}
 use Rattle.std.specs.Io.KnownBytes.{Appends, Consumes, IsAtEnd}
 use Rattle.event_floor.specs.Floors.{FloorSeen}
 use Rattle.event_floor.specs.declared.request.Request.{Request}
-use Rattle.trace_audit.specs.Grammar.{Lacks, spelling, IsRequest, header_text, IsHeader}
+use Rattle.trace_audit.specs.Grammar.{Lacks, IsRequest, IsHeader}
 use Rattle.event_floor.specs.Runs.{Runs}
 use Rattle.trace_audit.specs.Machine.{Answer, Opens, Tally, told}
 use Rattle.trace_audit.specs.Trace.{header_line, request_line, BeginsWithHeader, BeginsWithRequest, IsTrace}
