@@ -1,12 +1,12 @@
 -- The header line, and what follows it.
-use Rattle.std.proofs.Common.{◌≡◌, ◌⊎◌, inl, inr, ℕ, ◌≤◌, ◌<◌, List, [], ◌∷◌, ◌++◌, length, get_or, Option, Result, Ok, Err, IfOk, IfErr, refl, sym, ◌∙◌, ap, subst, arith, length-append, append_assoc, decimal, codes}
+use Rattle.std.proofs.Common.{◌≡◌, ◌⊎◌, inl, inr, ℕ, ◌≤◌, ◌<◌, List, [], ◌∷◌, ◌++◌, length, get_or, Option, Result, Ok, Err, IfOk, IfErr, refl, sym, ◌∙◌, ap, subst, arith, append_assoc, codes}
 use Rattle.std.proofs.Math.Seq.{get_or-append_seam}
 use Rattle.std.proofs.Math.ListN.{get_or-append}
 use Rattle.std.specs.Io.KnownBytes.{Appends, Consumes}
 use Rattle.std.proofs.lemmas.Fmt.{decimal_digit}
 use Rattle.std.proofs.KnownBytes.{Consumes-trans}
 use Rattle.event_floor.specs.Floors.{FloorSeen}
-use Rattle.trace_audit.specs.Grammar.{Lacks, pair, header_text, header_words, IsHeader}
+use Rattle.trace_audit.specs.Grammar.{Lacks, header_text, IsHeader}
 use Rattle.trace_audit.specs.Machine.{Tally, Opens, opening_of, told}
 use Rattle.trace_audit.proofs.Tallies.{MachineLaws, reached, told_is}
 use Rattle.trace_audit.specs.Report.{bad_line, no_memory_line}
@@ -19,8 +19,7 @@ use Rattle.trace_audit.specs.declared.replaying.ending.End.{End}
 use Rattle.trace_audit.specs.declared.replaying.ending.End.TheVariants.{NoRoom}
 use Rattle.trace_audit.specs.declared.replaying.ending.ReplayError.{ReplayError}
 use Rattle.trace_audit.specs.declared.replaying.ending.ReplayError.TheVariants.{Read, Write}
-use Rattle.trace_audit.proofs.Numbers.{decimal_lacks}
-use Rattle.trace_audit.proofs.Cuts.{cut_once, marked, lacks_tested, header_words_fit}
+use Rattle.trace_audit.proofs.Cuts.{cut_once, marked}
 use Rattle.trace_audit.proofs.Fronts.{header_lacks, header_short}
 
 pub header_bad_text : (bytes text held : List ℕ) (at_end : Type 0) → bytes ≡ text ++ 10 ∷ held → Lacks 10 text → ((h : Header) → IsHeader h → text ≡ header_text h → ⊥) → IsBadHeader bytes at_end

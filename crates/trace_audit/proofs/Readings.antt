@@ -3,7 +3,7 @@ use Rattle.std.proofs.Common.{◌≡◌, ◌≢◌, ◌⊎◌, inl, inr, ℕ, su
 use Rattle.std.specs.List.{flat_map, AllByRecursion}
 use Rattle.std.proofs.lemmas.Fmt.{decimal_injective}
 use Rattle.trace_audit.specs.Grammar.{IsWord, pair, verb_text, verb_of, words_of, spelling, IsRequest, header_text, header_words, IsHeader, profile_text}
-use Rattle.trace_audit.specs.Trace.{header_line, request_line, BeginsWithRequest, EndsTrace, IsTrace}
+use Rattle.trace_audit.specs.Trace.{header_line, request_line, BeginsWithRequest, EndsTrace}
 use Rattle.trace_audit.specs.Laws.{ReadInOneWay}
 use Rattle.trace_audit.specs.declared.replaying.ending.End.{End}
 use Rattle.trace_audit.specs.declared.replaying.ending.End.TheVariants.{Whole, BadLine, NoRoom}

@@ -1,5 +1,5 @@
 -- Where no chunk is drawn.
-use Rattle.std.proofs.Common.{ℕ, zero, suc, ◌≡◌, ◌≤◌, List, Option, None, length, replicate, get_or, refl, subst, sym, arith}
+use Rattle.std.proofs.Common.{ℕ, zero, suc, ◌≡◌, ◌≤◌, List, Option, None, length, replicate, refl, subst, sym, arith}
 use Rattle.trace_audit.specs.Audit.{class_at, slots_for}
 use Rattle.trace_audit.specs.Tallies.{FitsTable}
 

@@ -1,11 +1,11 @@
 -- What a replay reads, how it ends, and what it writes.
-use Rattle.std.specs.Prelude.{ℕ, ◌≡◌, ◌≢◌, ◌⊎◌, ◌+◌, ◌≤◌, List, [], ◌∷◌, ◌++◌, length, Option, Bool, true, false}
+use Rattle.std.specs.Prelude.{ℕ, ◌≡◌, ◌≢◌, ◌⊎◌, ◌+◌, ◌≤◌, List, [], ◌++◌, length, Option, Bool, true, false}
 use Rattle.std.specs.List.{flat_map, AllByRecursion}
 use Rattle.std.specs.Io.KnownBytes.{Appends, Consumes, IsAtEnd}
 use Rattle.event_floor.specs.machine.State.{State}
 use Rattle.event_floor.specs.machine.Steps.{Run}
 use Rattle.event_floor.specs.declared.request.Request.{Request}
-use Rattle.trace_audit.specs.Grammar.{Lacks, spelling, IsRequest, header_text, IsHeader}
+use Rattle.trace_audit.specs.Grammar.{Lacks, IsRequest, IsHeader}
 use Rattle.trace_audit.specs.Machine.{Answer, Tally, opening_of, told_of}
 use Rattle.trace_audit.specs.Trace.{header_line, request_line, BeginsWithHeader, BeginsWithRequest, IsTrace}
 use Rattle.trace_audit.specs.Report.{answer_line, bad_line, closing, no_memory_line}

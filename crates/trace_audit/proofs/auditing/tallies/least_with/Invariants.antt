@@ -1,4 +1,4 @@
-use Rattle.std.proofs.Common.{ℕ, ◌≡◌, ◌<◌, ◌+◌, ◌*◌}
+use Rattle.std.proofs.Common.{◌<◌, ◌+◌, ◌*◌}
 use Rattle.region_cut.specs.declared.slot.Slot.{Slot}
 use Rattle.trace_audit.specs.Tallies.{HasCount}
 use Rattle.trace_audit.proofs.auditing.tallies.least_with.Given as goal
