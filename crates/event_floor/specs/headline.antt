@@ -1,4 +1,5 @@
 pub mod Listing
 pub mod Whole
 pub mod Names
+pub mod Lying
 pub mod Headline
