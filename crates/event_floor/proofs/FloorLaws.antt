@@ -1,5 +1,5 @@
 -- A floor with another desk, another table, or another inbox, is a floor.
-use Rattle.std.proofs.Common.{◌≡◌, ◌≢◌, ℕ, zero, suc, ◌+◌, ◌*◌, ◌^◌, ◌<◌, ◌≤◌, Bool, List, [], ◌∷◌, ◌++◌, length, get_or, set, refl, sym, ap, ◌∙◌, subst, arith, All, ⊎_elim, eqb, true, false}
+use Rattle.std.proofs.Common.{◌≡◌, ◌≢◌, ℕ, zero, suc, ◌+◌, ◌*◌, ◌^◌, ◌<◌, ◌≤◌, Bool, List, [], ◌∷◌, ◌++◌, length, get_or, set, refl, sym, ◌∙◌, subst, arith, All, ⊎_elim, eqb, true, false}
 use Rattle.std.specs.Prelude.{Option, Some, None, IfSome, replicate, if◌then◌else◌, nat_lt}
 use Rattle.std.proofs.lemmas.Bool.Decides.{eqb_tells}
 use Rattle.std.proofs.lemmas.List.{get_or-set_same, get_or-set_other, length-set, length-append, length-replicate, get_or_append_left, get_or_read, get_or-replicate}
@@ -14,7 +14,7 @@ use Rattle.digit_route.specs.Profiles.{profile_of}
 use Rattle.pool_desk.specs.Desks.{DeskState, profile_at}
 use Rattle.event_floor.specs.declared.seat.Seat.{Seat}
 use Rattle.event_floor.specs.declared.seat.Seat.TheVariants.{Idle, Held}
-use Rattle.event_floor.specs.Seats.{new_desk, idle_seats, IsNumbered, HasPlace}
+use Rattle.event_floor.specs.Seats.{new_desk, idle_seats, HasPlace}
 use Rattle.event_floor.specs.Lent.{lent_at}
 use Rattle.event_floor.specs.Posted.{Posted, inbox_at}
 use Rattle.event_floor.specs.Floors.{AreOwned, IsKnown, IsSeated, IsPostedTo, IsFloorOf, IsFloor, no_desk, last_number}

@@ -1,14 +1,14 @@
 -- The batches that wait in an inbox.
-use Rattle.std.proofs.Common.{◌≡◌, ℕ, ◌+◌, ◌<◌, List, [], ◌∷◌, ◌++◌, length, get_or, set, refl, sym, ap, ◌∙◌, subst, arith, All}
+use Rattle.std.proofs.Common.{◌≡◌, ℕ, ◌<◌, List, [], ◌∷◌, get_or, sym, ◌∙◌, subst, arith, All}
 use Rattle.std.specs.Prelude.{Option}
 use Rattle.std.proofs.lemmas.List.Elements.{All-append, All-cons, All-nil}
 use Rattle.slot_chain.specs.Buffer.{Buffer}
 use Rattle.digit_route.specs.Digits.{Scheme}
-use Rattle.digit_route.specs.States.{BatchState, Gives}
+use Rattle.digit_route.specs.States.{BatchState}
 use Rattle.pool_desk.specs.Desks.{DeskState}
 use Rattle.event_floor.specs.declared.seat.Seat.{Seat}
 use Rattle.event_floor.specs.declared.seat.Seat.TheVariants.{Held}
-use Rattle.event_floor.specs.Posted.{Posted, SendsInto, LeavesFront, inbox_at, sent_as}
+use Rattle.event_floor.specs.Posted.{Posted, SendsInto, LeavesFront, sent_as}
 use Rattle.event_floor.specs.Floors.{IsKnown, IsSeated, IsPostedTo, IsFloorOf}
 use Rattle.event_floor.proofs.FloorLaws.{inbox_read}
 use Rattle.event_floor.proofs.SeatLaws.{batch_known, head_of, tail_of}

@@ -1,5 +1,5 @@
 -- A desk stays in its seat, whatever its calls do.
-use Rattle.std.proofs.Common.{◌≡◌, ℕ, zero, suc, ◌+◌, ◌<◌, ◌≤◌, Bool, true, false, List, [], ◌∷◌, ◌++◌, refl, sym, ap, ◌∙◌, subst, arith, All, drop, map, length, get_or, not, ◌==◌, ⊎_elim}
+use Rattle.std.proofs.Common.{◌≡◌, ℕ, zero, suc, ◌+◌, ◌<◌, ◌≤◌, Bool, true, false, List, [], ◌∷◌, ◌++◌, refl, sym, ap, ◌∙◌, subst, arith, All, drop, map, get_or, not, ◌==◌, ⊎_elim}
 use Rattle.std.specs.Prelude.{Ok, ◌&&◌, nat_le}
 use Rattle.std.specs.Borrow.{GName}
 use Rattle.std.proofs.lemmas.Bool.{leb-true}
@@ -20,7 +20,7 @@ use Rattle.pool_desk.specs.declared.freed.Freed.{Freed}
 use Rattle.pool_desk.specs.declared.freed.Freed.TheVariants.{Home, Cached, Due}
 use Rattle.event_floor.specs.declared.seat.Seat.{Seat}
 use Rattle.event_floor.specs.declared.seat.Seat.TheVariants.{Idle, Held}
-use Rattle.event_floor.specs.Seats.{IsNumbered, HasPlace, held_by, retired, adopted, home_of, cached_of, Releases}
+use Rattle.event_floor.specs.Seats.{IsNumbered, HasPlace, held_by, Releases}
 use Rattle.event_floor.specs.Floors.{IsKnown, IsSeated}
 
 -- a test holds of each number below n

@@ -1,8 +1,7 @@
 -- What the calls of the parts of a floor come to, in the words of its steps.
-use Rattle.std.proofs.Common.{◌≡◌, ℕ, ◌+◌, ◌<◌, ◌≤◌, List, [], ◌∷◌, ◌++◌, length, refl, sym, ap, ◌∙◌, subst, arith, set, get_or}
+use Rattle.std.proofs.Common.{◌≡◌, ℕ, ◌+◌, ◌<◌, ◌≤◌, List, [], ◌∷◌, ◌++◌, length, refl, sym, ◌∙◌, subst, set, get_or}
 use Rattle.std.specs.Prelude.{Option, Some, None}
 use Rattle.region_cut.specs.declared.part.Part.{Part}
-use Rattle.region_cut.specs.Classes.{classes_of}
 use Rattle.slot_chain.specs.Buffer.{Buffer}
 use Rattle.digit_route.specs.declared.error.RouteError.{RouteError}
 use Rattle.digit_route.specs.declared.error.RouteError.TheVariants.{ToSelf, NothingFor, NotAnOwner}
@@ -15,8 +14,8 @@ use Rattle.pool_desk.specs.declared.counts.Counts.{Counts}
 use Rattle.event_floor.specs.declared.seat.Seat.TheVariants.{Held}
 use Rattle.event_floor.specs.Chunks.{ChunksSeen}
 use Rattle.event_floor.specs.Seats.{IsNumbered}
-use Rattle.event_floor.specs.Posted.{Posted, SendsInto, LeavesFront, IsHalfAt, inbox_at, sent_as, as_linked, no_batch}
-use Rattle.event_floor.specs.Floors.{FloorSeen, IsHeld, with_desk, with_inbox, desk_count, last_number}
+use Rattle.event_floor.specs.Posted.{Posted, SendsInto, LeavesFront, IsHalfAt, inbox_at, as_linked, no_batch}
+use Rattle.event_floor.specs.Floors.{FloorSeen, IsHeld, with_desk, with_inbox, last_number}
 use Rattle.event_floor.specs.Steps.{Refuses, DrawsChunk, SendsBatch, LinksBatch, TakesFront, Routes, class_limit}
 use Rattle.event_floor.specs.Answers.{route_refusal}
 use Rattle.event_floor.specs.declared.request.Request.TheVariants.{Send}

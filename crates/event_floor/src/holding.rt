@@ -5,8 +5,8 @@ ghost use Rattle.event_floor.specs.Steps.{Does, Refuses};
 ghost use Rattle.event_floor.specs.declared.request.Request.TheVariants.{Adopt, Retire};
 
 use crate::inboxes::any_half_of;
-use crate::seat::{Seat, hold, release};
 use crate::lists::Lists;
+use crate::seat::{Seat, hold, release};
 use crate::{Refusal, Reply};
 
 impl<'r> Lists<'r> {

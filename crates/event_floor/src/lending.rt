@@ -6,8 +6,8 @@ ghost use Rattle.event_floor.specs.Floors.{desk_count};
 ghost use Rattle.event_floor.specs.Steps.{Does, Refuses};
 ghost use Rattle.event_floor.specs.declared.request.Request.TheVariants.{Claim, Alloc, Free};
 
-use crate::seat::Seat;
 use crate::lists::Lists;
+use crate::seat::Seat;
 use crate::{Refusal, Reply};
 use digit_route::Digits;
 use region_cut::Class;

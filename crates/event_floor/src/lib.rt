@@ -13,6 +13,7 @@ pub mod laws;
 mod lending;
 mod lent;
 mod lists;
+pub mod naming;
 mod refusal;
 mod reply;
 mod request;

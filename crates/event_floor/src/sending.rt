@@ -5,8 +5,8 @@ ghost use Rattle.event_floor.specs.Steps.{Does, Refuses};
 ghost use Rattle.event_floor.specs.declared.request.Request.TheVariants.{Send, Link, Take};
 
 use crate::inboxes::find_half;
-use crate::seat::Seat;
 use crate::lists::Lists;
+use crate::seat::Seat;
 use crate::{Refusal, Reply};
 
 /// The greatest number that a batch can have.

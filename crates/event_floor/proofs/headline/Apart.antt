@@ -1,6 +1,5 @@
 -- A slot at home is there once, and with no other desk.
-use Rattle.std.proofs.Common.{◌≡◌, ◌≢◌, ℕ, zero, suc, ◌+◌, ◌<◌, ◌≤◌, Bool, true, false, ◌==◌, cond, List, [], ◌∷◌, map, length, get_or, All, Option, Some, None, refl, sym, ap, ap₂, ◌∙◌, subst, arith, IsPermutation}
-use Rattle.std.specs.Prelude.{count_by}
+use Rattle.std.proofs.Common.{◌≡◌, ◌≢◌, ℕ, ◌+◌, ◌<◌, Bool, true, false, cond, List, [], ◌∷◌, map, All, Option, Some, None, refl, sym, ap, ap₂, ◌∙◌, subst, arith, IsPermutation}
 use Rattle.std.proofs.lemmas.Bool.{true≢false}
 use Rattle.std.proofs.lemmas.List.{get_or-map, length-map}
 use Rattle.std.proofs.lemmas.List.Sorted.{IsPermutation-map, sum_by-IsPermutation}
@@ -13,11 +12,11 @@ use Rattle.event_floor.specs.Seats.{home_of}
 use Rattle.event_floor.specs.Floors.{FloorSeen, desk_at, IsHeld}
 use Rattle.event_floor.specs.machine.Slots.{same_slot, times, one_if}
 use Rattle.event_floor.specs.machine.State.{State}
-use Rattle.event_floor.specs.machine.Listing.{Entry, DeskListing, Listing, Named, HomeOf, Loans, CacheOf, BatchOf, named_of, is_list, slots_seen, desk_listing, Shown}
+use Rattle.event_floor.specs.machine.Listing.{DeskListing, Named, HomeOf, Loans, CacheOf, BatchOf, named_of, is_list, slots_seen, Shown}
 use Rattle.event_floor.specs.headline.Listing.{entry_at, desk_of, listing_of}
 use Rattle.event_floor.proofs.machine.Basics.{same_slot_self}
 use Rattle.event_floor.proofs.machine.Enumerate.{count_cons}
-use Rattle.event_floor.proofs.headline.Taken.{count_zero, same_eqb, other_eqb, eqb_is}
+use Rattle.event_floor.proofs.headline.Taken.{count_zero, other_eqb, eqb_is}
 use Rattle.event_floor.proofs.headline.Views.{desk_seen, slot_seen}
 
 entry_slots : (n : ℕ) (home : List AtHome) → slots_seen (map (entry_at n) home) ≡ map slot_at home

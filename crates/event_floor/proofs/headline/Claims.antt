@@ -1,22 +1,18 @@
 -- Chunks that are drawn.
-use Rattle.std.proofs.Common.{◌≡◌, ℕ, zero, suc, ◌+◌, ◌-◌, ◌<◌, ◌≤◌, List, [], ◌∷◌, ◌++◌, map, length, get_or, set, take, drop, Option, Some, None, Ok, refl, sym, ap, ap₂, ◌∙◌, subst, arith, IsPermutation, length-append}
-use Rattle.std.specs.Prelude.{replicate}
+use Rattle.std.proofs.Common.{◌≡◌, ℕ, zero, suc, ◌+◌, ◌<◌, List, [], ◌∷◌, ◌++◌, map, length, drop, Some, Ok, refl, sym, ap, ◌∙◌, subst, IsPermutation}
 use Rattle.std.specs.Borrow.{GName}
 use Rattle.std.specs.List.{range_with_len}
-use Rattle.std.proofs.lemmas.List.{length-map, length-replicate, map-append, length_push}
+use Rattle.std.proofs.lemmas.List.{map-append}
 use Rattle.std.proofs.lemmas.List.Sorted.{IsPermutation-map}
-use Rattle.region_cut.specs.declared.part.Part.{Part}
 use Rattle.region_cut.specs.Classes.{slots_of, size_of}
-use Rattle.pool_desk.specs.Homes.{AtHome, unused_from}
+use Rattle.pool_desk.specs.Homes.{unused_from}
 use Rattle.pool_desk.specs.Desks.{DeskState}
-use Rattle.event_floor.specs.declared.chunks.Drawn.{Drawn}
 use Rattle.event_floor.specs.declared.seat.Seat.TheVariants.{Held as HeldSeat}
-use Rattle.event_floor.specs.declared.request.Request.{Request}
 use Rattle.event_floor.specs.declared.request.Request.TheVariants.{Claim}
 use Rattle.event_floor.specs.declared.reply.Reply.TheVariants.{Chunk}
-use Rattle.event_floor.specs.Floors.{FloorSeen, with_desk, IsHeld}
+use Rattle.event_floor.specs.Floors.{FloorSeen}
 use Rattle.event_floor.specs.Steps.{DrawsChunk}
-use Rattle.event_floor.specs.machine.Listing.{Entry, DeskListing, Listing, desk_listing}
+use Rattle.event_floor.specs.machine.Listing.{DeskListing}
 use Rattle.event_floor.specs.machine.Headline.{Applies}
 use Rattle.event_floor.specs.headline.Listing.{entry_of, entry_at, desk_of, listing_of}
 use Rattle.event_floor.specs.headline.Whole.{IsWhole}
@@ -43,12 +39,12 @@ claim_done v w a c k f s =
     let number' : d'.number ≡ a = ap (λ (x : DeskState). x.number) s.claims.same ∙ number in
     let left : length v.drawn < v.chunks = subst (λ n. n < v.chunks) s.is_next s.undrawn in
     let slots : IsPermutation (unused_from k c s.part.bytes.ghost_name (slots_of c) 0 s.part.bytes.now ++ d.home) d'.home =
-            subst (λ n. IsPermutation (unused_from n c s.part.bytes.ghost_name (slots_of c) 0 s.part.bytes.now ++ d.home) d'.home) s.is_part s.claims.home in
+    subst (λ n. IsPermutation (unused_from n c s.part.bytes.ghost_name (slots_of c) 0 s.part.bytes.now ++ d.home) d'.home) s.is_part s.claims.home in
     let home : IsPermutation (chunk_buffers k a c ++ map (entry_at a) d.home) (map (entry_at a) d'.home) =
-            subst (λ xs. IsPermutation xs (map (entry_at a) d'.home))
-            (map-append (entry_at a) (unused_from k c s.part.bytes.ghost_name (slots_of c) 0 s.part.bytes.now) d.home
-            ∙ ap (λ xs. xs ++ map (entry_at a) d.home) (unused_seen a k c s.part.bytes.ghost_name (slots_of c) 0 s.part.bytes.now))
-            (IsPermutation-map (entry_at a) _ _ slots) in
+    subst (λ xs. IsPermutation xs (map (entry_at a) d'.home))
+    (map-append (entry_at a) (unused_from k c s.part.bytes.ghost_name (slots_of c) 0 s.part.bytes.now) d.home
+    ∙ ap (λ xs. xs ++ map (entry_at a) d.home) (unused_seen a k c s.part.bytes.ghost_name (slots_of c) 0 s.part.bytes.now))
+    (IsPermutation-map (entry_at a) _ _ slots) in
     let edits : ClaimEdits l a c k new = record {
       next = s.is_next;
       undrawn = left;
@@ -58,7 +54,7 @@ claim_done v w a c k f s =
       cache = ap (λ (x : DeskState). map entry_of x.cached) s.claims.same ∙ ap (λ (z : DeskListing). z.cache) (sym seen);
     } in
     let shown : listing_of w ≡ after_claim l a c k new =
-            ap listing_of s.same
-            ∙ ap (λ xs. record l { desks = xs; drawn = v.drawn ++ record { owner = a; class = c } ∷ [] }) (with_seat_seen v a (HeldSeat d')) in
+    ap listing_of s.same
+    ∙ ap (λ xs. record l { desks = xs; drawn = v.drawn ++ record { owner = a; class = c } ∷ [] }) (with_seat_seen v a (HeldSeat d')) in
     subst (λ z. Applies l (Claim a c) (Ok (Chunk k)) z) (sym shown)
     (claim_applies l a c k new (claim_accepted v a c d s.held s.is_class s.claims.needed left) edits)

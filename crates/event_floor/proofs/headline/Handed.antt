@@ -1,9 +1,6 @@
 -- Names of slots that are handed out.
-use Rattle.std.proofs.Common.{◌≡◌, ◌≢◌, ℕ, zero, suc, ◌+◌, ◌<◌, ◌≤◌, Bool, true, false, ◌==◌, cond, List, [], ◌∷◌, ◌++◌, length, get_or, set, All, Option, Some, None, refl, sym, ap, ap₂, ◌∙◌, subst, arith, ⊎_elim, IsPermutation}
-use Rattle.std.specs.Prelude.{IfSome, count_by}
-use Rattle.std.specs.Borrow.{GName}
+use Rattle.std.proofs.Common.{◌≡◌, ◌≢◌, ℕ, ◌+◌, ◌<◌, ◌≤◌, Bool, true, false, ◌==◌, cond, List, [], ◌∷◌, ◌++◌, length, get_or, set, All, Option, Some, None, refl, sym, ap, ◌∙◌, subst, arith, ⊎_elim, IsPermutation}
 use Rattle.std.specs.List.{slice_get}
-use Rattle.std.proofs.lemmas.Bool.{true≢false}
 use Rattle.std.proofs.lemmas.Bool.Decides.{eqb_tells}
 use Rattle.std.proofs.lemmas.List.{length-set, length_push, get_or-set_same, get_or-set_other}
 use Rattle.std.proofs.lemmas.List.Elements.{All-cons, All-head, All-tail}
@@ -15,19 +12,18 @@ use Rattle.pool_desk.specs.Homes.{AtHome, Unused, slot_at, Gives, Names, TakesNe
 use Rattle.pool_desk.specs.Homes.AtHome.{Kept, Fresh}
 use Rattle.pool_desk.specs.Desks.{DeskState}
 use Rattle.event_floor.specs.declared.chunks.Drawn.{Drawn}
-use Rattle.event_floor.specs.declared.seat.Seat.{Seat}
 use Rattle.event_floor.specs.declared.seat.Seat.TheVariants.{Held}
 use Rattle.event_floor.specs.Chunks.{class_drawn}
 use Rattle.event_floor.specs.Lent.{place_of}
 use Rattle.event_floor.specs.Posted.{Posted, inbox_at}
 use Rattle.event_floor.specs.Seats.{home_of, cached_of}
-use Rattle.event_floor.specs.Floors.{FloorSeen, desk_at, desk_count, no_desk, IsHeld}
+use Rattle.event_floor.specs.Floors.{FloorSeen, desk_at, no_desk}
 use Rattle.event_floor.specs.Steps.{LendsSlot}
 use Rattle.event_floor.specs.machine.Slots.{one_if}
 use Rattle.event_floor.specs.machine.State.{State}
 use Rattle.event_floor.specs.machine.Listing.{Shown}
 use Rattle.event_floor.specs.headline.Listing.{listing_of}
-use Rattle.event_floor.specs.headline.Names.{HasName, HasNoName, IsNamedHome, IsNamedDesk, AreNames, IsNamed, chunks_of, drew, is_drawn_for}
+use Rattle.event_floor.specs.headline.Names.{HasName, HasNoName, IsNamedHome, IsNamedDesk, AreNames, chunks_of, drew, is_drawn_for}
 use Rattle.event_floor.proofs.machine.Enumerate.{count_cons}
 use Rattle.event_floor.proofs.headline.Named.{held_named, changed_named, desk_named, each_place}
 use Rattle.event_floor.proofs.headline.Taken.{get_pushed, get_last, get_set_same, get_set_other, some_is, count_zero, All-to, some_to, same_eqb, other_eqb, eqb_is, eqb_same, chunk_count, chunk_permuted}
@@ -84,34 +80,34 @@ module _ (names : List Carved) (v w : FloorSeen) (a n : ℕ) (slot : Slot) (f : 
     kept_name : (b : Buffer) → HasName names b → HasName new_names b
     kept_name b h = ⊎_elim
         (λ (same : _ × (b.slot.chunk ≡ chunk)).
-            let q : h.chunk ≡ t.from = some_is h.chunk t.from (sym h.is_chunk ∙ (ap (slice_get names) same.1 ∙ at_chunk)) in
-            let r : HasName new_names b = record {
-              chunk = taken;
-              is_chunk = ap (slice_get new_names) same.1 ∙ now_there;
-              class = ap (λ (c : Carved). c.class) (sym q) ∙ h.class;
-              name = get_pushed t.from.taken buffer.bytes.ghost_name b.bytes.ghost_name b.slot.index (ap (λ (c : Carved). slice_get c.taken b.slot.index) (sym q) ∙ h.name);
-            } in r)
+        let q : h.chunk ≡ t.from = some_is h.chunk t.from (sym h.is_chunk ∙ (ap (slice_get names) same.1 ∙ at_chunk)) in
+        let r : HasName new_names b = record {
+          chunk = taken;
+          is_chunk = ap (slice_get new_names) same.1 ∙ now_there;
+          class = ap (λ (c : Carved). c.class) (sym q) ∙ h.class;
+          name = get_pushed t.from.taken buffer.bytes.ghost_name b.bytes.ghost_name b.slot.index (ap (λ (c : Carved). slice_get c.taken b.slot.index) (sym q) ∙ h.name);
+        } in r)
         (λ (other : _ × (b.slot.chunk ≢ chunk)).
-            let r : HasName new_names b = record { chunk = h.chunk; is_chunk = get_set_other names chunk b.slot.chunk taken other.1 ∙ h.is_chunk; class = h.class; name = h.name } in r)
+        let r : HasName new_names b = record { chunk = h.chunk; is_chunk = get_set_other names chunk b.slot.chunk taken other.1 ∙ h.is_chunk; class = h.class; name = h.name } in r)
         (eqb_tells b.slot.chunk chunk)
 
     kept_none : (x : Unused) → x.slot ≢ u.slot → HasNoName names x → HasNoName new_names x
     kept_none x ne h = ⊎_elim
         (λ (same : _ × (x.slot.chunk ≡ chunk)).
-            let q : h.chunk ≡ t.from = some_is h.chunk t.from (sym h.is_chunk ∙ (ap (slice_get names) same.1 ∙ at_chunk)) in
-            let low : length t.from.taken ≤ x.slot.index = subst (λ (c : Carved). length c.taken ≤ x.slot.index) q h.place in
-            let apart_index : x.slot.index ≢ u.slot.index = (λ i. ne (λ j. record { chunk = same.1 j; index = i j })) in
-            let more = length_push t.from.taken buffer.bytes.ghost_name in
-            let at = t.place in
-            let r : HasNoName new_names x = record {
-              chunk = taken;
-              is_chunk = ap (slice_get new_names) same.1 ∙ now_there;
-              class = ap (λ (c : Carved). c.class) (sym q) ∙ h.class;
-              part = ap (λ (c : Carved). c.whole) (sym q) ∙ h.part;
-              place = omega (arith, low, apart_index, more, at);
-            } in r)
+        let q : h.chunk ≡ t.from = some_is h.chunk t.from (sym h.is_chunk ∙ (ap (slice_get names) same.1 ∙ at_chunk)) in
+        let low : length t.from.taken ≤ x.slot.index = subst (λ (c : Carved). length c.taken ≤ x.slot.index) q h.place in
+        let apart_index : x.slot.index ≢ u.slot.index = (λ i. ne (λ j. record { chunk = same.1 j; index = i j })) in
+        let more = length_push t.from.taken buffer.bytes.ghost_name in
+        let at = t.place in
+        let r : HasNoName new_names x = record {
+          chunk = taken;
+          is_chunk = ap (slice_get new_names) same.1 ∙ now_there;
+          class = ap (λ (c : Carved). c.class) (sym q) ∙ h.class;
+          part = ap (λ (c : Carved). c.whole) (sym q) ∙ h.part;
+          place = omega (arith, low, apart_index, more, at);
+        } in r)
         (λ (other : _ × (x.slot.chunk ≢ chunk)).
-            let r : HasNoName new_names x = record { chunk = h.chunk; is_chunk = get_set_other names chunk x.slot.chunk taken other.1 ∙ h.is_chunk; class = h.class; part = h.part; place = h.place } in r)
+        let r : HasNoName new_names x = record { chunk = h.chunk; is_chunk = get_set_other names chunk x.slot.chunk taken other.1 ∙ h.is_chunk; class = h.class; part = h.part; place = h.place } in r)
         (eqb_tells x.slot.chunk chunk)
 
     kept_home : (x : AtHome) → slot_at x ≢ u.slot → IsNamedHome names x → IsNamedHome new_names x
@@ -166,18 +162,18 @@ module _ (names : List Carved) (v w : FloorSeen) (a n : ℕ) (slot : Slot) (f : 
     lent_chunks : (j : ℕ) (c : Carved) → slice_get new_names j ≡ Some c → (c.chunk ≡ j) × (class_drawn v.drawn j ≡ Some c.class)
     lent_chunks j c e = ⊎_elim
         (λ (same : _ × (j ≡ chunk)).
-            let q : taken ≡ c = some_is taken c (sym now_there ∙ (ap (slice_get new_names) (sym same.1) ∙ e)) in
-            let k = f.chunks chunk t.from at_chunk in (
-              ap (λ (x : Carved). x.chunk) (sym q) ∙ (t.chunk ∙ sym same.1),
-              ap (class_drawn v.drawn) same.1 ∙ (k.1 ∙ ap (λ (x : Carved). Some x.class) q),
-            ))
+        let q : taken ≡ c = some_is taken c (sym now_there ∙ (ap (slice_get new_names) (sym same.1) ∙ e)) in
+        let k = f.chunks chunk t.from at_chunk in (
+          ap (λ (x : Carved). x.chunk) (sym q) ∙ (t.chunk ∙ sym same.1),
+          ap (class_drawn v.drawn) same.1 ∙ (k.1 ∙ ap (λ (x : Carved). Some x.class) q),
+        ))
         (λ (other : _ × (j ≢ chunk)). f.chunks j c (sym (get_set_other names chunk j taken other.1) ∙ e)) (eqb_tells j chunk)
 
     each_lending : (b : ℕ) → b < length (set v.desks a (Held s.after)) → IsNamedDesk new_names v.drawn b (get_or (set v.desks a (Held s.after)) b no_desk)
     each_lending b m = ⊎_elim
         (λ (same : _ × (b ≡ a)). rw same.1 (rw (get_or-set_same v.desks a (Held s.after) no_desk s.held.0) lending_desk))
         (λ (other : _ × (b ≢ a)). rw (get_or-set_other v.desks a b (Held s.after) no_desk other.1)
-            (other_desk b other.1 (f.desks b (rw (length-set v.desks a (Held s.after)) at m)))) (eqb_tells b a)
+        (other_desk b other.1 (f.desks b (rw (length-set v.desks a (Held s.after)) at m)))) (eqb_tells b a)
 
     fresh_lent : AreNames new_names w
     fresh_lent = subst (AreNames new_names) (sym s.same) (record {

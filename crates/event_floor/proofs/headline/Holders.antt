@@ -1,26 +1,22 @@
 -- Desks that are taken into hands, and let go.
-use Rattle.std.proofs.Common.{◌≡◌, ℕ, ◌<◌, ◌≤◌, Bool, true, false, ◌||◌, List, [], ◌∷◌, map, length, get_or, set, Option, Some, None, Ok, is_some, refl, sym, ap, ◌∙◌, subst}
+use Rattle.std.proofs.Common.{◌≡◌, ℕ, Bool, true, false, ◌||◌, [], ◌∷◌, map, set, Ok, is_some, refl, sym, ap, ◌∙◌, subst}
 use Rattle.std.specs.List.{list_any}
-use Rattle.pool_desk.specs.Homes.{AtHome}
 use Rattle.pool_desk.specs.Desks.{IdleState, DeskState}
 use Rattle.event_floor.specs.declared.seat.Seat.{Seat}
 use Rattle.event_floor.specs.declared.seat.Seat.TheVariants.{Idle as IdleSeat, Held as HeldSeat}
-use Rattle.event_floor.specs.declared.request.Request.{Request}
 use Rattle.event_floor.specs.declared.request.Request.TheVariants.{Adopt, Retire}
 use Rattle.event_floor.specs.declared.reply.Reply.TheVariants.{Done}
 use Rattle.event_floor.specs.declared.refusal.Refusal.TheVariants.{NoDesk, Held, Unsettled}
 use Rattle.event_floor.specs.Seats.{adopted, retired, IsNumbered}
-use Rattle.event_floor.specs.Floors.{FloorSeen, desk_at, desk_count, no_desk, with_seat, with_desk, IsIdle, IsHeld, IsFloor}
-use Rattle.event_floor.specs.Steps.{Does, LacksHalfOf}
-use Rattle.event_floor.specs.machine.Steps.{Answer}
-use Rattle.event_floor.specs.machine.Listing.{Entry, DeskListing, Listing, desk_listing}
+use Rattle.event_floor.specs.Floors.{FloorSeen, with_seat, with_desk, IsIdle, IsHeld}
+use Rattle.event_floor.specs.Steps.{LacksHalfOf}
+use Rattle.event_floor.specs.machine.Listing.{Entry, DeskListing, desk_listing}
 use Rattle.event_floor.specs.machine.Headline.{Applies}
-use Rattle.event_floor.specs.headline.Listing.{entry_of, entry_at, desk_of, listing_of}
+use Rattle.event_floor.specs.headline.Listing.{entry_of, desk_of, listing_of}
 use Rattle.event_floor.specs.headline.Whole.{IsWhole}
-use Rattle.event_floor.proofs.machine.Refusals.{refusal_seen, any_posted}
 use Rattle.event_floor.proofs.machine.Applied.{adopt_applies, retire_applies}
 use Rattle.event_floor.proofs.headline.Views.{passes, held_seen, idle_seen, is_desk_seen, held_first, with_seat_seen}
-use Rattle.event_floor.proofs.headline.Refused.{unsettled, half_of_none, halves_of}
+use Rattle.event_floor.proofs.headline.Refused.{unsettled, half_of_none}
 
 -- the listing of a floor with another desk
 pub seat_listing : (v : FloorSeen) (a : ℕ) (s : Seat) → listing_of (with_seat v a s) ≡ record (listing_of v) { desks = set (listing_of v).desks a (desk_of s) }

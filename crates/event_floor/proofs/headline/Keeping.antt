@@ -1,5 +1,5 @@
 -- Each answer of a floor keeps all names.
-use Rattle.std.proofs.Common.{◌≡◌, ℕ, zero, suc, ◌*◌, ◌==◌, is_some, ◌<◌, ◌≤◌, List, [], ◌∷◌, ◌++◌, length, get_or, All, Option, Some, None, Ok, Err, refl, sym, ap, subst, arith}
+use Rattle.std.proofs.Common.{◌≡◌, ℕ, zero, suc, ◌*◌, ◌==◌, is_some, List, [], get_or, All, Option, Some, None, Ok, Err, refl, sym, ap, subst}
 use Rattle.std.specs.Prelude.{IfSome, replicate, count_by}
 use Rattle.std.proofs.lemmas.Bool.{true≢false}
 use Rattle.std.specs.List.{slice_get}
@@ -12,15 +12,14 @@ use Rattle.event_floor.specs.declared.request.Request.TheVariants.{Adopt, Retire
 use Rattle.event_floor.specs.declared.reply.Reply.{Reply}
 use Rattle.event_floor.specs.declared.reply.Reply.TheVariants.{Done, Chunk, Slot as Lent, Home, Cached, Due, Batch, Counts}
 use Rattle.event_floor.specs.declared.seat.Seat.{Seat}
-use Rattle.event_floor.specs.Posted.{Posted, inbox_at}
+use Rattle.event_floor.specs.Posted.{Posted}
 use Rattle.event_floor.specs.Seats.{idle_seats, home_of, cached_of}
-use Rattle.event_floor.specs.Floors.{FloorSeen, desk_at, desk_count, no_desk, opening}
+use Rattle.event_floor.specs.Floors.{FloorSeen, no_desk, opening}
 use Rattle.event_floor.specs.Steps.{Does}
 use Rattle.event_floor.specs.Runs.{Answers}
 use Rattle.event_floor.specs.machine.Steps.{Answer}
-use Rattle.event_floor.specs.machine.Slots.{one_if}
 use Rattle.event_floor.specs.headline.Headline.{Shows}
-use Rattle.event_floor.specs.headline.Names.{HasName, IsNamedHome, IsNamedDesk, AreNames, IsNamed, chunks_of, drew}
+use Rattle.event_floor.specs.headline.Names.{HasName, IsNamedHome, IsNamedDesk, AreNames, IsNamed, chunks_of}
 use Rattle.event_floor.proofs.headline.Named.{adopt_named, retire_named, free_named, send_named, link_named, take_named}
 use Rattle.event_floor.proofs.headline.Taken.{claim_named}
 use Rattle.event_floor.proofs.headline.Handed.{alloc_named}
@@ -84,10 +83,13 @@ none_posted P (suc n) (suc b) = none_posted P n b
 
 pub opening_named : (desks chunks : ℕ) (digits : Scheme) (limit : ℕ) → IsNamed (opening desks chunks digits limit)
 unfolding IsNamed
-opening_named desks chunks digits limit = ([], record {
-  count = refl;
-  chunks = λ k c e. absurd (true≢false (sym (ap is_some e)));
-  desks = λ a l. bare_named a (get_or (idle_seats digits limit desks) a no_desk) (idle_bare digits limit desks a no_desk l);
-  lent = λ i. none_lent (HasName []) (256 * chunks) i;
-  posted = λ b. none_posted (λ (p : Posted). All (HasName []) p.buffers) desks b;
-})
+opening_named desks chunks digits limit = (
+  [],
+  record {
+    count = refl;
+    chunks = λ k c e. absurd (true≢false (sym (ap is_some e)));
+    desks = λ a l. bare_named a (get_or (idle_seats digits limit desks) a no_desk) (idle_bare digits limit desks a no_desk l);
+    lent = λ i. none_lent (HasName []) (256 * chunks) i;
+    posted = λ b. none_posted (λ (p : Posted). All (HasName []) p.buffers) desks b;
+  },
+)

@@ -1,9 +1,9 @@
 -- Buffers that are lent, and freed.
-use Rattle.std.proofs.Common.{◌≡◌, ◌≢◌, ℕ, zero, suc, ◌+◌, ◌*◌, ◌<◌, ◌≤◌, Bool, true, false, List, [], ◌∷◌, ◌++◌, map, length, get_or, set, sum_by, All, Option, Some, None, Ok, refl, sym, ap, ap₂, ◌∙◌, subst, arith, IsPermutation}
+use Rattle.std.proofs.Common.{◌≡◌, ℕ, ◌+◌, ◌<◌, Bool, true, List, [], ◌∷◌, map, length, get_or, set, sum_by, All, Option, Some, None, Ok, refl, sym, ap, ap₂, ◌∙◌, subst, arith, IsPermutation}
 use Rattle.std.specs.List.{fold}
 use Rattle.std.proofs.lemmas.Bool.{true≢false}
 use Rattle.std.proofs.lemmas.List.{get_or-map, length-map}
-use Rattle.std.proofs.lemmas.List.Elements.{All-head, All-tail}
+use Rattle.std.proofs.lemmas.List.Elements.{All-head}
 use Rattle.std.proofs.lemmas.List.Sorted.{IsPermutation-map, IsPermutation-sym, All-permutation, Contains-permutation}
 use Rattle.region_cut.specs.declared.slot.Slot.{Slot}
 use Rattle.region_cut.specs.Classes.{size_of, IsLeastFor}
@@ -15,21 +15,18 @@ use Rattle.pool_desk.specs.Homes.{AtHome, slot_at, class_at, Gives}
 use Rattle.pool_desk.specs.Homes.AtHome.{Kept, Fresh}
 use Rattle.pool_desk.specs.ByClass.{HasClass}
 use Rattle.pool_desk.specs.Desks.{DeskState}
-use Rattle.pool_desk.specs.Steps.{freed, Frees, Caches}
+use Rattle.pool_desk.specs.Steps.{Frees, Caches}
 use Rattle.pool_desk.specs.declared.freed.Freed.{Freed}
 use Rattle.pool_desk.specs.declared.freed.Freed.TheVariants.{Home as FreedHome, Cached as FreedCached, Due as FreedDue}
 use Rattle.event_floor.specs.declared.seat.Seat.TheVariants.{Held as HeldSeat}
-use Rattle.event_floor.specs.declared.request.Request.{Request}
 use Rattle.event_floor.specs.declared.request.Request.TheVariants.{Alloc, Free}
-use Rattle.event_floor.specs.declared.reply.Reply.{Reply}
-use Rattle.event_floor.specs.declared.reply.Reply.TheVariants.{Slot as Lent, Home, Cached, Due}
+use Rattle.event_floor.specs.declared.reply.Reply.TheVariants.{Slot as Lent}
 use Rattle.event_floor.specs.Answers.{reply_of}
 use Rattle.event_floor.specs.Seats.{HasPlace, home_of}
-use Rattle.event_floor.specs.Lent.{buffers_lent, place_of, lent_at, AreInPlace}
-use Rattle.event_floor.specs.Floors.{FloorSeen, with_desk, IsHeld}
+use Rattle.event_floor.specs.Lent.{buffers_lent, place_of}
+use Rattle.event_floor.specs.Floors.{FloorSeen, IsHeld}
 use Rattle.event_floor.specs.Steps.{LendsSlot, TakesBack}
-use Rattle.event_floor.specs.machine.State.{State, least_class}
-use Rattle.event_floor.specs.machine.Refusals.{slot_at as slot_of}
+use Rattle.event_floor.specs.machine.State.{State}
 use Rattle.event_floor.specs.machine.Listing.{Entry, DeskListing, Listing, Named, Loans, HomeOf, named_of, same_list, desk_listing, Shown}
 use Rattle.event_floor.specs.machine.Headline.{Applies}
 use Rattle.event_floor.specs.headline.Listing.{entry_of, entry_at, desk_of, listing_of}
@@ -37,7 +34,7 @@ use Rattle.event_floor.specs.headline.Whole.{IsWhole}
 use Rattle.event_floor.proofs.machine.Places.{home_place, lent_place}
 use Rattle.event_floor.proofs.machine.FreeStep.{FreeEdits, after_edits}
 use Rattle.event_floor.proofs.machine.AllocStep.{AllocEdits, alloc_applies}
-use Rattle.event_floor.proofs.machine.Applied.{FreeReplies, seen_bytes, free_applies}
+use Rattle.event_floor.proofs.machine.Applied.{FreeReplies, free_applies}
 use Rattle.event_floor.proofs.headline.Least.{least_is}
 use Rattle.event_floor.proofs.headline.Tables.{lent_place as lent_at_place, present_put, present_gone, present_at, at_its_place, same_place}
 use Rattle.event_floor.proofs.headline.Views.{held_seen, with_seat_seen, slot_seen}
@@ -57,13 +54,13 @@ apart : (v : FloorSeen) (st : State) (count : Slot → ℕ) (a : ℕ) (d : DeskS
     → get_or v.lent (place_of b.slot) None ≡ Some c → c.slot ≡ b.slot → ⊥
 apart v st count a d s home b c h l p e m same =
     let lent : named_of st c.slot ≡ Some Loans =
-            present_at (λ x. named_of st x.slot ≡ Some Loans) v.lent (place_of b.slot) c (λ k x n. subst (λ (z : Entry). named_of st z.slot ≡ Some Loans)
-            (get_or-map entry_of (buffers_lent v.lent) k x (entry_of x) n) (lent_place (listing_of v) st count h k (entry_of x) (rw (length-map (buffers_lent v.lent) entry_of) n))) m in
+    present_at (λ x. named_of st x.slot ≡ Some Loans) v.lent (place_of b.slot) c (λ k x n. subst (λ (z : Entry). named_of st z.slot ≡ Some Loans)
+    (get_or-map entry_of (buffers_lent v.lent) k x (entry_of x) n) (lent_place (listing_of v) st count h k (entry_of x) (rw (length-map (buffers_lent v.lent) entry_of) n))) m in
     let homes : All (λ (z : Entry). named_of st z.slot ≡ Some (HomeOf a)) (map (entry_at d.number) d.home) =
-            subst (λ (z : DeskListing). All (λ (z : Entry). named_of st z.slot ≡ Some (HomeOf a)) z.home) (held_seen v a d l) (home_place (listing_of v) st count h a) in
+    subst (λ (z : DeskListing). All (λ (z : Entry). named_of st z.slot ≡ Some (HomeOf a)) z.home) (held_seen v a d l) (home_place (listing_of v) st count h a) in
     let first : named_of st (entry_at d.number s).slot ≡ Some (HomeOf a) =
-            All-head (λ (z : Entry). named_of st z.slot ≡ Some (HomeOf a)) (entry_at d.number s) (map (entry_at d.number) home)
-            (All-permutation (λ (z : Entry). named_of st z.slot ≡ Some (HomeOf a)) _ _ (IsPermutation-map (entry_at d.number) d.home (s ∷ home) p) homes) in
+    All-head (λ (z : Entry). named_of st z.slot ≡ Some (HomeOf a)) (entry_at d.number s) (map (entry_at d.number) home)
+    (All-permutation (λ (z : Entry). named_of st z.slot ≡ Some (HomeOf a)) _ _ (IsPermutation-map (entry_at d.number) d.home (s ∷ home) p) homes) in
     let here : named_of st b.slot ≡ Some (HomeOf a) = ap (named_of st) (sym e ∙ sym (slot_seen d.number s)) ∙ first in
     two_lists (sym lent ∙ (ap (named_of st) same ∙ here))
   where
@@ -124,8 +121,8 @@ module _ (v w : FloorSeen) (a n : ℕ) (slot : Slot) (f : IsWhole v) (s : LendsS
       let keeps = s.allocs.2 in
       let seen = held_seen v a s.before s.held in
       let p : IsPermutation (map (entry_at s.before.number) s.before.home) (entry_of s.buffer ∷ map (entry_at s.before.number) s.after.home) =
-              subst (λ z. IsPermutation (map (entry_at s.before.number) s.before.home) (z ∷ map (entry_at s.before.number) s.after.home))
-              (gives_seen s.before.number g.from s.buffer g.gives g.owner_is) (IsPermutation-map (entry_at s.before.number) _ _ g.others) in
+      subst (λ z. IsPermutation (map (entry_at s.before.number) s.before.home) (z ∷ map (entry_at s.before.number) s.after.home))
+      (gives_seen s.before.number g.from s.buffer g.gives g.owner_is) (IsPermutation-map (entry_at s.before.number) _ _ g.others) in
       record {
         leaves = subst (λ m. IsPermutation (entry_of s.buffer ∷ map (entry_at m) s.after.home) (desk_listing (listing_of v) a).home) (ap (λ (x : DeskState). x.number) (sym keeps))
             (subst (λ (z : DeskListing). IsPermutation (entry_of s.buffer ∷ map (entry_at s.before.number) s.after.home) z.home) (sym seen) (IsPermutation-sym _ _ p));
@@ -196,8 +193,8 @@ module _ (v w : FloorSeen) (a : ℕ) (pair : ℕ × ℕ) (r : Freed) (f : IsWhol
         worker = ap (λ (x : DeskState). Some x.worker) keeps ∙ ap (λ (z : DeskListing). z.worker) (sym seen);
         own = λ o. (
           subst (λ (z : DeskListing). IsPermutation (record (entry_of s.buffer) { forwards = 0 } ∷ z.home) (map (entry_at s.after.number) s.after.home)) (sym seen)
-          (subst (λ m. IsPermutation (record (entry_of s.buffer) { forwards = 0 } ∷ map (entry_at s.before.number) s.before.home) (map (entry_at m) s.after.home)) (ap (λ (x : DeskState). x.number) (sym keeps))
-          (IsPermutation-map (entry_at s.before.number) _ _ h.2)),
+              (subst (λ m. IsPermutation (record (entry_of s.buffer) { forwards = 0 } ∷ map (entry_at s.before.number) s.before.home) (map (entry_at m) s.after.home)) (ap (λ (x : DeskState). x.number) (sym keeps))
+              (IsPermutation-map (entry_at s.before.number) _ _ h.2)),
           ap (λ (x : DeskState). map entry_of x.cached) keeps ∙ ap (λ (z : DeskListing). z.cache) (sym seen),
         );
         other = λ o. absurd (o (h.0 ∙ freer_number.0));

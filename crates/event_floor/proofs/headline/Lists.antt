@@ -1,8 +1,8 @@
 -- Lists behind a map, and lists of which some elements are left out.
-use Rattle.std.proofs.Common.{◌≡◌, ◌≢◌, ℕ, zero, suc, ◌+◌, ◌<◌, ◌≤◌, Bool, true, false, not, ◌||◌, ◌==◌, cond, List, [], ◌∷◌, ◌++◌, map, filter, length, get_or, set, All, refl, sym, ap, ap₂, ◌∙◌, subst, arith, ◌⊎◌, inl, inr, ⊎_elim, eqb, append_assoc, append-nil, IsPermutation}
+use Rattle.std.proofs.Common.{◌≡◌, ◌≢◌, ℕ, zero, suc, ◌<◌, Bool, true, false, ◌||◌, cond, List, [], ◌∷◌, ◌++◌, map, filter, length, get_or, set, All, refl, sym, ap, ap₂, ◌∙◌, subst, arith, ⊎_elim, eqb, append_assoc, IsPermutation}
 use Rattle.std.specs.Prelude.{Any}
-use Rattle.std.specs.List.{list_any, list_all, flat_map, swap}
-use Rattle.std.proofs.lemmas.List.{get_or-set_same, get_or-set_other, length-set, length-map, set-get_or, set-set, set_comm, get_or-map}
+use Rattle.std.specs.List.{list_any, flat_map, swap}
+use Rattle.std.proofs.lemmas.List.{length-set, length-map, set-get_or, set-set, set_comm, get_or-map}
 use Rattle.std.proofs.lemmas.List.Edits.{swap_is}
 use Rattle.std.proofs.lemmas.List.Sorted.{IsPermutation-refl, IsPermutation-sym, IsPermutation-trans, IsPermutation-append_left, IsPermutation-append_right, IsPermutation-append_comm, IsPermutation-keeps}
 use Rattle.std.proofs.lemmas.Bool.Decides.{eqb_tells}
@@ -94,10 +94,10 @@ module _ {X : Type 0} (p : X → Bool) where
   exchange_kept (d ∷ l) i j a b =
       let xss = map one (d ∷ l) in
       let e : map one (swap (d ∷ l) i j) ≡ set (set xss i (get_or xss j [])) j (get_or xss i []) =
-              ap (map one) (sym (swap_is (d ∷ l) i j d a b))
-              ∙ (set-map one (set (d ∷ l) i (get_or (d ∷ l) j d)) j (get_or (d ∷ l) i d)
-              ∙ ap₂ (λ (x : List (List X)) (y : List X). set x j y) (set-map one (d ∷ l) i (get_or (d ∷ l) j d) ∙ ap (set xss i) (sym (get_or-map one (d ∷ l) j d [] b)))
-              (sym (get_or-map one (d ∷ l) i d [] a))) in
+      ap (map one) (sym (swap_is (d ∷ l) i j d a b))
+      ∙ (set-map one (set (d ∷ l) i (get_or (d ∷ l) j d)) j (get_or (d ∷ l) i d)
+      ∙ ap₂ (λ (x : List (List X)) (y : List X). set x j y) (set-map one (d ∷ l) i (get_or (d ∷ l) j d) ∙ ap (set xss i) (sym (get_or-map one (d ∷ l) j d [] b)))
+      (sym (get_or-map one (d ∷ l) i d [] a))) in
       subst (λ z. IsPermutation z (filter p (d ∷ l))) (sym (filter_joined (swap (d ∷ l) i j) ∙ ap (flat_map (λ x. x)) e))
       (subst (λ z. IsPermutation (flat_map (λ x. x) (set (set xss i (get_or xss j [])) j (get_or xss i []))) z) (sym (filter_joined (d ∷ l)))
       (exchanged xss i j (rw (length-map (d ∷ l) one) a) (rw (length-map (d ∷ l) one) b)))

@@ -1,29 +1,26 @@
 -- Where no new name is taken, all buffers keep their names.
-use Rattle.std.proofs.Common.{◌≡◌, ◌≢◌, ℕ, zero, suc, ◌+◌, ◌<◌, ◌≤◌, Bool, true, false, not, ◌==◌, cond, List, [], ◌∷◌, ◌++◌, map, filter, length, get_or, set, All, Option, Some, None, refl, sym, ap, ap₂, ◌∙◌, subst, arith, ⊎_elim, IsPermutation}
+use Rattle.std.proofs.Common.{◌≡◌, ◌≢◌, ℕ, zero, suc, ◌+◌, ◌<◌, Bool, true, false, not, ◌==◌, cond, List, [], ◌∷◌, ◌++◌, map, filter, length, get_or, set, All, Option, Some, None, sym, ap, ◌∙◌, subst, ⊎_elim}
 use Rattle.std.specs.Prelude.{IfSome, count_by}
 use Rattle.std.specs.List.{slice_get}
 use Rattle.std.proofs.lemmas.Bool.Decides.{eqb_tells}
 use Rattle.std.proofs.lemmas.List.{get_or-set_same, get_or-set_other, length-set}
 use Rattle.std.proofs.lemmas.List.Elements.{All-nil, All-cons, All-head, All-tail, All-append, All-set}
-use Rattle.std.proofs.lemmas.List.Sorted.{All-permutation, IsPermutation-sym}
+use Rattle.std.proofs.lemmas.List.Sorted.{All-permutation}
 use Rattle.region_cut.specs.Carved.{Carved}
 use Rattle.slot_chain.specs.Buffer.{Buffer}
-use Rattle.pool_desk.specs.Homes.{AtHome}
-use Rattle.pool_desk.specs.Homes.AtHome.{Kept, Fresh}
+use Rattle.pool_desk.specs.Homes.AtHome.{Kept}
 use Rattle.pool_desk.specs.Desks.{IdleState, DeskState}
 use Rattle.pool_desk.specs.Steps.{freed, passed_on, own, others, Caches, Frees}
 use Rattle.pool_desk.specs.declared.freed.Freed.{Freed}
 use Rattle.pool_desk.specs.declared.freed.Freed.TheVariants.{Home as FreedHome, Cached as FreedCached, Due as FreedDue}
-use Rattle.event_floor.specs.declared.chunks.Drawn.{Drawn}
 use Rattle.event_floor.specs.declared.seat.Seat.{Seat}
 use Rattle.event_floor.specs.declared.seat.Seat.TheVariants.{Idle, Held}
-use Rattle.event_floor.specs.Lent.{place_of, lent_at}
+use Rattle.event_floor.specs.Lent.{place_of}
 use Rattle.event_floor.specs.Posted.{Posted, inbox_at, sent_as, as_linked, no_batch}
-use Rattle.event_floor.specs.Seats.{home_of, cached_of, adopted, retired}
-use Rattle.event_floor.specs.Floors.{FloorSeen, desk_at, desk_count, no_desk, with_seat, with_desk, IsIdle, IsHeld}
+use Rattle.event_floor.specs.Seats.{adopted, retired}
+use Rattle.event_floor.specs.Floors.{FloorSeen, desk_count, no_desk, with_seat, with_desk, IsIdle, IsHeld}
 use Rattle.event_floor.specs.Steps.{SendsBatch, LinksBatch, TakesFront, TakesBack}
-use Rattle.event_floor.specs.headline.Names.{HasName, HasNoName, IsNamedHome, IsNamedDesk, AreNames, chunks_of}
-use Rattle.event_floor.proofs.headline.Lists.{get_or_same}
+use Rattle.event_floor.specs.headline.Names.{HasName, IsNamedHome, IsNamedDesk, AreNames}
 use Rattle.event_floor.proofs.headline.Tables.{lent_place}
 
 -- ---- lists

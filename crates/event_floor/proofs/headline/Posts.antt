@@ -1,30 +1,25 @@
 -- Batches that are sent, linked and taken.
-use Rattle.std.proofs.Common.{◌≡◌, ◌≢◌, ℕ, zero, suc, ◌+◌, ◌<◌, ◌≤◌, Bool, true, false, not, ◌==◌, List, [], ◌∷◌, ◌++◌, map, filter, length, get_or, set, All, Option, Some, None, Ok, refl, sym, ap, ap₂, ◌∙◌, subst, arith, append-nil, IsPermutation, le_trans}
-use Rattle.std.proofs.lemmas.Bool.{eq-eqb}
-use Rattle.std.proofs.lemmas.List.{length-map, map-append, map_push, get_or-map}
-use Rattle.std.proofs.lemmas.List.Sorted.{IsPermutation-map, IsPermutation-sym}
+use Rattle.std.proofs.Common.{◌≡◌, ℕ, ◌+◌, ◌<◌, ◌≤◌, Bool, true, false, not, ◌==◌, List, [], ◌∷◌, ◌++◌, map, filter, length, get_or, set, All, Some, Ok, refl, sym, ap, ap₂, ◌∙◌, subst, arith, append-nil, IsPermutation, le_trans}
+use Rattle.std.proofs.lemmas.List.{length-map, map-append, map_push}
+use Rattle.std.proofs.lemmas.List.Sorted.{IsPermutation-map}
 use Rattle.region_cut.specs.declared.slot.Slot.{Slot}
 use Rattle.slot_chain.specs.Buffer.{Buffer}
 use Rattle.slot_chain.specs.Counts.{capped}
-use Rattle.digit_route.specs.Digits.{Scheme}
-use Rattle.digit_route.specs.Route.{IsInBucket, TakesBucket}
-use Rattle.pool_desk.specs.Homes.{AtHome}
+use Rattle.digit_route.specs.Route.{TakesBucket}
 use Rattle.pool_desk.specs.Homes.AtHome.{Kept}
 use Rattle.pool_desk.specs.Desks.{DeskState}
-use Rattle.pool_desk.specs.Steps.{passed_on as buffer_passed_on, own, others, Handles}
-use Rattle.event_floor.specs.declared.seat.Seat.{Seat}
+use Rattle.pool_desk.specs.Steps.{passed_on as buffer_passed_on, own, others}
 use Rattle.event_floor.specs.declared.seat.Seat.TheVariants.{Held as HeldSeat}
-use Rattle.event_floor.specs.declared.request.Request.{Request}
 use Rattle.event_floor.specs.declared.request.Request.TheVariants.{Send, Link, Take}
 use Rattle.event_floor.specs.declared.reply.Reply.{Reply}
 use Rattle.event_floor.specs.declared.reply.Reply.TheVariants.{Done, Batch, Counts}
 use Rattle.event_floor.specs.Posted.{Posted, inbox_at, sent_as, as_linked, no_batch, IsHalf, SomePosted}
-use Rattle.event_floor.specs.Floors.{FloorSeen, with_desk, with_inbox, IsHeld}
+use Rattle.event_floor.specs.Floors.{FloorSeen}
 use Rattle.event_floor.specs.Steps.{SendsBatch, LinksBatch, TakesFront}
 use Rattle.event_floor.specs.machine.State.{State, bucket, in_bucket, slots, slots_of_batch, is_posted, owner_of}
-use Rattle.event_floor.specs.machine.Steps.{Answer, Step, front_of, coming_home, going_on}
+use Rattle.event_floor.specs.machine.Steps.{Step, front_of, coming_home, going_on}
 use Rattle.event_floor.specs.machine.Forwards.{counted as forward_count}
-use Rattle.event_floor.specs.machine.Listing.{Entry, DeskListing, BatchListing, Listing, desk_listing, inbox_listing, Shown}
+use Rattle.event_floor.specs.machine.Listing.{Entry, DeskListing, BatchListing, Listing, inbox_listing, Shown}
 use Rattle.event_floor.specs.machine.Headline.{Applies}
 use Rattle.event_floor.specs.headline.Listing.{entry_of, entry_at, desk_of, batch_of, listing_of}
 use Rattle.event_floor.specs.headline.Whole.{IsWhole}
@@ -114,7 +109,7 @@ module _ (v w : FloorSeen) (a t number count : ℕ) (f : IsWhole v) (s : SendsBa
   pub send_done : Applies (listing_of v) (Send a t) (Ok (Batch number count)) (listing_of w)
   send_done st passes h =
       let posts : length (listing_of v).inboxes ≡ length (listing_of v).desks =
-              length-map v.inboxes (map batch_of) ∙ (f.floor.boxes ∙ (sym f.floor.count ∙ sym (length-map v.desks desk_of))) in
+      length-map v.inboxes (map batch_of) ∙ (f.floor.boxes ∙ (sym f.floor.count ∙ sym (length-map v.desks desk_of))) in
       let g = send_applies (listing_of v) a t sent sender posts (send_accepted v a t s.before s.routes s.unspent) sending st passes h in
       let few = le_trans (filter_few (in_bucket st a t) (slots st)) (few_slots v st passes f h) in
       let same : length sent ≡ count = counted_as count (length (bucket st a t)) s.counted g.1.0.1.1 few in
@@ -134,13 +129,13 @@ link_done v w n s =
     let p = get_or ps s.place no_batch in
     let some : SomePosted (IsHalf n) v.inboxes = (s.inbox, s.half.0, (s.place, p, s.half.1, get_or_same ps s.place p no_batch s.half.1, s.half.2)) in
     let row : get_or (inbox_listing (listing_of v) s.inbox) s.place (batch_of no_batch) ≡ batch_of p =
-            ap (λ ws. get_or ws s.place (batch_of no_batch)) (inbox_seen v s.inbox) ∙ get_or-map_default batch_of ps s.place no_batch in
+    ap (λ ws. get_or ws s.place (batch_of no_batch)) (inbox_seen v s.inbox) ∙ get_or-map_default batch_of ps s.place no_batch in
     let shown : listing_of w ≡ after_link (listing_of v) s.inbox s.place (get_or (inbox_listing (listing_of v) s.inbox) s.place (batch_of no_batch)) =
-            ap listing_of s.same
-            ∙ ap (λ ys. record (listing_of v) { inboxes = ys })
-            (inboxes_seen v s.inbox (set ps s.place (as_linked p))
-            ∙ ap (set (listing_of v).inboxes s.inbox)
-            (set-map batch_of ps s.place (as_linked p) ∙ ap₂ (λ ws x. set ws s.place (linked x)) (sym (inbox_seen v s.inbox)) (sym row))) in
+    ap listing_of s.same
+    ∙ ap (λ ys. record (listing_of v) { inboxes = ys })
+    (inboxes_seen v s.inbox (set ps s.place (as_linked p))
+    ∙ ap (set (listing_of v).inboxes s.inbox)
+    (set-map batch_of ps s.place (as_linked p) ∙ ap₂ (λ ws x. set ws s.place (linked x)) (sym (inbox_seen v s.inbox)) (sym row))) in
     subst (λ z. Applies (listing_of v) (Link n) (Ok Done) z) (sym shown)
     (link_applies (listing_of v) n s.inbox s.place (batch_of no_batch) (link_accepted v n some)
     (subst (λ m. s.inbox < m) (sym (length-map v.inboxes (map batch_of))) s.half.0)
@@ -219,9 +214,9 @@ module _ (v w : FloorSeen) (b home on : ℕ) (f : IsWhole v) (s : TakesFront v b
       let all = few_slots v st passes f h in
       let of_batch = le_trans (filter_few (λ x. is_posted (front_of st b) (st.place x)) (slots st)) all in
       let m = counted_few (own s.before.number s.front.buffers) (filter is_own taken_batch.buffers) home (length (coming_home st b)) own_seen s.counted.home g.1.0.1.0
-              (le_trans (filter_few (λ x. owner_of st x == b) (slots_of_batch st (front_of st b))) of_batch) in
+      (le_trans (filter_few (λ x. owner_of st x == b) (slots_of_batch st (front_of st b))) of_batch) in
       let n = counted_few (others s.before.number s.front.buffers) (filter is_other taken_batch.buffers) on (length (going_on st b)) others_seen s.counted.on g.1.0.1.1
-              (le_trans (filter_few (λ x. not (owner_of st x == b)) (slots_of_batch st (front_of st b))) of_batch) in
+      (le_trans (filter_few (λ x. not (owner_of st x == b)) (slots_of_batch st (front_of st b))) of_batch) in
       subst (λ z. ShownAs (Counts home on) z st passes) (sym taken_shown)
       (subst (λ i. ShownAs (Counts i on) (after_taking (listing_of v) b (map batch_of s.rest) taker) st passes) m
       (subst (λ i. ShownAs (Counts (length (filter is_own taken_batch.buffers)) i) (after_taking (listing_of v) b (map batch_of s.rest) taker) st passes) n g))

@@ -1,44 +1,33 @@
 -- Why a floor refuses is why the machine does.
-use Rattle.std.proofs.Common.{◌≡◌, ◌≢◌, ℕ, zero, suc, ◌+◌, ◌^◌, ◌<◌, ◌≤◌, Bool, true, false, not, ◌&&◌, ◌||◌, ◌==◌, nat_le, nat_lt, List, [], ◌∷◌, ◌++◌, map, length, get_or, set, All, Option, Some, None, Err, is_none, is_some, refl, sym, ap, ap₂, ◌∙◌, subst, arith, ◌⊎◌, inl, inr}
-use Rattle.std.specs.Prelude.{Any, replicate, ◌-◌}
-use Rattle.std.specs.List.{list_any, list_all}
-use Rattle.std.proofs.lemmas.Bool.{le-leb, lt-ltb, ltb-true, true≢false, eq-eqb}
-use Rattle.region_cut.specs.declared.slot.Slot.{Slot}
-use Rattle.region_cut.specs.declared.profile.Profile.{Profile}
-use Rattle.region_cut.specs.declared.profile.Profile.TheVariants.{Pool, Pool2}
-use Rattle.region_cut.specs.Classes.{classes_of, largest_of, size_of, IsLeastFor}
+use Rattle.std.proofs.Common.{◌≡◌, ◌≢◌, ℕ, suc, ◌^◌, ◌<◌, ◌≤◌, Bool, true, false, not, ◌&&◌, ◌||◌, ◌==◌, nat_le, nat_lt, List, [], ◌∷◌, map, length, All, Some, None, is_none, is_some, refl, sym, ap, ◌∙◌, subst, arith, ◌⊎◌, inl, inr}
+use Rattle.std.specs.List.{list_any}
+use Rattle.std.proofs.lemmas.Bool.{le-leb, lt-ltb, ltb-true}
+use Rattle.region_cut.specs.Classes.{classes_of, largest_of, IsLeastFor}
 use Rattle.slot_chain.specs.Buffer.{Buffer}
 use Rattle.digit_route.specs.Digits.{Scheme, common}
 use Rattle.digit_route.specs.Profiles.{profile_of}
-use Rattle.digit_route.specs.Route.{IsInBucket, RouteFault}
-use Rattle.digit_route.specs.declared.error.RouteError.{RouteError}
-use Rattle.digit_route.specs.declared.error.RouteError.TheVariants.{ToSelf as RouteToSelf, NothingFor as RouteNothingFor, NotAnOwner as RouteNotAnOwner}
+use Rattle.digit_route.specs.Route.{IsInBucket}
 use Rattle.pool_desk.specs.Homes.{AtHome, class_at}
-use Rattle.pool_desk.specs.Desks.{IdleState, DeskState}
-use Rattle.pool_desk.specs.declared.error.DeskError.TheVariants.{NeedChunk as DeskNeedChunk, NoMemory as DeskNoMemory}
-use Rattle.pool_desk.specs.Steps.{AllocFault}
+use Rattle.pool_desk.specs.Desks.{DeskState}
 use Rattle.pool_desk.specs.ByClass.{HasClass, LacksClass}
-use Rattle.event_floor.specs.declared.chunks.Drawn.{Drawn}
-use Rattle.event_floor.specs.declared.seat.Seat.{Seat}
 use Rattle.event_floor.specs.declared.request.Request.{Request}
 use Rattle.event_floor.specs.declared.request.Request.TheVariants.{Adopt, Retire, Claim, Alloc, Free, Send, Link, Take}
 use Rattle.event_floor.specs.declared.refusal.Refusal.{Refusal}
 use Rattle.event_floor.specs.declared.refusal.Refusal.TheVariants.{NoDesk, Idle, TooLarge, NeedChunk, NotNeeded, NoChunk, NotLent, NothingFor, NotAnOwner, ToSelf, NoBatch, Nothing, Unsettled, Held, NoMemory, BadClass, Spent}
-use Rattle.event_floor.specs.declared.seat.Seat.TheVariants.{Idle as IdleSeat, Held as HeldSeat}
 use Rattle.event_floor.specs.Lent.{buffers_lent, lent_at, AreInPlace}
 use Rattle.event_floor.specs.Posted.{Posted, inbox_at, IsHalf, IsHalfOf, SomePosted, NonePosted, HasNoFront}
-use Rattle.event_floor.specs.Floors.{FloorSeen, desk_at, desk_count, profile_seen, last_number, IsIdle, IsHeld}
+use Rattle.event_floor.specs.Floors.{FloorSeen, desk_count, last_number, IsHeld}
 use Rattle.event_floor.specs.Steps.{Refuses, Routes, class_limit, size_limit}
 use Rattle.event_floor.specs.machine.State.{Waiting, least_class}
 use Rattle.event_floor.specs.machine.Slots.{same_slot}
 use Rattle.event_floor.specs.machine.Refusals.{first, is_half, front_ready, slot_at}
-use Rattle.event_floor.specs.machine.Listing.{Entry, DeskListing, BatchListing, Listing, desk_listing, inbox_listing, as_waiting}
-use Rattle.event_floor.specs.headline.Listing.{entry_of, entry_at, desk_of, batch_of, listing_of}
-use Rattle.event_floor.proofs.machine.Refusals.{refusal_seen, conditions_seen, goes_by, any_posted, any_of_row}
+use Rattle.event_floor.specs.machine.Listing.{Entry, DeskListing, desk_listing, inbox_listing, as_waiting}
+use Rattle.event_floor.specs.headline.Listing.{entry_of, batch_of, listing_of}
+use Rattle.event_floor.proofs.machine.Refusals.{refusal_seen, goes_by, any_posted, any_of_row}
 use Rattle.event_floor.proofs.headline.Least.{holds_within, least_is}
-use Rattle.event_floor.proofs.headline.Lists.{get_or-map_default, any-map, All-not-from_Any}
+use Rattle.event_floor.proofs.headline.Lists.{any-map, All-not-from_Any}
 use Rattle.event_floor.proofs.headline.Tables.{none_lent, one_lent}
-use Rattle.event_floor.proofs.headline.Views.{leb_past, ltb_past, any_of, none_of, hits, passes, desk_seen, desks_seen, held_seen, idle_seen, no_desk_seen, is_desk_seen, desk_first, no_desk_first, idle_first, held_first, has_class_seen, lacks_class_seen, inbox_seen}
+use Rattle.event_floor.proofs.headline.Views.{leb_past, ltb_past, any_of, none_of, hits, passes, held_seen, idle_seen, no_desk_seen, is_desk_seen, no_desk_first, idle_first, held_first, has_class_seen, lacks_class_seen, inbox_seen}
 
 abbrev pub Says : FloorSeen → Request → Refusal → Type 0
 Says v q r = refusal_seen (listing_of v) q ≡ Some r

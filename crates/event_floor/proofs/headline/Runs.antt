@@ -1,9 +1,8 @@
 -- Runs of a floor, one request longer.
-use Rattle.std.proofs.Common.{◌≡◌, ℕ, List, [], ◌∷◌, ◌++◌, Ok, Err, refl, sym, subst, ◌^◌, ◌≤◌}
-use Rattle.std.specs.Prelude.{Result, IfOk, IfErr, OnErr}
+use Rattle.std.proofs.Common.{ℕ, List, [], ◌∷◌, ◌++◌, ◌^◌, ◌≤◌}
 use Rattle.digit_route.specs.Digits.{Scheme, IsScheme}
 use Rattle.event_floor.specs.declared.request.Request.{Request}
-use Rattle.event_floor.specs.Floors.{FloorSeen, IsFloor, opening}
+use Rattle.event_floor.specs.Floors.{FloorSeen, opening}
 use Rattle.event_floor.specs.Runs.{Answers}
 use Rattle.event_floor.specs.machine.Steps.{Answer}
 use Rattle.event_floor.specs.machine.Headline.{AppliesAll as ListingAppliesAll}
@@ -15,7 +14,7 @@ use Rattle.event_floor.proofs.machine.Applied.{shows_next}
 use Rattle.event_floor.proofs.machine.Joins.{applies_none, applies_push}
 use Rattle.event_floor.proofs.machine.Headlines.{headline}
 use Rattle.event_floor.proofs.headline.Serves.{serves}
-use Rattle.event_floor.proofs.headline.Wholes.{stays_whole, shows_opening}
+use Rattle.event_floor.proofs.headline.Wholes.{shows_opening}
 
 -- a list of requests is a run of the machine
 unfoldable pub AppliesAll : FloorSeen → List Request → List Answer → FloorSeen → Type 0

@@ -1,6 +1,5 @@
 -- What a floor answers is a step of the machine.
-use Rattle.std.proofs.Common.{◌≡◌, ℕ, List, true, None, Ok, Err, refl, sym, ap, subst, ◌⊎◌, inl, inr}
-use Rattle.pool_desk.specs.Desks.{DeskState}
+use Rattle.std.proofs.Common.{◌≡◌, true, None, Ok, Err, refl, sym, subst, ◌⊎◌, inl, inr}
 use Rattle.pool_desk.specs.declared.freed.Freed.TheVariants.{Home as FreedHome, Cached as FreedCached, Due as FreedDue}
 use Rattle.event_floor.specs.declared.request.Request.{Request}
 use Rattle.event_floor.specs.declared.request.Request.TheVariants.{Adopt, Retire, Claim, Alloc, Free, Send, Link, Take}
@@ -8,7 +7,7 @@ use Rattle.event_floor.specs.declared.reply.Reply.{Reply}
 use Rattle.event_floor.specs.declared.reply.Reply.TheVariants.{Done, Chunk, Slot as Lent, Home, Cached, Due, Batch, Counts}
 use Rattle.event_floor.specs.declared.refusal.Refusal.{Refusal}
 use Rattle.event_floor.specs.declared.refusal.Refusal.TheVariants.{NoMemory}
-use Rattle.event_floor.specs.Floors.{FloorSeen, IsHeld}
+use Rattle.event_floor.specs.Floors.{FloorSeen}
 use Rattle.event_floor.specs.Steps.{Does, Refuses}
 use Rattle.event_floor.specs.Runs.{Answers}
 use Rattle.event_floor.specs.machine.Refusals.{may_grow}

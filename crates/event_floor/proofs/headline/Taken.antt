@@ -1,34 +1,31 @@
 -- Names of chunks that are drawn, and of slots that are handed out for the first time.
-use Rattle.std.proofs.Common.{◌≡◌, ◌≢◌, ℕ, zero, suc, ◌+◌, ◌<◌, ◌≤◌, Bool, true, false, not, ◌==◌, cond, List, [], ◌∷◌, ◌++◌, map, length, get_or, set, take, drop, All, Option, Some, None, is_some, refl, sym, ap, ap₂, ◌∙◌, subst, arith, ⊎_elim, IsPermutation}
+use Rattle.std.proofs.Common.{◌≡◌, ◌≢◌, ℕ, zero, suc, ◌+◌, ◌<◌, ◌≤◌, Bool, true, false, ◌==◌, cond, List, [], ◌∷◌, ◌++◌, length, get_or, set, take, drop, All, Option, Some, None, is_some, refl, sym, ap, ap₂, ◌∙◌, subst, arith, ⊎_elim, IsPermutation}
 use Rattle.std.specs.Prelude.{IfSome, count_by, option_map}
-use Rattle.std.specs.Borrow.{GName}
 use Rattle.std.specs.List.{slice_get}
 use Rattle.std.proofs.lemmas.Bool.{true≢false}
 use Rattle.std.proofs.lemmas.Bool.Decides.{eqb_tells}
 use Rattle.std.proofs.lemmas.Option.{slice_get_past}
-use Rattle.std.proofs.lemmas.List.{get_or-map, length-map, length-set, length_push, get_or-set_same, get_or-set_other}
-use Rattle.std.proofs.lemmas.List.Elements.{All-nil, All-cons, All-head, All-tail, All-append}
-use Rattle.std.proofs.lemmas.List.Sorted.{All-permutation, IsPermutation-map, IsPermutation-sym, sum_by-IsPermutation}
-use Rattle.region_cut.specs.declared.slot.Slot.{Slot}
+use Rattle.std.proofs.lemmas.List.{length-set, length_push, get_or-set_same, get_or-set_other}
+use Rattle.std.proofs.lemmas.List.Elements.{All-nil, All-cons, All-append}
+use Rattle.std.proofs.lemmas.List.Sorted.{All-permutation, sum_by-IsPermutation}
 use Rattle.region_cut.specs.Carved.{Carved}
 use Rattle.region_cut.specs.Classes.{slots_of, size_of}
 use Rattle.slot_chain.specs.Buffer.{Buffer}
-use Rattle.pool_desk.specs.Homes.{AtHome, Unused, slot_at, unused_from, Names, TakesNext, taken_next}
+use Rattle.pool_desk.specs.Homes.{AtHome, unused_from}
 use Rattle.pool_desk.specs.Homes.AtHome.{Kept, Fresh}
-use Rattle.pool_desk.specs.Desks.{IdleState, DeskState}
+use Rattle.pool_desk.specs.Desks.{DeskState}
 use Rattle.event_floor.specs.declared.chunks.Drawn.{Drawn}
 use Rattle.event_floor.specs.declared.seat.Seat.{Seat}
-use Rattle.event_floor.specs.declared.seat.Seat.TheVariants.{Idle, Held}
+use Rattle.event_floor.specs.declared.seat.Seat.TheVariants.{Held}
 use Rattle.event_floor.specs.Chunks.{class_drawn}
-use Rattle.event_floor.specs.Lent.{place_of}
 use Rattle.event_floor.specs.Posted.{Posted, inbox_at}
 use Rattle.event_floor.specs.Seats.{home_of, cached_of}
-use Rattle.event_floor.specs.Floors.{FloorSeen, desk_at, desk_count, no_desk, IsHeld}
-use Rattle.event_floor.specs.Steps.{DrawsChunk, LendsSlot}
+use Rattle.event_floor.specs.Floors.{FloorSeen, desk_at, no_desk}
+use Rattle.event_floor.specs.Steps.{DrawsChunk}
 use Rattle.event_floor.specs.machine.Slots.{one_if}
-use Rattle.event_floor.specs.headline.Names.{HasName, HasNoName, IsNamedHome, IsNamedDesk, AreNames, chunks_of, drew, is_drawn_for}
+use Rattle.event_floor.specs.headline.Names.{HasName, IsNamedHome, IsNamedDesk, AreNames, chunks_of, drew, is_drawn_for}
 use Rattle.event_floor.proofs.machine.Enumerate.{count_cons}
-use Rattle.event_floor.proofs.headline.Named.{held_named, changed_named, each_desk, each_place}
+use Rattle.event_floor.proofs.headline.Named.{held_named}
 
 -- ---- lists
 
@@ -165,20 +162,20 @@ module _ (names : List Carved) (v w : FloorSeen) (a class k : ℕ) (n : AreNames
   claimed_once j =
       let h = held_named names v n a s.before s.held in
       let e : chunk_count j s.after.drawn ≡ cond (new_chunk.chunk == j) 1 0 + one_if (drew v.drawn a j) =
-              chunk_permuted j _ _ s.claims.drawn.added ∙ (count_cons (λ (c : Carved). c.chunk == j) new_chunk s.before.drawn ∙ ap (λ m. cond (new_chunk.chunk == j) 1 0 + m) (h.once j)) in
+      chunk_permuted j _ _ s.claims.drawn.added ∙ (count_cons (λ (c : Carved). c.chunk == j) new_chunk s.before.drawn ∙ ap (λ m. cond (new_chunk.chunk == j) 1 0 + m) (h.once j)) in
       e ∙ ⊎_elim
       (λ (same : _ × (j ≡ length v.drawn)).
-          ap₂ (λ (x y : Bool). cond x 1 0 + one_if y) (same_eqb new_chunk.chunk j (new_chunk_is ∙ (s.is_next ∙ sym same.1))) (ap (drew v.drawn a) same.1 ∙ drew_none a)
-          ∙ sym (ap one_if (ap (drew new_drawn a) same.1 ∙ (drew_last a ∙ same_eqb a a refl))))
+      ap₂ (λ (x y : Bool). cond x 1 0 + one_if y) (same_eqb new_chunk.chunk j (new_chunk_is ∙ (s.is_next ∙ sym same.1))) (ap (drew v.drawn a) same.1 ∙ drew_none a)
+      ∙ sym (ap one_if (ap (drew new_drawn a) same.1 ∙ (drew_last a ∙ same_eqb a a refl))))
       (λ (other : _ × (j ≢ length v.drawn)).
-          ap (λ (x : Bool). cond x 1 0 + one_if (drew v.drawn a j)) (other_eqb new_chunk.chunk j (λ q. other.1 (sym q ∙ (new_chunk_is ∙ s.is_next))))
-          ∙ (omega arith ∙ ap one_if (sym (drew_before a j other.1)))) (eqb_tells j (length v.drawn))
+      ap (λ (x : Bool). cond x 1 0 + one_if (drew v.drawn a j)) (other_eqb new_chunk.chunk j (λ q. other.1 (sym q ∙ (new_chunk_is ∙ s.is_next))))
+      ∙ (omega arith ∙ ap one_if (sym (drew_before a j other.1)))) (eqb_tells j (length v.drawn))
 
   claimed_desk : IsNamedDesk new_names new_drawn a (Held s.after)
   claimed_desk =
       let h = held_named names v n a s.before s.held in
       let slots : IsPermutation (unused_from k class s.part.bytes.ghost_name (slots_of class) 0 s.part.bytes.now ++ s.before.home) s.after.home =
-              subst (λ m. IsPermutation (unused_from m class s.part.bytes.ghost_name (slots_of class) 0 s.part.bytes.now ++ s.before.home) s.after.home) s.is_part s.claims.home in
+      subst (λ m. IsPermutation (unused_from m class s.part.bytes.ghost_name (slots_of class) 0 s.part.bytes.now ++ s.before.home) s.after.home) s.is_part s.claims.home in
       record {
         home = All-permutation (IsNamedHome new_names) _ _ slots
             (All-append (IsNamedHome new_names) _ s.before.home (uncut_named 0 (slots_of class) s.part.bytes.now) (All-to (IsNamedHome names) (IsNamedHome new_names) s.before.home kept_home h.home));
@@ -193,22 +190,22 @@ module _ (names : List Carved) (v w : FloorSeen) (a class k : ℕ) (n : AreNames
   claimed_chunks : (j : ℕ) (c : Carved) → slice_get new_names j ≡ Some c → (c.chunk ≡ j) × (class_drawn new_drawn j ≡ Some c.class)
   claimed_chunks j c e = ⊎_elim
       (λ (same : _ × (j ≡ length names)).
-          let q : new_chunk ≡ c = some_is new_chunk c (sym (get_last names new_chunk) ∙ (ap (slice_get new_names) (sym same.1) ∙ e)) in (
-            ap (λ (x : Carved). x.chunk) (sym q) ∙ (new_chunk_is ∙ sym (same.1 ∙ last_place)),
-            ap (λ m. option_map (λ (d : Drawn). d.class) (slice_get new_drawn m)) (same.1 ∙ n.count)
+      let q : new_chunk ≡ c = some_is new_chunk c (sym (get_last names new_chunk) ∙ (ap (slice_get new_names) (sym same.1) ∙ e)) in (
+        ap (λ (x : Carved). x.chunk) (sym q) ∙ (new_chunk_is ∙ sym (same.1 ∙ last_place)),
+        ap (λ m. option_map (λ (d : Drawn). d.class) (slice_get new_drawn m)) (same.1 ∙ n.count)
             ∙ (ap (option_map (λ (d : Drawn). d.class)) (get_last v.drawn (record { owner = a; class = class })) ∙ ap (λ m. Some m) (sym s.claims.drawn.uncut.class_is ∙ ap (λ (x : Carved). x.class) q)),
-          ))
+      ))
       (λ (other : _ × (j ≢ length names)).
-          let h = n.chunks j c (sym (get_before names new_chunk j other.1) ∙ e) in (
-            h.0,
-            ap (option_map (λ (d : Drawn). d.class)) (get_before v.drawn (record { owner = a; class = class }) j (λ q. other.1 (q ∙ sym n.count))) ∙ h.1,
-          )) (eqb_tells j (length names))
+      let h = n.chunks j c (sym (get_before names new_chunk j other.1) ∙ e) in (
+        h.0,
+        ap (option_map (λ (d : Drawn). d.class)) (get_before v.drawn (record { owner = a; class = class }) j (λ q. other.1 (q ∙ sym n.count))) ∙ h.1,
+      )) (eqb_tells j (length names))
 
   each_claimed : (b : ℕ) → b < length (set v.desks a (Held s.after)) → IsNamedDesk new_names new_drawn b (get_or (set v.desks a (Held s.after)) b no_desk)
   each_claimed b m = ⊎_elim
       (λ (same : _ × (b ≡ a)). rw same.1 (rw (get_or-set_same v.desks a (Held s.after) no_desk s.held.0) claimed_desk))
       (λ (other : _ × (b ≢ a)). rw (get_or-set_other v.desks a b (Held s.after) no_desk other.1)
-          (other_desk b (desk_at v b) other.1 (n.desks b (rw (length-set v.desks a (Held s.after)) at m)))) (eqb_tells b a)
+      (other_desk b (desk_at v b) other.1 (n.desks b (rw (length-set v.desks a (Held s.after)) at m)))) (eqb_tells b a)
 
   pub claim_named : AreNames new_names w
   claim_named = subst (AreNames new_names) (sym s.same) (record {

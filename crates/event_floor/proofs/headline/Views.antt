@@ -1,12 +1,10 @@
 -- What the listing of a floor shows of its desks and inboxes.
-use Rattle.std.proofs.Common.{◌≡◌, ◌≢◌, ℕ, zero, suc, ◌+◌, ◌<◌, ◌≤◌, Bool, true, false, ◌==◌, nat_le, nat_lt, List, [], ◌∷◌, ◌++◌, map, length, get_or, set, All, Option, Some, None, is_none, is_some, refl, sym, ap, ap₂, ◌∙◌, subst, arith}
+use Rattle.std.proofs.Common.{◌≡◌, ◌≢◌, ℕ, ◌<◌, ◌≤◌, Bool, true, false, ◌==◌, nat_le, nat_lt, List, [], ◌∷◌, map, length, get_or, set, All, Option, Some, is_none, refl, sym, ap, ◌∙◌, arith}
 use Rattle.std.specs.Prelude.{Any}
 use Rattle.std.specs.List.{list_any}
-use Rattle.std.proofs.lemmas.Bool.{leb-true, le-leb, ltb-true, lt-ltb, true≢false}
+use Rattle.std.proofs.lemmas.Bool.{leb-true, le-leb, ltb-true, true≢false}
 use Rattle.std.proofs.lemmas.List.{length-map}
 use Rattle.std.proofs.lemmas.List.Folds.{list_any_at, list_any_none}
-use Rattle.slot_chain.specs.Buffer.{Buffer}
-use Rattle.digit_route.specs.Digits.{Scheme}
 use Rattle.pool_desk.specs.Homes.{AtHome, slot_at, class_at}
 use Rattle.pool_desk.specs.Homes.AtHome.{Kept, Fresh}
 use Rattle.pool_desk.specs.ByClass.{HasClass, LacksClass}
@@ -15,12 +13,11 @@ use Rattle.event_floor.specs.declared.seat.Seat.{Seat}
 use Rattle.event_floor.specs.declared.seat.Seat.TheVariants.{Idle as IdleSeat, Held as HeldSeat}
 use Rattle.event_floor.specs.declared.refusal.Refusal.{Refusal}
 use Rattle.event_floor.specs.declared.refusal.Refusal.TheVariants.{NoDesk, Idle}
-use Rattle.event_floor.specs.Seats.{IsNumbered}
-use Rattle.event_floor.specs.Posted.{Posted, inbox_at}
-use Rattle.event_floor.specs.Floors.{FloorSeen, desk_at, desk_count, no_desk, IsIdle, IsHeld, IsFloor, with_seat}
+use Rattle.event_floor.specs.Posted.{inbox_at}
+use Rattle.event_floor.specs.Floors.{FloorSeen, desk_at, desk_count, no_desk, IsIdle, IsHeld, with_seat}
 use Rattle.event_floor.specs.machine.Refusals.{first}
-use Rattle.event_floor.specs.machine.Listing.{Entry, DeskListing, BatchListing, Listing, desk_listing, inbox_listing}
-use Rattle.event_floor.specs.headline.Listing.{entry_of, entry_at, desk_of, batch_of, listing_of}
+use Rattle.event_floor.specs.machine.Listing.{Entry, DeskListing, desk_listing, inbox_listing}
+use Rattle.event_floor.specs.headline.Listing.{entry_at, desk_of, batch_of, listing_of}
 use Rattle.event_floor.proofs.headline.Lists.{get_or-map_default, set-map, any-map}
 
 -- ---- tests

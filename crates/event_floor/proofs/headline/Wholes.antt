@@ -1,5 +1,5 @@
 -- What is kept of a floor stays kept.
-use Rattle.std.proofs.Common.{◌≡◌, ◌≢◌, ℕ, zero, suc, ◌+◌, ◌*◌, ◌^◌, ◌<◌, ◌≤◌, List, [], ◌∷◌, ◌++◌, map, length, get_or, set, Option, Some, None, Ok, Err, refl, sym, ap, ap₂, ◌∙◌, subst, arith, ⊎_elim}
+use Rattle.std.proofs.Common.{◌≡◌, ◌≢◌, ℕ, zero, suc, ◌*◌, ◌^◌, ◌<◌, ◌≤◌, List, [], ◌∷◌, ◌++◌, map, length, get_or, set, Option, Some, None, Ok, Err, refl, sym, ap, ◌∙◌, subst, ⊎_elim}
 use Rattle.std.specs.Prelude.{IfSome, replicate}
 use Rattle.std.proofs.lemmas.List.{get_or-set_same, get_or-set_other, map-append}
 use Rattle.std.proofs.lemmas.Bool.Decides.{eqb_tells}
@@ -7,25 +7,23 @@ use Rattle.region_cut.specs.declared.slot.Slot.{Slot}
 use Rattle.slot_chain.specs.Buffer.{Buffer}
 use Rattle.digit_route.specs.Digits.{Scheme, IsScheme}
 use Rattle.pool_desk.specs.declared.freed.Freed.{Freed}
-use Rattle.event_floor.specs.declared.seat.Seat.{Seat}
 use Rattle.event_floor.specs.declared.request.Request.{Request}
 use Rattle.event_floor.specs.declared.request.Request.TheVariants.{Adopt, Retire, Claim, Alloc, Free, Send, Link, Take}
 use Rattle.event_floor.specs.declared.reply.Reply.{Reply}
 use Rattle.event_floor.specs.declared.reply.Reply.TheVariants.{Done, Chunk, Slot as Lent, Home, Cached, Due, Batch, Counts}
-use Rattle.event_floor.specs.Lent.{buffers_lent, place_of, AreInPlace}
+use Rattle.event_floor.specs.Lent.{place_of, AreInPlace}
 use Rattle.event_floor.specs.Seats.{idle_seats}
 use Rattle.event_floor.specs.Floors.{FloorSeen, IsFloor, opening}
 use Rattle.event_floor.specs.Steps.{Does, LendsSlot, TakesBack}
 use Rattle.event_floor.specs.Runs.{Answers}
 use Rattle.event_floor.specs.machine.Steps.{Answer}
-use Rattle.event_floor.specs.machine.Listing.{DeskListing, BatchListing, Listing, empty_desk, Shown}
+use Rattle.event_floor.specs.machine.Listing.{empty_desk, Shown}
 use Rattle.event_floor.specs.machine.State.{opening as machine_opening}
-use Rattle.event_floor.specs.machine.Headline.{ShowsSome}
 use Rattle.event_floor.specs.headline.Listing.{entry_of, desk_of, batch_of, listing_of}
 use Rattle.event_floor.specs.headline.Whole.{IsWhole}
 use Rattle.event_floor.proofs.machine.Parts.{opened, opening_shown}
-use Rattle.event_floor.proofs.headline.Tables.{at_its_place, present_replicate}
-use Rattle.event_floor.proofs.headline.Lends.{placed_slot, in_table, was_there}
+use Rattle.event_floor.proofs.headline.Tables.{present_replicate}
+use Rattle.event_floor.proofs.headline.Lends.{placed_slot, in_table}
 
 -- ---- the table
 

@@ -1,5 +1,5 @@
 -- A floor's lists, each buffer without its bytes.
-use Rattle.std.specs.Prelude.{ℕ, List, [], ◌∷◌, map, Option, Some, None}
+use Rattle.std.specs.Prelude.{ℕ, [], map, Some, None}
 use Rattle.slot_chain.specs.Buffer.{Buffer}
 use Rattle.pool_desk.specs.Homes.{AtHome}
 use Rattle.pool_desk.specs.Homes.AtHome.{Kept, Fresh}

@@ -1,5 +1,5 @@
 -- What is kept of a floor besides what its type says.
-use Rattle.std.specs.Prelude.{ℕ, ◌≤◌}
+use Rattle.std.specs.Prelude.{◌≤◌}
 use Rattle.event_floor.specs.Lent.{AreInPlace}
 use Rattle.event_floor.specs.Floors.{FloorSeen, IsFloor}
 

@@ -1,4 +1,4 @@
-use Rattle.std.proofs.Common.{◌≡◌, subst}
+use Rattle.std.proofs.Common.{subst}
 use Rattle.event_floor.specs.headline.Headline.{Applies}
 use Rattle.event_floor.proofs.RunLaws.{answers_of}
 use Rattle.event_floor.proofs.headline.Keeping.{stays_named}

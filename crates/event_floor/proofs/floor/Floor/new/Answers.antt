@@ -1,4 +1,4 @@
-use Rattle.std.proofs.Common.{◌≡◌, ℕ, ◌≤◌, length, sym, subst}
+use Rattle.std.proofs.Common.{◌≡◌, ◌≤◌, length, sym, subst}
 use Rattle.event_floor.specs.Floors.{FloorSeen, IsFloor, opening}
 use Rattle.event_floor.specs.headline.Headline.{Shows}
 use Rattle.event_floor.specs.headline.Listing.{listing_of}

@@ -1,4 +1,4 @@
-use Rattle.std.proofs.Common.{◌≡◌, ℕ, ◌≤◌, length, take, vec_len, vec_capacity}
+use Rattle.std.proofs.Common.{◌≡◌, ◌≤◌, length, take, vec_len, vec_capacity}
 use Rattle.event_floor.specs.Floors.{desk_count}
 use Rattle.event_floor.specs.Runs.{Runs}
 use Rattle.event_floor.proofs.headline.Runs.{AppliesAll}

@@ -1,4 +1,4 @@
-use Rattle.std.proofs.Common.{◌≡◌, ℕ, ◌<◌, length, get_or, subst, arith}
+use Rattle.std.proofs.Common.{◌<◌, length, get_or, subst, arith}
 use Rattle.event_floor.specs.Posted.{Posted, IsHalf}
 use Rattle.event_floor.proofs.RiseLaws.{none_half, not_half}
 use Rattle.event_floor.proofs.inbox.Inbox.find_half.Goals.{else-place-len-via-then-place-len+else-is_half, else-place-len-via-else-place-len}

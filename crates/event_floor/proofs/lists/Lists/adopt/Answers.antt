@@ -1,5 +1,4 @@
-use Rattle.std.proofs.Common.{◌<◌, length, arith, sym, subst}
-use Rattle.event_floor.specs.Floors.{IsSeated}
+use Rattle.std.proofs.Common.{◌<◌, length, arith}
 use Rattle.event_floor.proofs.SeatLaws.{adopt_seated}
 use Rattle.event_floor.proofs.FloorLaws.{floor_settled, floor_seat, seated_read}
 use Rattle.event_floor.proofs.lists.Lists.adopt.Goals as goal

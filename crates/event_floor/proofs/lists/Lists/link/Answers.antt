@@ -1,4 +1,4 @@
-use Rattle.std.proofs.Common.{◌≡◌, subst}
+use Rattle.std.proofs.Common.{subst}
 use Rattle.event_floor.specs.Posted.{IsHalfAt}
 use Rattle.event_floor.proofs.StepLaws.{links_batch}
 use Rattle.event_floor.proofs.lists.Lists.link.Goals as goal
