@@ -2,4 +2,4 @@ use Rattle.std.proofs.Common.{length}
 use Rattle.chain_uses.proofs.tests.order.popped.Given as goal
 
 abbrev pub decreases-loop-buf : goal.decreases-loop-buf
-decreases-loop-buf g l = length l.chain
+decreases-loop-buf l = length l.chain
