@@ -31,7 +31,7 @@ use Rattle.event_floor.proofs.machine.Enumerate.{count_cons, count_append}
 use Rattle.event_floor.proofs.machine.InPlace.{in_cache_is}
 use Rattle.event_floor.proofs.machine.Joined.{shown_once}
 use Rattle.event_floor.proofs.machine.Listed.{listed}
-use Rattle.event_floor.proofs.machine.LinkStep.{one_row, row_rises, row_member}
+use Rattle.event_floor.proofs.machine.LinkStep.{same_number, waits_there, row_rises, row_member}
 use Rattle.event_floor.proofs.machine.PartBy.{at_home_is, lent_named}
 use Rattle.event_floor.proofs.machine.Parts.{part_length}
 use Rattle.event_floor.proofs.machine.TakeFloor.{posted_is}
@@ -129,6 +129,15 @@ flat_only f (x ∷ xs) (suc j) d l e =
     ap₂ (λ ys zs. ys ++ zs) (e zero (omega arith) (λ q. let z : 0 ≡ suc j = q in absurd (omega arith)))
     (flat_only f xs j d (omega arith) (λ i m n. e (suc i) (omega arith) (λ q. n (let z : suc i ≡ suc j = q in omega arith))))
 
+-- a number stands in one inbox
+one_inbox : (v : Listing) (st : State) (c : Slot → ℕ) → Shown v st c → (a b i j : ℕ) (d e : BatchListing) → i < length (inbox_listing v a) → j < length (inbox_listing v b)
+    → (get_or (inbox_listing v a) i d).number ≡ (get_or (inbox_listing v b) j e).number → a ≡ b
+one_inbox v st c h a b i j d e l m q =
+    let x = waits_there v st c h a i d l in
+    let y = waits_there v st c h b j e m in
+    let z = same_number st.waiting _ _ h.sound.rising x.0 y.0 q in
+    eqb-true a _ x.1 ∙ (ap (λ (w : Waiting). w.address) z ∙ sym (eqb-true b _ y.1))
+
 module _ (v : Listing) (st : State) (c : Slot → ℕ) (h : Shown v st c) (b j : ℕ) (d : BatchListing) (l : b < length v.inboxes) (m : j < length (inbox_listing v b)) where
   abbrev w : BatchListing
   w = get_or (inbox_listing v b) j d
@@ -144,7 +153,7 @@ module _ (v : Listing) (st : State) (c : Slot → ℕ) (h : Shown v st c) (b j :
   batch_only = flat_only (λ ws. flat_map (if_numbered w.number) ws) v.inboxes b [] l
       (λ a k n. flat_none (if_numbered w.number) (get_or v.inboxes a []) d
       (λ i k'. ap (λ (t : Bool). if t then slots_seen (get_or (inbox_listing v a) i d).buffers else [])
-      (ne_eqb w.number (get_or (inbox_listing v a) i d).number (λ q. n (sym (one_row v st c h b a j i d d m k' q))))))
+      (ne_eqb w.number (get_or (inbox_listing v a) i d).number (λ q. n (sym (one_inbox v st c h b a j i d d m k' q))))))
       ∙ row_only
 
   -- and so it has as many buffers as there are slots of its number
