@@ -162,7 +162,6 @@ module _ (v : Listing) (st : State) (c : Slot → ℕ) (h : Shown v st c) (b j :
       (All-one (Counted st c) (λ (e : Entry). e.owner ≡ owner_of st e.slot) w.buffers (λ e x. x.0) (All-get_or (λ (p : BatchListing). All (Counted st c) p.buffers) (inbox_listing v b) j d m (h.posted b)))
       (λ s. ap (times s) (sym batch_only) ∙ h.in_place (BatchOf w.number) s) (λ s. posted_is w.number (owner_of st s) (st.place s)))
 
-
 sums : {X : Type 0} (f g : X → ℕ) (xs : List X) → ((i : ℕ) (d : X) → i < length xs → f (get_or xs i d) ≡ g (get_or xs i d)) → sum_by f xs ≡ sum_by g xs
 sums f g [] e = refl
 sums f g (x ∷ xs) e =
@@ -212,9 +211,9 @@ module _ (v : Listing) (st : State) (c : Slot → ℕ) (h : Shown v st c) where
   waiting_few : length waiting_slots ≤ length (slots st)
   waiting_few =
       let e = length_permutation waiting_slots (filter (λ s. times s waiting_slots == 1) (slots st))
-          (listed st c (λ s. times s waiting_slots == 1) waiting_slots h.sound
-          (λ s t. some_slot (is_slot st s) (let k = eqb-true (times s waiting_slots) 1 t in let l = below_once s in omega (arith, k, l)))
-          (λ s. few_times (times s waiting_slots) (let l = below_once s in let m = one_if_few (is_slot st s) in omega (arith, l, m)))) in
+      (listed st c (λ s. times s waiting_slots == 1) waiting_slots h.sound
+      (λ s t. some_slot (is_slot st s) (let k = eqb-true (times s waiting_slots) 1 t in let l = below_once s in omega (arith, k, l)))
+      (λ s. few_times (times s waiting_slots) (let l = below_once s in let m = one_if_few (is_slot st s) in omega (arith, l, m)))) in
       let f = filter_few (λ s. times s waiting_slots == 1) (slots st) in
       omega (arith, e, f)
 
@@ -254,7 +253,7 @@ module _ (v : FloorSeen) (st : State) (c : Slot → ℕ) (few : v.chunks ≤ 102
       let e = batches_length (inbox_at v.inboxes b) ∙ ap (sum_by (λ (w : BatchListing). length w.buffers)) (sym (inbox_seen v b)) in
       let f = length-flat_map (λ (w : BatchListing). slots_seen w.buffers) (inbox_listing (listing_of v) b) in
       let g = sums (λ (w : BatchListing). length (slots_seen w.buffers)) (λ (w : BatchListing). length w.buffers) (inbox_listing (listing_of v) b)
-          (λ i d m. length-map (get_or (inbox_listing (listing_of v) b) i d).buffers (λ (e : Entry). e.slot)) in
+      (λ i d m. length-map (get_or (inbox_listing (listing_of v) b) i d).buffers (λ (e : Entry). e.slot)) in
       let k = inbox_few (listing_of v) st c h b l in
       let a = all_few st (subst (λ n. n ≤ 1024) h.frame.chunks few) in
       omega (arith, e, f, g, k, a)
@@ -267,7 +266,7 @@ module _ (v : FloorSeen) (st : State) (c : Slot → ℕ) (few : v.chunks ≤ 102
       none_there : (b : ℕ) → length (listing_of v).inboxes ≤ b → capped (length (buffers_in (inbox_at v.inboxes b))) ≡ queued_count st b
       none_there b l =
           let e = batches_length (inbox_at v.inboxes b) ∙ (ap (sum_by (λ (w : BatchListing). length w.buffers)) (sym (inbox_seen v b))
-              ∙ ap (sum_by (λ (w : BatchListing). length w.buffers)) (get_or-eq_default (listing_of v).inboxes [] l)) in
+          ∙ ap (sum_by (λ (w : BatchListing). length w.buffers)) (get_or-eq_default (listing_of v).inboxes [] l)) in
           capped_is (length (buffers_in (inbox_at v.inboxes b))) (let z : length (buffers_in (inbox_at v.inboxes b)) ≡ 0 = e in omega (arith, z)) ∙ no_inbox b l
 
 -- ---- chunks
