@@ -2,6 +2,7 @@
 ghost use Rattle.std.specs.Prelude.{◌≡◌, ◌<◌, ◌≤◌, ◌^◌, length, map, is_some, count_by, IfOk, IfErr, OnErr, IsPermutation};
 ghost use Rattle.slot_chain.specs.Counts.{capped};
 ghost use Rattle.digit_route.specs.Slots.{slot_of};
+ghost use Rattle.pool_desk.specs.Homes.{slot_at};
 ghost use Rattle.event_floor.specs.Chunks.{AreNumbered, class_drawn};
 ghost use Rattle.event_floor.specs.Floors.{desk_count, desk_at, opening};
 ghost use Rattle.event_floor.specs.Lent.{buffers_lent};
@@ -137,6 +138,22 @@ impl<'r> Floor<'r> {
         ensures { IfOk result (λ slots. slots.items ≡ map slot_of (buffers_lent self.now.lent)) }
     {
         self.lists.lent(alloc)
+    }
+
+    /// The slots that the desk has at home, each as often as it is there, in no order.
+    pub fn home(&self, alloc: Global, a: u32) -> Result<Vec<Slot>, NoMemory>
+        requires { a < desk_count self.now }
+        ensures { IfOk result (λ slots. IsPermutation (map slot_at (home_of (desk_at self.now a))) slots.items) }
+    {
+        self.lists.home(alloc, a)
+    }
+
+    /// The slots of the buffers in the desk's cache, each as often as it is there, in no order.
+    pub fn cached(&self, alloc: Global, a: u32) -> Result<Vec<Slot>, NoMemory>
+        requires { a < desk_count self.now }
+        ensures { IfOk result (λ slots. IsPermutation (map slot_of (cached_of (desk_at self.now a))) slots.items) }
+    {
+        self.lists.cached(alloc, a)
     }
 
     /// How many buffers are lent. Takes time in the number of slots.

@@ -1,9 +1,12 @@
 //! A desk's place on the floor.
-ghost use Rattle.std.specs.Prelude.{◌≡◌, ◌<◌, ◌≤◌, ◌^◌, IfOk};
-ghost use Rattle.event_floor.specs.Seats.{idle_seats, held_by, Releases};
+ghost use Rattle.std.specs.Prelude.{◌≡◌, ◌<◌, ◌≤◌, ◌^◌, IfOk, IsPermutation, map};
+ghost use Rattle.digit_route.specs.Slots.{slot_of};
+ghost use Rattle.pool_desk.specs.Homes.{slot_at};
+ghost use Rattle.event_floor.specs.Seats.{idle_seats, held_by, home_of, cached_of, Releases};
 
 use digit_route::Digits;
 use pool_desk::{Desk, IdleDesk};
+use region_cut::Slot;
 use slot_chain::NoMemory;
 use std::alloc::Global;
 use std::mem;
@@ -69,6 +72,37 @@ pub(crate) fn release(seat: &mut Seat<'_>, digits: Digits) -> bool
         Seat::Idle(desk) => {
             drop(mem::replace(seat, Seat::Idle(desk)));
             false
+        }
+    }
+}
+
+/// The slots that the desk has at home, each as often as it is there, in no order.
+pub(crate) fn home(seat: &Seat<'_>, alloc: Global) -> Result<Vec<Slot>, NoMemory>
+    ensures { IfOk result (λ slots. IsPermutation (map slot_at (home_of seat.now)) slots.items) }
+{
+    let mut slots = Vec::new(alloc);
+    match seat {
+        Seat::Idle(desk) => {
+            desk.list_slots(&mut slots)?;
+            Ok(slots)
+        }
+        Seat::Held(desk) => {
+            desk.list_home(&mut slots)?;
+            Ok(slots)
+        }
+    }
+}
+
+/// The slots of the buffers in the desk's cache, each as often as it is there, in no order.
+pub(crate) fn cached(seat: &Seat<'_>, alloc: Global) -> Result<Vec<Slot>, NoMemory>
+    ensures { IfOk result (λ slots. IsPermutation (map slot_of (cached_of seat.now)) slots.items) }
+{
+    let mut slots = Vec::new(alloc);
+    match seat {
+        Seat::Idle(_) => Ok(slots),
+        Seat::Held(desk) => {
+            desk.list_cached(&mut slots)?;
+            Ok(slots)
         }
     }
 }

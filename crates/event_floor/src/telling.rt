@@ -3,6 +3,7 @@ ghost use Rattle.std.specs.Prelude.{◌≡◌, ◌<◌, length, is_some, map, If
 ghost use Rattle.std.specs.Prelude.{count_by};
 ghost use Rattle.slot_chain.specs.Counts.{capped};
 ghost use Rattle.digit_route.specs.Slots.{slot_of};
+ghost use Rattle.pool_desk.specs.Homes.{slot_at};
 ghost use Rattle.event_floor.specs.Chunks.{class_drawn};
 ghost use Rattle.event_floor.specs.Floors.{desk_count, desk_at};
 ghost use Rattle.event_floor.specs.Lent.{buffers_lent};
@@ -10,7 +11,7 @@ ghost use Rattle.event_floor.specs.Posted.{buffers_in, inbox_at};
 ghost use Rattle.event_floor.specs.Seats.{home_of, cached_of};
 
 use crate::lists::Lists;
-use crate::seat::Seat;
+use crate::seat::{Seat, cached, home};
 use digit_route::Digits;
 use region_cut::{Class, Slot};
 use slot_chain::NoMemory;
@@ -36,6 +37,22 @@ impl<'r> Lists<'r> {
                 (home, cached, queued)
             }
         }
+    }
+
+    /// The slots that the desk has at home, each as often as it is there, in no order.
+    pub(crate) fn home(&self, alloc: Global, a: u32) -> Result<Vec<Slot>, NoMemory>
+        requires { a < desk_count self.now }
+        ensures { IfOk result (λ slots. IsPermutation (map slot_at (home_of (desk_at self.now a))) slots.items) }
+    {
+        home(&self.desks[a as usize], alloc)
+    }
+
+    /// The slots of the buffers in the desk's cache, each as often as it is there, in no order.
+    pub(crate) fn cached(&self, alloc: Global, a: u32) -> Result<Vec<Slot>, NoMemory>
+        requires { a < desk_count self.now }
+        ensures { IfOk result (λ slots. IsPermutation (map slot_of (cached_of (desk_at self.now a))) slots.items) }
+    {
+        cached(&self.desks[a as usize], alloc)
     }
 
     /// The slots of all buffers that wait in the desk's inbox, linked or not, each as often as it is there.

@@ -19,6 +19,9 @@ type Row = (Request, Result<Reply, Refusal>);
 /// A desk's number, and how many slots it has at home, in its cache and in its inbox.
 type Closing = (u32, u64, u64, u64);
 
+/// How many chunks are drawn, and how many buffers are lent.
+type End = (u64, u64);
+
 fn slot(chunk: u16, index: u16) -> Result<Reply, Refusal> {
     Ok(Reply::Slot(Slot { chunk, index }))
 }
@@ -74,7 +77,8 @@ fn ask_all(rt: &impl Abort, alloc: Global, floor: &mut Floor<'_>, rows: &[Row]) 
 }
 
 // The counts of the desks that are named, and no slot at any other one.
-fn closes(rt: &impl Abort, floor: &Floor<'_>, desks: u32, due: &[Closing]) {
+fn closes(rt: &impl Abort, floor: &Floor<'_>, desks: u32, due: &[Closing], end: End) {
+    assert_eq!(rt; (floor.drawn_count(), floor.lent_count()), end);
     let mut sums = (0u64, 0u64, 0u64);
     for closing in due {
         let (a, home, cached, queued) = *closing;
@@ -109,6 +113,7 @@ fn plays(
     digits: Digits,
     rows: &[Row],
     due: &[Closing],
+    end: End,
 )
     requires some { 1 ≤ desks }
     requires few { desks ≤ 2 ^ digits.bits }
@@ -120,7 +125,7 @@ fn plays(
         return;
     };
     ask_all(rt, alloc, &mut floor, rows);
-    closes(rt, &floor, desks, due);
+    closes(rt, &floor, desks, due, end);
 }
 
 // The same for the profile of 64 desks, with digits of so many bits.
@@ -132,6 +137,7 @@ fn plays_pool(
     width: u32,
     rows: &[Row],
     due: &[Closing],
+    end: End,
 )
     requires some { 1 ≤ desks }
     requires few { desks ≤ 64 }
@@ -140,7 +146,7 @@ fn plays_pool(
         assert!(rt; false, "no digits of {width} bits");
         return;
     };
-    plays(rt, alloc, desks, count, digits, rows, due);
+    plays(rt, alloc, desks, count, digits, rows, due, end);
 }
 
 #[test]

@@ -3,6 +3,7 @@ ghost use Rattle.std.specs.Prelude.{◌≡◌, ◌≢◌, ◌<◌, ◌^◌, ◌�
 ghost use Rattle.region_cut.specs.Classes.{classes_of};
 ghost use Rattle.slot_chain.specs.Counts.{capped};
 ghost use Rattle.digit_route.specs.Route.{RouteFault};
+ghost use Rattle.digit_route.specs.Slots.{AddsSlots};
 ghost use Rattle.digit_route.specs.States.{Gives};
 ghost use Rattle.pool_desk.specs.ByClass.{HasClass};
 ghost use Rattle.pool_desk.specs.Desks.{profile_at};
@@ -250,5 +251,26 @@ impl<'r> Desk<'r> {
         }
         slots.truncate(start);
         Err(NoMemory)
+    }
+
+    /// Adds the slots at home alone, as `list_slots` does.
+    pub fn list_home(&self, slots: &mut Vec<Slot>) -> Result<(), NoMemory>
+        ensures ok { OnOk result (Adds (slots_in self.now.home []) slots.old.items slots.new.items) }
+        ensures err { OnErr result (slots.new.items ≡ slots.old.items) }
+    {
+        let before = slots.len();
+        if self.homes.add_slots(slots).is_ok() {
+            return Ok(());
+        }
+        slots.truncate(before);
+        Err(NoMemory)
+    }
+
+    /// Adds the slots in the cache alone, as `list_slots` does.
+    pub fn list_cached(&self, slots: &mut Vec<Slot>) -> Result<(), NoMemory>
+        ensures ok { OnOk result (AddsSlots self.now.cached slots.old.items slots.new.items) }
+        ensures err { OnErr result (slots.new.items ≡ slots.old.items) }
+    {
+        self.cache.list_slots(slots)
     }
 }

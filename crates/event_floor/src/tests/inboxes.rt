@@ -26,7 +26,7 @@ fn batches_are_taken_in_order_of_arrival(rt: HostRuntime) {
         (Request::Alloc(2, 512), slot(0, 1)),
     ];
     let due = [(2, 7, 0, 0)];
-    plays_pool(&rt, rt.alloc(), 3, 1, 2, &rows, &due);
+    plays_pool(&rt, rt.alloc(), 3, 1, 2, &rows, &due, (1, 1));
 }
 
 #[test]
@@ -51,7 +51,7 @@ fn an_unsettled_desk_keeps_its_worker(rt: HostRuntime) {
         (Request::Retire(0), Err(Refusal::Idle)),
     ];
     let due = [(1, 7, 0, 0)];
-    plays_pool(&rt, rt.alloc(), 2, 1, 2, &rows, &due);
+    plays_pool(&rt, rt.alloc(), 2, 1, 2, &rows, &due, (1, 1));
 }
 
 #[test]
@@ -70,7 +70,7 @@ fn a_batch_of_another_is_no_bar(rt: HostRuntime) {
         (Request::Take(1), Ok(Reply::Counts(1, 0))),
     ];
     let due = [(1, 8, 0, 0)];
-    plays_pool(&rt, rt.alloc(), 2, 1, 2, &rows, &due);
+    plays_pool(&rt, rt.alloc(), 2, 1, 2, &rows, &due, (1, 0));
 }
 
 #[test]
@@ -90,5 +90,5 @@ fn a_slot_that_is_not_lent_is_not_freed(rt: HostRuntime) {
         (Request::Free(1, (3, 0)), Err(Refusal::NotLent)),
     ];
     let due = [(1, 7, 0, 1)];
-    plays_pool(&rt, rt.alloc(), 2, 1, 2, &rows, &due);
+    plays_pool(&rt, rt.alloc(), 2, 1, 2, &rows, &due, (1, 0));
 }

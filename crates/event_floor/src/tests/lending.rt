@@ -1,40 +1,24 @@
 //! Claims, allocations and frees.
-use super::{ask, ask_all, chunks, floor_of, slot};
+use super::{ask, ask_all, chunks, closes, floor_of, plays_pool, slot};
 use crate::{Floor, Refusal, Reply, Request};
 use digit_route::Digits;
-use region_cut::cut;
 use std::alloc::Global;
 use std::process::Abort;
 
 #[test]
 fn a_buffer_goes_out_and_home(rt: HostRuntime) {
-    let alloc = rt.alloc();
-    let Ok(mut region) = Vec::from_elem(alloc, 0u8, chunks(1)) else {
-        return;
-    };
-    let Some(mut floor) = floor_of(alloc, &mut region, 1) else {
-        return;
-    };
     let rows = [
         (Request::Adopt(0, 5), Ok(Reply::Done)),
         (Request::Claim(0, 0), Ok(Reply::Chunk(0))),
         (Request::Alloc(0, 16), slot(0, 0)),
         (Request::Free(0, (0, 0)), Ok(Reply::Home)),
     ];
-    ask_all(&rt, alloc, &mut floor, &rows);
-    assert_eq!(rt; floor.drawn_count(), 1);
-    assert_eq!(rt; floor.lent_count(), 0);
+    let due = [(0, 256, 0, 0)];
+    plays_pool(&rt, rt.alloc(), 1, 1, 2, &rows, &due, (1, 0));
 }
 
 #[test]
 fn sizes_choose_classes(rt: HostRuntime) {
-    let alloc = rt.alloc();
-    let Ok(mut region) = Vec::from_elem(alloc, 0u8, chunks(2)) else {
-        return;
-    };
-    let Some(mut floor) = floor_of(alloc, &mut region, 1) else {
-        return;
-    };
     let rows = [
         (Request::Adopt(0, 0), Ok(Reply::Done)),
         (Request::Alloc(0, 0), Err(Refusal::NeedChunk)),
@@ -44,9 +28,8 @@ fn sizes_choose_classes(rt: HostRuntime) {
         (Request::Alloc(0, 512), slot(1, 0)),
         (Request::Alloc(0, 513), Err(Refusal::TooLarge)),
     ];
-    ask_all(&rt, alloc, &mut floor, &rows);
-    assert_eq!(rt; floor.drawn_count(), 2);
-    assert_eq!(rt; floor.lent_count(), 2);
+    let due = [(0, 262, 0, 0)];
+    plays_pool(&rt, rt.alloc(), 1, 2, 2, &rows, &due, (2, 2));
 }
 
 #[test]
@@ -78,13 +61,6 @@ fn a_chunk_has_its_slots_and_no_more(rt: HostRuntime) {
 
 #[test]
 fn refusals_come_in_their_order(rt: HostRuntime) {
-    let alloc = rt.alloc();
-    let Ok(mut region) = Vec::from_elem(alloc, 0u8, chunks(1)) else {
-        return;
-    };
-    let Some(mut floor) = floor_of(alloc, &mut region, 1) else {
-        return;
-    };
     let rows = [
         (Request::Claim(0, 16), Err(Refusal::Idle)),
         (Request::Alloc(0, 513), Err(Refusal::Idle)),
@@ -104,18 +80,12 @@ fn refusals_come_in_their_order(rt: HostRuntime) {
             Err(Refusal::NotLent),
         ),
     ];
-    ask_all(&rt, alloc, &mut floor, &rows);
+    let due = [(0, 8, 0, 0)];
+    plays_pool(&rt, rt.alloc(), 1, 1, 2, &rows, &due, (1, 0));
 }
 
 #[test]
 fn the_last_freed_goes_first(rt: HostRuntime) {
-    let alloc = rt.alloc();
-    let Ok(mut region) = Vec::from_elem(alloc, 0u8, chunks(1)) else {
-        return;
-    };
-    let Some(mut floor) = floor_of(alloc, &mut region, 2) else {
-        return;
-    };
     let rows = [
         (Request::Adopt(1, 7), Ok(Reply::Done)),
         (Request::Claim(1, 15), Ok(Reply::Chunk(0))),
@@ -128,7 +98,8 @@ fn the_last_freed_goes_first(rt: HostRuntime) {
         (Request::Alloc(1, 512), slot(0, 1)),
         (Request::Alloc(1, 512), slot(0, 2)),
     ];
-    ask_all(&rt, alloc, &mut floor, &rows);
+    let due = [(1, 5, 0, 0)];
+    plays_pool(&rt, rt.alloc(), 2, 1, 2, &rows, &due, (1, 3));
 }
 
 // Frees the slots of a chunk from the first to the last, all with the same answer.
@@ -179,30 +150,28 @@ fn a_cache_is_due_above_the_limit(rt: HostRuntime) {
     assert_eq!(rt; floor.lent_count(), 0);
 }
 
+// What is told of a floor whose desk 1 drew chunk 0 for class 2.
+fn tells(rt: &impl Abort, floor: &Floor<'_>) {
+    assert_eq!(rt; floor.limit(), 4096);
+    assert!(rt; Some(floor.digits()) == Digits::new(2));
+    assert_eq!(rt; floor.class_of(0).map_or(99, |class| class.number()), 2);
+    assert!(rt; floor.class_of(1).is_none());
+}
+
 #[test]
 fn counts_and_classes(rt: HostRuntime) {
     let alloc = rt.alloc();
     let Ok(mut region) = Vec::from_elem(alloc, 0u8, chunks(1)) else {
         return;
     };
-    let Ok(parts) = cut(alloc, &mut region) else {
+    let Some(mut floor) = floor_of(alloc, &mut region, 2) else {
         return;
     };
-    let Some(digits) = Digits::new(1) else {
-        return;
-    };
-    let Ok(mut floor) = Floor::new(alloc, parts, 2, digits, 4096) else {
-        return;
-    };
-    assert!(rt; floor.class_of(0).is_none());
-    assert_eq!(rt; floor.limit(), 4096);
-    assert!(rt; floor.digits() == digits);
-    let adopted = floor.apply(alloc, Request::Adopt(1, 3));
-    assert_eq!(rt; adopted, Ok(Reply::Done));
-    let drawn = floor.apply(alloc, Request::Claim(1, 2));
-    assert_eq!(rt; drawn, Ok(Reply::Chunk(0)));
-    assert_eq!(rt; floor.counts(0), (0, 0, 0));
-    assert_eq!(rt; floor.counts(1), (85, 0, 0));
-    assert_eq!(rt; floor.class_of(0).map_or(99, |class| class.number()), 2);
-    assert!(rt; floor.class_of(1).is_none());
+    let rows = [
+        (Request::Adopt(1, 3), Ok(Reply::Done)),
+        (Request::Claim(1, 2), Ok(Reply::Chunk(0))),
+    ];
+    ask_all(&rt, alloc, &mut floor, &rows);
+    tells(&rt, &floor);
+    closes(&rt, &floor, 2, &[(1, 85, 0, 0)], (1, 0));
 }

@@ -24,6 +24,26 @@ fn queued_of(alloc: Global, floor: &Floor<'_>, a: u32) -> Result<Vec<Slot>, NoMe
     }
 }
 
+fn home_of(alloc: Global, floor: &Floor<'_>, a: u32) -> Result<Vec<Slot>, NoMemory> {
+    if a >= floor.desk_count() {
+        return Err(NoMemory);
+    }
+    match floor.home(alloc, a) {
+        Ok(slots) => Ok(slots),
+        Err(_) => floor.home(alloc, a),
+    }
+}
+
+fn cached_of(alloc: Global, floor: &Floor<'_>, a: u32) -> Result<Vec<Slot>, NoMemory> {
+    if a >= floor.desk_count() {
+        return Err(NoMemory);
+    }
+    match floor.cached(alloc, a) {
+        Ok(slots) => Ok(slots),
+        Err(_) => floor.cached(alloc, a),
+    }
+}
+
 fn lists(rt: &impl Abort, slots: Result<Vec<Slot>, NoMemory>, due: &[(u16, u16)]) {
     let Ok(mut slots) = slots else {
         return;
@@ -67,4 +87,33 @@ fn lent_and_queued(rt: HostRuntime) {
     lists(&rt, queued_of(alloc, &floor, 1), &[(0, 0), (0, 2)]);
     lists(&rt, queued_of(alloc, &floor, 0), &[]);
     assert_eq!(rt; floor.lent_count(), 2);
+}
+
+#[test]
+fn home_and_cached(rt: HostRuntime) {
+    let alloc = rt.alloc();
+    let Ok(mut region) = Vec::from_elem(alloc, 0u8, chunks(1)) else {
+        return;
+    };
+    let Some(mut floor) = floor_of(alloc, &mut region, 2) else {
+        return;
+    };
+    let rows: [Row; 7] = [
+        (Request::Adopt(0, 0), Ok(Reply::Done)),
+        (Request::Adopt(1, 1), Ok(Reply::Done)),
+        (Request::Claim(1, 15), Ok(Reply::Chunk(0))),
+        (Request::Alloc(1, 512), slot(0, 0)),
+        (Request::Alloc(1, 512), slot(0, 1)),
+        (Request::Free(0, (0, 1)), Ok(Reply::Cached)),
+        (Request::Retire(1), Ok(Reply::Done)),
+    ];
+    ask_all(&rt, alloc, &mut floor, &rows);
+    lists(&rt, cached_of(alloc, &floor, 0), &[(0, 1)]);
+    lists(&rt, home_of(alloc, &floor, 0), &[]);
+    lists(
+        &rt,
+        home_of(alloc, &floor, 1),
+        &[(0, 2), (0, 3), (0, 4), (0, 5), (0, 6), (0, 7)],
+    );
+    lists(&rt, cached_of(alloc, &floor, 1), &[]);
 }

@@ -27,7 +27,7 @@ fn numbers_of_twelve_bits(rt: HostRuntime) {
         assert!(rt; false, "no digits of 6 bits");
         return;
     };
-    plays(&rt, rt.alloc(), 4096, 8, digits, &rows, &due);
+    plays(&rt, rt.alloc(), 4096, 8, digits, &rows, &due, (2, 0));
 }
 
 #[test]
@@ -47,7 +47,7 @@ fn four_more_classes(rt: HostRuntime) {
         assert!(rt; false, "no digits of 2 bits");
         return;
     };
-    plays(&rt, rt.alloc(), 1, 5, digits, &rows, &due);
+    plays(&rt, rt.alloc(), 1, 5, digits, &rows, &due, (2, 1));
 }
 
 #[test]
@@ -58,5 +58,5 @@ fn they_are_none_of_the_smaller_profile(rt: HostRuntime) {
         (Request::Alloc(0, 513), Err(Refusal::TooLarge)),
     ];
     let due = [];
-    plays_pool(&rt, rt.alloc(), 1, 1, 2, &rows, &due);
+    plays_pool(&rt, rt.alloc(), 1, 1, 2, &rows, &due, (0, 0));
 }

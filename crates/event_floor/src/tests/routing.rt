@@ -32,7 +32,7 @@ fn a_buffer_is_passed_on_digit_by_digit(rt: HostRuntime) {
         (Request::Take(27), Ok(Reply::Counts(1, 0))),
     ];
     let due = [(7, 8, 0, 0), (11, 8, 0, 0), (27, 8, 0, 0)];
-    plays_pool(&rt, rt.alloc(), 64, 8, 2, &rows, &due);
+    plays_pool(&rt, rt.alloc(), 64, 8, 2, &rows, &due, (3, 0));
 }
 
 #[test]
@@ -62,7 +62,7 @@ fn with_one_digit_nothing_is_passed_on(rt: HostRuntime) {
         (Request::Take(27), Ok(Reply::Counts(1, 0))),
     ];
     let due = [(7, 8, 0, 0), (11, 8, 0, 0), (27, 8, 0, 0)];
-    plays_pool(&rt, rt.alloc(), 64, 8, 6, &rows, &due);
+    plays_pool(&rt, rt.alloc(), 64, 8, 6, &rows, &due, (3, 0));
 }
 
 #[test]
@@ -85,7 +85,7 @@ fn two_digits_of_four_bits(rt: HostRuntime) {
         (Request::Take(33), Ok(Reply::Counts(1, 0))),
     ];
     let due = [(17, 256, 0, 0), (33, 256, 0, 0)];
-    plays_pool(&rt, rt.alloc(), 64, 8, 4, &rows, &due);
+    plays_pool(&rt, rt.alloc(), 64, 8, 4, &rows, &due, (2, 0));
 }
 
 #[test]
@@ -103,7 +103,7 @@ fn sends_are_refused_in_their_order(rt: HostRuntime) {
         (Request::Send(3, 0), Err(Refusal::Idle)),
     ];
     let due = [(0, 0, 1, 0), (27, 7, 0, 0)];
-    plays_pool(&rt, rt.alloc(), 64, 8, 2, &rows, &due);
+    plays_pool(&rt, rt.alloc(), 64, 8, 2, &rows, &due, (1, 0));
 }
 
 // The same as one list of requests: the answers are those of the requests one by one.
@@ -150,7 +150,7 @@ fn runs(rt: &impl Abort, alloc: Global, rows: &[Row]) {
         }
     }
     let Ok(answers) = floor.run(alloc, &requests) else {
-        closes(rt, &floor, 64, &[]);
+        closes(rt, &floor, 64, &[], (0, 0));
         return;
     };
     assert_eq!(rt; answers.len(), rows.len());
@@ -167,5 +167,6 @@ fn runs(rt: &impl Abort, alloc: Global, rows: &[Row]) {
         &floor,
         64,
         &[(7, 8, 0, 0), (11, 8, 0, 0), (27, 8, 0, 0)],
+        (3, 0),
     );
 }
