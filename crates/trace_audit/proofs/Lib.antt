@@ -9,6 +9,4 @@ mod Headers
 mod Readings
 pub mod Known
 mod Tallies
-mod Goings
-mod Beginnings
 mod Undrawn
