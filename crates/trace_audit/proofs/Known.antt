@@ -13,7 +13,7 @@ use Rattle.trace_audit.specs.declared.replaying.ending.End.{End}
 use Rattle.trace_audit.specs.declared.replaying.ending.End.TheVariants.{Whole, BadLine, NoRoom}
 
 -- what is left of known bytes is known
-left_of : (bytes : List ℕ) (left : Option (List ℕ)) (given : List ℕ) → Consumes (Some bytes) left given → (rest : List ℕ) × (left ≡ Some rest) × (bytes ≡ given ++ rest)
+pub left_of : (bytes : List ℕ) (left : Option (List ℕ)) (given : List ℕ) → Consumes (Some bytes) left given → (rest : List ℕ) × (left ≡ Some rest) × (bytes ≡ given ++ rest)
 left_of bytes None given h = absurd h
 left_of bytes (Some rest) given h = (rest, refl, h)
 
@@ -70,7 +70,7 @@ reports_lines bytes left h rest now n P end t ends = record {
   wrote = t.wrote;
 }
 
-reports : (bytes : List ℕ) (left : Option (List ℕ)) (P : List ℕ → Type 0) (end : End) → Reports (Some bytes) left P end → ReportsTrace bytes P end
+pub reports : (bytes : List ℕ) (left : Option (List ℕ)) (P : List ℕ → Type 0) (end : End) → Reports (Some bytes) left P end → ReportsTrace bytes P end
 reports bytes left P Whole (inl (h, now, n, rest, t, ends)) = reports_lines bytes left h rest now n P Whole t ends
 reports bytes left P (BadLine k) (inl (h, now, n, rest, t, ends)) = inl (reports_lines bytes left h rest now n P (BadLine k) t ends)
 reports bytes left P NoRoom (inl (h, now, n, rest, t, ends)) = absurd ends

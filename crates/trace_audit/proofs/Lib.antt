@@ -9,4 +9,6 @@ mod Headers
 mod Readings
 pub mod Known
 mod Tallies
+mod Goings
+mod Beginnings
 mod Undrawn

@@ -1,5 +1,5 @@
 -- What a replay reads, how it ends, and what it writes.
-use Rattle.std.specs.Prelude.{ℕ, ◌≡◌, ◌≢◌, ◌⊎◌, ◌+◌, ◌≤◌, List, [], ◌++◌, length, Option, Bool, true, false}
+use Rattle.std.specs.Prelude.{ℕ, ◌≡◌, ◌≢◌, ◌⊎◌, ◌+◌, ◌≤◌, List, [], ◌++◌, length, Option, Some, Bool, true, false, ⊤}
 use Rattle.std.specs.List.{flat_map, AllByRecursion}
 use Rattle.std.specs.Io.KnownBytes.{Appends, Consumes, IsAtEnd}
 use Rattle.event_floor.specs.machine.State.{State}
@@ -101,6 +101,11 @@ Fails left0 left out0 out Read =
 Fails left0 left out0 out Write =
     ((h : Header) × (now : State) × (n : ℕ) × (rest : List ℕ) × Traced left0 left h rest now n [] (Begins out0 out) × (n ≤ 999999))
     ⊎ ((end : End) × Reports left0 left (Begins out0 out) end)
+
+-- Where the reader's bytes are known, what was written before the writer failed is a beginning of the report of all of them.
+abbrev pub IsBegun : Option (List ℕ) → Option (List ℕ) → Option (List ℕ) → ReplayError → Type 0
+IsBegun (Some bytes) out0 out Write = (end : End) × ReportsTrace bytes (Begins out0 out) end
+IsBegun left0 out0 out e = ⊤
 
 -- which of the two failed
 abbrev pub Failures : Bool → Bool → ReplayError → Type 0

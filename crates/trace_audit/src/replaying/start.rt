@@ -3,7 +3,7 @@ ghost use Rattle.std.specs.Prelude.{◌≡◌, ◌≤◌, ◌*◌, ◌↔◌, le
 ghost use Rattle.std.specs.Io.KnownBytes.{Appends};
 ghost use Rattle.trace_audit.specs.Machine.{Opens, digits_of};
 ghost use Rattle.trace_audit.specs.Grammar.{IsHeader};
-ghost use Rattle.trace_audit.specs.Replay.{Failures, Fails, Reports, ReportsTrace};
+ghost use Rattle.trace_audit.specs.Replay.{Failures, Fails, IsBegun, Reports, ReportsTrace};
 ghost use Rattle.trace_audit.specs.Steps.{Houses, FailsHousing};
 
 use super::drive::drive;
@@ -14,7 +14,7 @@ use crate::lines::{Held, Next, next_line};
 use crate::wire::{Sink, Source};
 use digit_route::Digits;
 use event_floor::Floor;
-use event_floor::laws::{floors_tell_counts, runs_keep_numbers};
+use event_floor::laws::{floors_tell_counts, requests_are_answered, runs_keep_numbers};
 use region_cut::{CHUNK, Profile, cut};
 use slot_chain::NoMemory;
 use std::alloc::{AllocError, Global};
@@ -138,7 +138,9 @@ pub fn replay<R: Source, W: Sink>(
     ensures ended { IfOk result (λ end. Reports (R.remaining reader.old) (R.remaining reader.new) (Appends (W.contents writer.old) (W.contents writer.new)) end) }
     ensures down { IfOk result (λ _. (R.has_failed reader.new ≡ false) × (W.has_failed writer.new ≡ false)) }
     ensures failed { IfErr result (λ e. Fails (R.remaining reader.old) (R.remaining reader.new) (W.contents writer.old) (W.contents writer.new) e) }
+    ensures begun { IfErr result (λ e. IsBegun (R.remaining reader.old) (W.contents writer.old) (W.contents writer.new) e) }
     ensures up { IfErr result (λ e. Failures (R.has_failed reader.new) (W.has_failed writer.new) e) }
 {
+    requests_are_answered();
     play(alloc, reader, writer)
 }

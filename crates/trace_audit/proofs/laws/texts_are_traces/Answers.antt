@@ -1,0 +1,5 @@
+use Rattle.trace_audit.proofs.Beginnings.{texts}
+use Rattle.trace_audit.proofs.laws.texts_are_traces.Goals as goal
+
+pub returns : goal.returns
+returns c = texts
