@@ -20,8 +20,6 @@ mod request;
 mod seat;
 mod sending;
 mod telling;
-#[cfg(test)]
-mod tests;
 mod waiting;
 
 pub use floor::Floor;

@@ -1,7 +1,7 @@
 //! The profile of 4,096 desks and 20 classes. In digits of 6 bits desks 65 and 129 are 1,1 and 1,2.
 use super::{plays, plays_pool, slot};
-use crate::{Refusal, Reply, Request};
 use digit_route::Digits;
+use event_floor::{Refusal, Reply, Request};
 
 #[test]
 fn numbers_of_twelve_bits(rt: HostRuntime) {

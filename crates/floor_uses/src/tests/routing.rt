@@ -1,7 +1,7 @@
 //! Which way batches go. Desks 0, 7, 11 and 27 are read in digits of 2 bits as 0,0,0, 3,1,0, 3,2,0 and 3,2,1, the least digit
 //! first; in digits of 4 bits desks 17 and 33 are 1,1 and 1,2.
 use super::{Row, chunks, closes, floor_of, plays_pool, slot};
-use crate::{Refusal, Reply, Request};
+use event_floor::{Refusal, Reply, Request};
 use std::alloc::Global;
 use std::process::Abort;
 

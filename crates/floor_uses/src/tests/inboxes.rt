@@ -1,6 +1,6 @@
 //! Batches that wait, and desks that are left and taken up again.
 use super::{plays_pool, slot};
-use crate::{Refusal, Reply, Request};
+use event_floor::{Refusal, Reply, Request};
 
 #[test]
 fn batches_are_taken_in_order_of_arrival(rt: HostRuntime) {

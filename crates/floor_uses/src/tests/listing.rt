@@ -1,6 +1,6 @@
 //! The lists of slots.
 use super::{Row, ask_all, chunks, floor_of, slot};
-use crate::{Floor, Reply, Request};
+use event_floor::{Floor, Reply, Request};
 use region_cut::Slot;
 use slot_chain::NoMemory;
 use std::alloc::Global;

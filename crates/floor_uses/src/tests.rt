@@ -2,9 +2,10 @@
 //! known from outside. Class 0 has 256 slots of 16 bytes, class 2 has 85 of 48, class 15 has 8 of 512.
 ghost use Rattle.std.specs.Prelude.{◌≤◌, ◌^◌};
 
-use crate::{Floor, Refusal, Reply, Request};
+use crate::{ask, open};
 use digit_route::Digits;
-use region_cut::{Slot, cut};
+use event_floor::{Floor, Refusal, Reply, Request};
+use region_cut::Slot;
 use std::alloc::Global;
 use std::process::Abort;
 
@@ -30,25 +31,6 @@ fn chunks(count: usize) -> usize {
     count.saturating_mul(4096)
 }
 
-// None where there was no memory.
-fn floor_with<'r>(
-    alloc: Global,
-    region: &'r mut [u8],
-    desks: u32,
-    digits: Digits,
-) -> Option<Floor<'r>>
-    requires some { 1 ≤ desks }
-    requires few { desks ≤ 2 ^ digits.bits }
-{
-    let Ok(parts) = cut(alloc, region) else {
-        return None;
-    };
-    let Ok(floor) = Floor::new(alloc, parts, desks, digits, 4096) else {
-        return None;
-    };
-    Some(floor)
-}
-
 // A floor of at most 64 desks, whose numbers are read in digits of 2 bits.
 fn floor_of<'r>(alloc: Global, region: &'r mut [u8], desks: u32) -> Option<Floor<'r>>
     requires some { 1 ≤ desks }
@@ -57,16 +39,7 @@ fn floor_of<'r>(alloc: Global, region: &'r mut [u8], desks: u32) -> Option<Floor
     let Some(digits) = Digits::new(2) else {
         return None;
     };
-    floor_with(alloc, region, desks, digits)
-}
-
-// After a want of memory the next try has the answer that was due.
-fn ask(alloc: Global, floor: &mut Floor<'_>, request: Request) -> Result<Reply, Refusal> {
-    let answer = floor.apply(alloc, request);
-    if answer == Err(Refusal::NoMemory) {
-        return floor.apply(alloc, request);
-    }
-    answer
+    open(alloc, region, desks, digits)
 }
 
 fn ask_all(rt: &impl Abort, alloc: Global, floor: &mut Floor<'_>, rows: &[Row]) {
@@ -121,7 +94,7 @@ fn plays(
     let Ok(mut region) = Vec::from_elem(alloc, 0u8, chunks(count)) else {
         return;
     };
-    let Some(mut floor) = floor_with(alloc, &mut region, desks, digits) else {
+    let Some(mut floor) = open(alloc, &mut region, desks, digits) else {
         return;
     };
     ask_all(rt, alloc, &mut floor, rows);

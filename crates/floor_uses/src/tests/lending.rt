@@ -1,7 +1,8 @@
 //! Claims, allocations and frees.
-use super::{ask, ask_all, chunks, closes, floor_of, plays_pool, slot};
-use crate::{Floor, Refusal, Reply, Request};
+use super::{ask_all, chunks, closes, floor_of, plays_pool, slot};
+use crate::ask;
 use digit_route::Digits;
+use event_floor::{Floor, Refusal, Reply, Request};
 use std::alloc::Global;
 use std::process::Abort;
 

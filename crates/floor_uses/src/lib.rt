@@ -1,0 +1,12 @@
+//! Callers of `event_floor`: what they learn from its contracts, and the tests that play worked runs on a floor.
+//!
+//! The pool itself calls nothing of this crate.
+#![tactic(auto)]
+
+mod asking;
+mod opening;
+#[cfg(test)]
+mod tests;
+
+pub use asking::ask;
+pub use opening::open;
