@@ -51,6 +51,38 @@ pub fn passing_on()
         (Free 0 (2, 0), Ok Cached) ∷ (Send 0 7, Ok (Batch 1 3)) ∷ (Link 1, Ok Done) ∷ (Take 7, Ok (Counts 3 0)) ∷ []) }
 {}
 
+/// With one digit of 6 bits each owner has a batch of its own, and nothing is passed on.
+pub fn one_digit()
+    ensures answers { Gives (pool 64 8 6) (
+        (Adopt 0 0, Ok Done) ∷ (Adopt 7 1, Ok Done) ∷ (Adopt 11 2, Ok Done) ∷ (Adopt 27 3, Ok Done) ∷
+        (Claim 7 15, Ok (Chunk 0)) ∷ (Claim 11 15, Ok (Chunk 1)) ∷ (Claim 27 15, Ok (Chunk 2)) ∷
+        (Alloc 7 512, Ok (Lent (slot_at (0, 0)))) ∷ (Alloc 11 512, Ok (Lent (slot_at (1, 0)))) ∷
+        (Alloc 27 512, Ok (Lent (slot_at (2, 0)))) ∷ (Free 0 (0, 0), Ok Cached) ∷ (Free 0 (1, 0), Ok Cached) ∷
+        (Free 0 (2, 0), Ok Cached) ∷ (Send 0 7, Ok (Batch 1 1)) ∷ (Link 1, Ok Done) ∷ (Take 7, Ok (Counts 1 0)) ∷
+        (Send 0 11, Ok (Batch 2 1)) ∷ (Link 2, Ok Done) ∷ (Take 11, Ok (Counts 1 0)) ∷ (Send 0 27, Ok (Batch 3 1)) ∷
+        (Link 3, Ok Done) ∷ (Take 27, Ok (Counts 1 0)) ∷ []) }
+    ensures never { NeverGives (pool 64 8 6) (
+        (Adopt 0 0, Ok Done) ∷ (Adopt 7 1, Ok Done) ∷ (Adopt 11 2, Ok Done) ∷ (Adopt 27 3, Ok Done) ∷
+        (Claim 7 15, Ok (Chunk 0)) ∷ (Claim 11 15, Ok (Chunk 1)) ∷ (Claim 27 15, Ok (Chunk 2)) ∷
+        (Alloc 7 512, Ok (Lent (slot_at (0, 0)))) ∷ (Alloc 11 512, Ok (Lent (slot_at (1, 0)))) ∷
+        (Alloc 27 512, Ok (Lent (slot_at (2, 0)))) ∷ (Free 0 (0, 0), Ok Cached) ∷ (Free 0 (1, 0), Ok Cached) ∷
+        (Free 0 (2, 0), Ok Cached) ∷ (Send 0 7, Ok (Batch 1 3)) ∷ []) }
+{}
+
+/// Digits of 4 bits: 17 and 33 share the first, so one batch goes to 17, and half of it on to 33.
+pub fn two_digits()
+    ensures answers { Gives (pool 64 8 4) (
+        (Adopt 0 0, Ok Done) ∷ (Adopt 17 1, Ok Done) ∷ (Adopt 33 2, Ok Done) ∷ (Claim 17 0, Ok (Chunk 0)) ∷
+        (Claim 33 0, Ok (Chunk 1)) ∷ (Alloc 17 1, Ok (Lent (slot_at (0, 0)))) ∷ (Alloc 33 1, Ok (Lent (slot_at (1, 0)))) ∷
+        (Free 0 (0, 0), Ok Cached) ∷ (Free 0 (1, 0), Ok Cached) ∷ (Send 0 17, Ok (Batch 1 2)) ∷ (Link 1, Ok Done) ∷
+        (Take 17, Ok (Counts 1 1)) ∷ (Send 17 33, Ok (Batch 2 1)) ∷ (Link 2, Ok Done) ∷ (Take 33, Ok (Counts 1 0)) ∷ []) }
+    ensures never { NeverGives (pool 64 8 4) (
+        (Adopt 0 0, Ok Done) ∷ (Adopt 17 1, Ok Done) ∷ (Adopt 33 2, Ok Done) ∷ (Claim 17 0, Ok (Chunk 0)) ∷
+        (Claim 33 0, Ok (Chunk 1)) ∷ (Alloc 17 1, Ok (Lent (slot_at (0, 0)))) ∷ (Alloc 33 1, Ok (Lent (slot_at (1, 0)))) ∷
+        (Free 0 (0, 0), Ok Cached) ∷ (Free 0 (1, 0), Ok Cached) ∷ (Send 0 17, Ok (Batch 1 2)) ∷ (Link 1, Ok Done) ∷
+        (Take 17, Ok (Counts 2 0)) ∷ []) }
+{}
+
 /// What stands against a send.
 pub fn sends()
     ensures answers { Gives (pool 64 8 2) (
@@ -103,10 +135,14 @@ pub fn frees()
 
 /// An inbox waits while its desk is idle, and its adopter takes what is there.
 pub fn adopting()
-    ensures { Gives (pool 2 1 2) (
+    ensures answers { Gives (pool 2 1 2) (
         (Adopt 0 0, Ok Done) ∷ (Adopt 1 1, Ok Done) ∷ (Claim 1 15, Ok (Chunk 0)) ∷ (Alloc 1 512, Ok (Lent (slot_at (0, 0)))) ∷
         (Free 0 (0, 0), Ok Cached) ∷ (Send 0 1, Ok (Batch 1 1)) ∷ (Retire 1, Ok Done) ∷ (Link 1, Ok Done) ∷
         (Retire 0, Ok Done) ∷ (Adopt 1 2, Ok Done) ∷ (Take 1, Ok (Counts 1 0)) ∷ []) }
+    ensures never { NeverGives (pool 2 1 2) (
+        (Adopt 0 0, Ok Done) ∷ (Adopt 1 1, Ok Done) ∷ (Claim 1 15, Ok (Chunk 0)) ∷ (Alloc 1 512, Ok (Lent (slot_at (0, 0)))) ∷
+        (Free 0 (0, 0), Ok Cached) ∷ (Send 0 1, Ok (Batch 1 1)) ∷ (Retire 1, Ok Done) ∷ (Link 1, Ok Done) ∷
+        (Retire 0, Ok Done) ∷ (Adopt 1 2, Ok Done) ∷ (Take 1, Err Nothing) ∷ []) }
 {}
 
 /// Eight slots of 512 bytes fill a cache of 4,096 bytes, and the ninth makes it due.
@@ -132,18 +168,33 @@ pub fn a_due_cache()
 
 /// Numbers of 12 bits in two digits: 65 and 129 share the first.
 pub fn passing_on_in_pool2()
-    ensures { Gives (pool2 4096 8 6) (
+    ensures answers { Gives (pool2 4096 8 6) (
         (Adopt 0 0, Ok Done) ∷ (Adopt 65 1, Ok Done) ∷ (Adopt 129 2, Ok Done) ∷ (Claim 65 19, Ok (Chunk 0)) ∷
         (Claim 129 16, Ok (Chunk 1)) ∷ (Alloc 65 1024, Ok (Lent (slot_at (0, 0)))) ∷
         (Alloc 129 513, Ok (Lent (slot_at (1, 0)))) ∷ (Free 0 (0, 0), Ok Cached) ∷ (Free 0 (1, 0), Ok Cached) ∷
         (Send 0 65, Ok (Batch 1 2)) ∷ (Link 1, Ok Done) ∷ (Take 65, Ok (Counts 1 1)) ∷ (Send 65 129, Ok (Batch 2 1)) ∷
         (Link 2, Ok Done) ∷ (Take 129, Ok (Counts 1 0)) ∷ []) }
+    ensures never { NeverGives (pool2 4096 8 6) (
+        (Adopt 0 0, Ok Done) ∷ (Adopt 65 1, Ok Done) ∷ (Adopt 129 2, Ok Done) ∷ (Claim 65 19, Ok (Chunk 0)) ∷
+        (Claim 129 16, Ok (Chunk 1)) ∷ (Alloc 65 1024, Ok (Lent (slot_at (0, 0)))) ∷
+        (Alloc 129 513, Ok (Lent (slot_at (1, 0)))) ∷ (Free 0 (0, 0), Ok Cached) ∷ (Free 0 (1, 0), Ok Cached) ∷
+        (Send 0 65, Ok (Batch 1 1)) ∷ []) }
 {}
 
 /// The second profile has classes 0 to 19, of up to 1,024 bytes.
 pub fn classes_of_pool2()
-    ensures { Gives (pool2 1 5 2) (
+    ensures answers { Gives (pool2 1 5 2) (
         (Adopt 0 0, Ok Done) ∷ (Claim 0 17, Ok (Chunk 0)) ∷ (Claim 0 18, Ok (Chunk 1)) ∷ (Claim 0 20, Err BadClass) ∷
         (Alloc 0 1024, Err NeedChunk) ∷ (Alloc 0 768, Ok (Lent (slot_at (0, 0)))) ∷ (Alloc 0 897, Err NeedChunk) ∷
         (Alloc 0 1025, Err TooLarge) ∷ []) }
+    ensures never { NeverGives (pool2 1 5 2) (
+        (Adopt 0 0, Ok Done) ∷ (Claim 0 17, Err BadClass) ∷ []) }
+{}
+
+/// The first profile has none of these classes.
+pub fn classes_of_pool()
+    ensures answers { Gives (pool 1 1 2) (
+        (Adopt 0 0, Ok Done) ∷ (Claim 0 16, Err BadClass) ∷ (Alloc 0 513, Err TooLarge) ∷ []) }
+    ensures never { NeverGives (pool 1 1 2) (
+        (Adopt 0 0, Ok Done) ∷ (Claim 0 16, Ok (Chunk 0)) ∷ []) }
 {}
