@@ -1,5 +1,7 @@
 pub mod ChunkLaws
 pub mod FloorLaws
+pub mod HalfLaws
+pub mod IndexLaws
 pub mod ListLaws
 pub mod PostLaws
 pub mod RiseLaws

@@ -1,23 +1,13 @@
 -- The batches that wait in an inbox.
-use Rattle.std.proofs.Common.{◌≡◌, ℕ, ◌<◌, List, [], ◌∷◌, get_or, sym, ◌∙◌, subst, arith, All}
-use Rattle.std.specs.Prelude.{Option}
+use Rattle.std.proofs.Common.{◌≡◌, ℕ, ◌<◌, List, [], ◌∷◌, sym, ◌∙◌, subst, All}
 use Rattle.std.proofs.lemmas.List.Elements.{All-append, All-cons, All-nil}
-use Rattle.slot_chain.specs.Buffer.{Buffer}
 use Rattle.digit_route.specs.Digits.{Scheme}
 use Rattle.digit_route.specs.States.{BatchState}
 use Rattle.pool_desk.specs.Desks.{DeskState}
-use Rattle.event_floor.specs.declared.seat.Seat.{Seat}
 use Rattle.event_floor.specs.declared.seat.Seat.TheVariants.{Held}
 use Rattle.event_floor.specs.Posted.{Posted, SendsInto, LeavesFront, sent_as}
-use Rattle.event_floor.specs.Floors.{IsKnown, IsSeated, IsPostedTo, IsFloorOf}
-use Rattle.event_floor.proofs.FloorLaws.{inbox_read}
+use Rattle.event_floor.specs.Floors.{IsKnown, IsSeated, IsPostedTo}
 use Rattle.event_floor.proofs.SeatLaws.{batch_known, head_of, tail_of}
-
--- what is known of an inbox that was read
-pub posted_read : {n : ℕ} {digits : Scheme} {limit chunks : ℕ} {desks : List Seat} {lent : List (Option Buffer)} {inboxes : List (List Posted)} {next : ℕ} (b : ℕ) (x : List Posted)
-    → IsFloorOf n digits limit chunks desks lent inboxes next → b < n → x ≡ get_or inboxes b x → All (IsPostedTo digits n chunks next b) x
-posted_read {n} {digits} {limit} {chunks} {desks} {lent} {inboxes} {next} b x f l read =
-    subst (λ z. All (IsPostedTo digits n chunks next b) z) (inbox_read inboxes b x (let e = f.boxes in omega (arith, l, e)) read) (f.posted b l)
 
 -- a desk's batch comes to those that wait
 pub sent_posted : (digits : Scheme) (limit n chunks next a t number count : ℕ) (d d' : DeskState) (old new : List Posted) → All (IsPostedTo digits n chunks next t) old

@@ -1,5 +1,5 @@
 -- What the calls of the parts of a floor come to, in the words of its steps.
-use Rattle.std.proofs.Common.{◌≡◌, ℕ, ◌+◌, ◌<◌, ◌≤◌, List, [], ◌∷◌, ◌++◌, length, refl, sym, ◌∙◌, subst, set, get_or}
+use Rattle.std.proofs.Common.{◌≡◌, ℕ, ◌+◌, ◌<◌, ◌≤◌, List, [], ◌∷◌, ◌++◌, length, refl, sym, ◌∙◌, subst}
 use Rattle.std.specs.Prelude.{Option, Some, None}
 use Rattle.region_cut.specs.declared.part.Part.{Part}
 use Rattle.slot_chain.specs.Buffer.{Buffer}
@@ -14,13 +14,12 @@ use Rattle.pool_desk.specs.declared.counts.Counts.{Counts}
 use Rattle.event_floor.specs.declared.seat.Seat.TheVariants.{Held}
 use Rattle.event_floor.specs.Chunks.{ChunksSeen}
 use Rattle.event_floor.specs.Seats.{IsNumbered}
-use Rattle.event_floor.specs.Posted.{Posted, SendsInto, LeavesFront, IsHalfAt, inbox_at, as_linked, no_batch}
+use Rattle.event_floor.specs.Posted.{Posted, SendsInto, LeavesFront, inbox_at}
 use Rattle.event_floor.specs.Floors.{FloorSeen, IsHeld, with_desk, with_inbox, last_number}
-use Rattle.event_floor.specs.Steps.{Refuses, DrawsChunk, SendsBatch, LinksBatch, TakesFront, Routes, class_limit}
+use Rattle.event_floor.specs.Steps.{Refuses, DrawsChunk, SendsBatch, TakesFront, Routes, class_limit}
 use Rattle.event_floor.specs.Answers.{route_refusal}
 use Rattle.event_floor.specs.declared.request.Request.TheVariants.{Send}
 use Rattle.event_floor.specs.declared.refusal.Refusal.{Refusal}
-use Rattle.event_floor.proofs.FloorLaws.{inbox_read}
 
 pub draws_chunk : (v : FloorSeen) (a class k n : ℕ) (d d' : DeskState) (p : Part) (old new : ChunksSeen)
     → IsHeld v a d → n ≡ class → class < class_limit v → v.chunks ≡ old.count → v.drawn ≡ old.drawn
@@ -76,12 +75,6 @@ refuses_for v a t d NotAnOwner r = (d, r)
 pub send_refused : (v : FloorSeen) (a t : ℕ) (d : DeskState) (fault : RouteError) (refusal : Refusal) → Routes v a t d (Some fault) → refusal ≡ route_refusal fault
     → Refuses v (Send a t) refusal
 send_refused v a t d fault refusal r is = subst (λ (z : Refusal). Refuses v (Send a t) z) (sym is) (refuses_for v a t d fault r)
-
-pub links_batch : (v : FloorSeen) (number b k : ℕ) (x y : List Posted) → IsHalfAt v.inboxes number b k → x ≡ get_or v.inboxes b x
-    → y ≡ set x k (as_linked (get_or x k no_batch)) → LinksBatch v number (with_inbox v b y)
-links_batch v number b k x y half read is =
-    let same : inbox_at v.inboxes b ≡ x = inbox_read v.inboxes b x half.0 read in
-    record { inbox = b; place = k; half = half; same = rw (is, same) refl }
 
 pub takes_front : (v : FloorSeen) (b : ℕ) (d d' : DeskState) (batch : BatchState) (x rest : List Posted) (counts : Counts) → IsHeld v b d → inbox_at v.inboxes b ≡ x
     → LeavesFront batch x rest → Handles d batch.items d' → Counted d.number batch.items counts

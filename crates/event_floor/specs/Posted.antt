@@ -1,5 +1,5 @@
 -- The batches that wait in the inboxes.
-use Rattle.std.specs.Prelude.{ℕ, ◌≡◌, ◌<◌, Bool, true, false, List, [], ◌∷◌, ◌++◌, length, slice_index_or, All, Any}
+use Rattle.std.specs.Prelude.{ℕ, ◌≡◌, ◌<◌, Bool, true, false, List, [], ◌∷◌, ◌++◌, length, slice_index_or, slice_set, All, Any}
 use Rattle.std.specs.List.{flat_map, AllPairs}
 use Rattle.slot_chain.specs.Buffer.{Buffer}
 use Rattle.digit_route.specs.Digits.{Scheme}
@@ -81,3 +81,22 @@ pub record LeavesFront (b : BatchState) (old new : List Posted) : Type 0 where
   pub address : b.address ≡ front.address
   pub digits : b.digits ≡ front.digits
   pub items : b.items ≡ front.buffers
+
+-- the same of the inboxes of all desks: the batch waits in that of t, and the others stay
+pub record SendsTo (before : DeskState) (t number count : ℕ) (old : List (List Posted)) (after : DeskState) (new : List (List Posted)) : Type 0 where
+  pub inbox : List Posted
+  pub sends : SendsInto before t number count (inbox_at old t) after inbox
+  pub same : new ≡ slice_set old t inbox
+
+-- and the front left the inbox of b
+pub record TakesFrom (batch : BatchState) (b : ℕ) (old new : List (List Posted)) : Type 0 where
+  pub rest : List Posted
+  pub leaves : LeavesFront batch (inbox_at old b) rest
+  pub same : new ≡ slice_set old b rest
+
+-- the batch of this number, which still had to be linked, is linked
+pub record LinksHalf (number : ℕ) (old new : List (List Posted)) : Type 0 where
+  pub inbox : ℕ
+  pub place : ℕ
+  pub half : IsHalfAt old number inbox place
+  pub same : new ≡ slice_set old inbox (slice_set (inbox_at old inbox) place (as_linked (slice_index_or (inbox_at old inbox) place no_batch)))

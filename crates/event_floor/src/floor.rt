@@ -68,9 +68,10 @@ impl<'r> Floor<'r> {
         Ok(Floor { lists })
     }
 
-    /// Does what is asked, or refuses and changes nothing. Only `Alloc` and `Send` take memory. `Retire` looks through the waiting
-    /// batches, and `Link` looks into each inbox. `Send` goes over the buffers of the cache, and `Take` over those of its batch. All
-    /// other requests take constant time.
+    /// Does what is asked, or refuses and changes nothing. Only `Alloc` and `Send` take memory. `Send` goes over the buffers of the
+    /// cache, and copies an inbox or the index of the batches that still have to be linked where that grows. `Take` goes over the
+    /// buffers of its batch. `Link` looks the number up by its hash, and then takes a time that grows with the logarithm of how many
+    /// batches wait in that inbox. All other requests take constant time.
     pub fn apply(&mut self, alloc: Global, request: Request) -> Result<Reply, Refusal>
         ensures applies { Applies self.old request result self.new }
         ensures does { IfOk result (λ reply. Does self.old request reply self.new) }

@@ -4,7 +4,6 @@ ghost use Rattle.event_floor.specs.Floors.{desk_count};
 ghost use Rattle.event_floor.specs.Steps.{Does, Refuses};
 ghost use Rattle.event_floor.specs.declared.request.Request.TheVariants.{Adopt, Retire};
 
-use crate::inboxes::any_half_of;
 use crate::lists::Lists;
 use crate::seat::{Seat, hold, release};
 use crate::{Refusal, Reply};
@@ -40,7 +39,7 @@ impl<'r> Lists<'r> {
         if let Seat::Idle(_) = &self.desks[place] {
             return Err(Refusal::Idle);
         }
-        if any_half_of(&self.inboxes, a) {
+        if self.inboxes.has_half_of(a) {
             return Err(Refusal::Unsettled);
         }
         if release(&mut self.desks[place], self.digits) {

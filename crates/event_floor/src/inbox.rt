@@ -1,9 +1,9 @@
 //! A desk's inbox.
-ghost use Rattle.std.specs.Prelude.{◌≡◌, ◌<◌, ◌≤◌, ℕ, ◌∷◌, [], length, slice_index_or, slice_set, All, Any, IfOk, OnErr, None, MatchOption, MatchBool, IsPermutation, map};
+ghost use Rattle.std.specs.Prelude.{◌≡◌, ◌<◌, ◌≤◌, ℕ, ◌∷◌, [], length, slice_index_or, slice_set, All, IfOk, OnErr, None, MatchOption, IsPermutation, map};
 ghost use Rattle.slot_chain.specs.Counts.{capped};
 ghost use Rattle.digit_route.specs.Route.{RouteFault};
 ghost use Rattle.digit_route.specs.Slots.{slot_of};
-ghost use Rattle.event_floor.specs.Posted.{Posted, as_linked, no_batch, IsHalf, IsHalfOf, NumbersRise, buffers_in, HasNoFront, LeavesFront, SendsInto};
+ghost use Rattle.event_floor.specs.Posted.{Posted, as_linked, no_batch, IsHalf, NumbersRise, buffers_in, HasNoFront, LeavesFront, SendsInto};
 
 use crate::waiting::Waiting;
 use digit_route::Batch;
@@ -54,27 +54,16 @@ impl<'r> Inbox<'r> {
     /// The place of the batch of this number, where it waits here and still has to be linked. The numbers rise along the inbox, so it
     /// takes a time that grows with the logarithm of how many wait.
     pub(crate) fn find_half(&self, number: u32) -> Option<usize>
-        ensures { MatchOption result
+        ensures found { MatchOption result
             (All (λ (p : Posted). IsHalf number p → ⊥) self.now)
             (λ i. (i < length self.now) × IsHalf number (slice_index_or self.now i no_batch)) }
+        ensures rising { NumbersRise self.now }
     {
         let place = self.place_of(number);
         if place < self.batches.len() && self.batches[place].is_half(number) {
             return Some(place);
         }
         None
-    }
-
-    /// Whether a batch of this sender waits here and still has to be linked.
-    pub(crate) fn has_half_of(&self, sender: u32) -> bool
-        ensures { MatchBool result (Any (IsHalfOf sender) self.now) (All (λ (p : Posted). IsHalfOf sender p → ⊥) self.now) }
-    {
-        for i in 0..self.batches.len() {
-            if self.batches[i].is_half_of(sender) {
-                return true;
-            }
-        }
-        false
     }
 
     /// Links the batch at this place.

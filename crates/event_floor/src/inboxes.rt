@@ -1,49 +1,123 @@
 //! The inboxes of all desks.
-ghost use Rattle.std.specs.Prelude.{◌≡◌, ◌<◌, [], length, replicate, slice_index_or, IfOk, MatchOption, MatchBool};
-ghost use Rattle.event_floor.specs.Posted.{IsHalf, IsHalfOf, IsHalfAt, SomePosted, NonePosted};
+ghost use Rattle.std.specs.Prelude.{◌≡◌, ◌<◌, ℕ, [], length, replicate, map, All, IfOk, OnErr, None, MatchOption, MatchBool, IsPermutation};
+ghost use Rattle.slot_chain.specs.Counts.{capped};
+ghost use Rattle.digit_route.specs.Route.{RouteFault};
+ghost use Rattle.digit_route.specs.Slots.{slot_of};
+ghost use Rattle.event_floor.specs.Posted.{Posted, inbox_at, buffers_in, IsHalf, IsHalfOf, SomePosted, NonePosted, HasNoFront, SendsTo, TakesFrom, LinksHalf};
 
+use crate::halves::{Half, Halves};
 use crate::inbox::Inbox;
+use digit_route::Batch;
+use pool_desk::Desk;
+use region_cut::Slot;
 use slot_chain::NoMemory;
 use std::alloc::Global;
+use std::marker::Model;
 
-/// Where a batch waits: in the inbox of which desk, and at which place there.
-#[derive(Clone, Copy)]
-pub(crate) struct Place {
-    pub(crate) inbox: usize,
-    pub(crate) place: usize,
+/// The inbox of each desk, with an index of the batches that still have to be linked.
+#[derive(Drop)]
+pub(crate) struct Inboxes<'r> {
+    inboxes: Vec<Inbox<'r>>,
+    halves: Halves,
 }
 
-/// So many inboxes with no batch.
-pub(crate) fn empty_inboxes<'r>(alloc: Global, count: u32) -> Result<Vec<Inbox<'r>>, NoMemory>
-    ensures { IfOk result (λ inboxes. inboxes.items ≡ replicate count []) }
-{
-    let mut inboxes = Vec::with_capacity(alloc, count as usize)?;
-    for _inbox in 0..count {
-        inboxes.push_reserved(Inbox::new(alloc));
+impl<'r> Model for Inboxes<'r> {
+    ghost use Rattle.std.specs.Prelude.{List};
+    ghost use Rattle.event_floor.specs.Posted.{Posted};
+    ghost use Rattle.event_floor.specs.Halves.{IsIndexOf};
+
+    ghost Value = { List (List Posted) };
+
+    ghost view = { λ i. i.inboxes.items };
+
+    ghost invariant = { λ i. IsIndexOf i.inboxes.items i.halves };
+}
+
+impl<'r> Inboxes<'r> {
+    /// So many inboxes with no batch.
+    pub(crate) fn new(alloc: Global, count: u32) -> Result<Inboxes<'r>, NoMemory>
+        ensures { IfOk result (λ inboxes. inboxes ≡ replicate count []) }
+    {
+        let mut inboxes = Vec::with_capacity(alloc, count as usize)?;
+        for _inbox in 0..count {
+            inboxes.push_reserved(Inbox::new(alloc));
+        }
+        let halves = Halves::new(alloc, count)?;
+        Ok(Inboxes { inboxes, halves })
     }
-    Ok(inboxes)
-}
 
-/// Where the batch of this number waits, if it still has to be linked.
-pub(crate) fn find_half(inboxes: &[Inbox<'_>], number: u32) -> Option<Place>
-    ensures { MatchOption result (NonePosted (IsHalf number) inboxes.now) (λ p. IsHalfAt inboxes.now number p.inbox p.place) }
-{
-    for i in 0..inboxes.len() {
-        if let Some(place) = inboxes[i].find_half(number) {
-            return Some(Place { inbox: i, place });
+    /// Takes out of the desk's cache all that goes to `t`, and puts it behind all that waits in the inbox of `t`, as a batch of this
+    /// number. A refusal changes nothing.
+    pub(crate) fn send(&mut self, desk: &mut Desk<'r>, t: u16, number: u32) -> Result<u64, NoMemory>
+        requires routes { RouteFault desk.old.digits desk.old.number t desk.old.cached None }
+        requires sender { desk.old.number < length self.old }
+        requires there { t < length self.old }
+        requires later { (b : ℕ) → b < length self.old → All (λ (p : Posted). p.number < number) (inbox_at self.old b) }
+        ensures sends { IfOk result (λ count. SendsTo desk.old t number count self.old desk.new self.new) }
+        ensures refused { OnErr result (self.new ≡ self.old) }
+        ensures refused_desk { OnErr result (desk.new ≡ desk.old) }
+    {
+        let half = Half {
+            sender: desk.number() as u32,
+            inbox: t as u32,
+        };
+        self.halves.add(number, half)?;
+        match self.inboxes[t as usize].send(desk, t, number) {
+            Ok(count) => Ok(count),
+            Err(refused) => {
+                self.halves.remove(number);
+                Err(refused)
+            }
         }
     }
-    None
-}
 
-/// Whether a batch of this sender still has to be linked.
-pub(crate) fn any_half_of(inboxes: &[Inbox<'_>], sender: u32) -> bool
-    ensures { MatchBool result (SomePosted (IsHalfOf sender) inboxes.now) (NonePosted (IsHalfOf sender) inboxes.now) }
-{
-    for i in 0..inboxes.len() {
-        if inboxes[i].has_half_of(sender) {
-            return true;
+    /// Links the batch of this number, where it still has to be linked. The index tells the inbox, so it takes a time that grows with the
+    /// logarithm of how many wait there.
+    pub(crate) fn link(&mut self, number: u32) -> bool
+        ensures { MatchBool result (LinksHalf number self.old self.new) (NonePosted (IsHalf number) self.old × (self.new ≡ self.old)) }
+    {
+        let Some(half) = self.halves.remove(number) else {
+            return false;
+        };
+        let inbox = &mut self.inboxes[half.inbox as usize];
+        match inbox.find_half(number) {
+            Some(place) => {
+                inbox.link(place);
+                true
+            }
+            None => unreachable!(),
         }
     }
-    false
+
+    /// Whether a batch of this sender still has to be linked.
+    pub(crate) fn has_half_of(&self, sender: u32) -> bool
+        requires { sender < length self.now }
+        ensures { MatchBool result (SomePosted (IsHalfOf sender) self.now) (NonePosted (IsHalfOf sender) self.now) }
+    {
+        self.halves.has_sender(sender)
+    }
+
+    /// Takes the front of the inbox of `b`, or None where there is none or it still has to be linked.
+    pub(crate) fn take(&mut self, b: usize) -> Option<Batch<'r>>
+        requires { b < length self.old }
+        ensures { MatchOption result (HasNoFront (inbox_at self.old b) × (self.new ≡ self.old)) (λ batch. TakesFrom batch b self.old self.new) }
+    {
+        self.inboxes[b].take()
+    }
+
+    /// How many buffers wait in the inbox of `b`, by a walk.
+    pub(crate) fn count(&self, b: usize) -> u64
+        requires { b < length self.now }
+        ensures { result ≡ capped (length (buffers_in (inbox_at self.now b))) }
+    {
+        self.inboxes[b].count()
+    }
+
+    /// The slots of the buffers that wait in the inbox of `b`.
+    pub(crate) fn slots(&self, alloc: Global, b: usize) -> Result<Vec<Slot>, NoMemory>
+        requires { b < length self.now }
+        ensures { IfOk result (λ slots. IsPermutation (map slot_of (buffers_in (inbox_at self.now b))) slots.items) }
+    {
+        self.inboxes[b].slots(alloc)
+    }
 }

@@ -6,6 +6,7 @@
 
 mod chunks;
 mod floor;
+mod halves;
 mod holding;
 mod inbox;
 mod inboxes;

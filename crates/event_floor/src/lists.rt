@@ -5,8 +5,7 @@ ghost use Rattle.event_floor.specs.Floors.{desk_count, opening, IsFloor};
 ghost use Rattle.event_floor.specs.Steps.{Does, Refuses};
 
 use crate::chunks::Chunks;
-use crate::inbox::Inbox;
-use crate::inboxes::empty_inboxes;
+use crate::inboxes::Inboxes;
 use crate::lent::Lent;
 use crate::seat::{Seat, empty_seats};
 use crate::{Refusal, Reply, Request};
@@ -24,7 +23,7 @@ pub(crate) struct Lists<'r> {
     pub(crate) desks: Vec<Seat<'r>>,
     pub(crate) chunks: Chunks<'r>,
     pub(crate) lent: Lent<'r>,
-    pub(crate) inboxes: Vec<Inbox<'r>>,
+    pub(crate) inboxes: Inboxes<'r>,
     pub(crate) next: u64,
 }
 
@@ -40,11 +39,11 @@ impl<'r> Model for Lists<'r> {
       drawn = f.chunks.drawn;
       desks = f.desks.items;
       lent = f.lent;
-      inboxes = f.inboxes.items;
+      inboxes = f.inboxes;
       next = f.next;
     } };
 
-    ghost invariant = { λ f. IsFloor f.digits f.limit f.chunks.count f.desks.items f.lent f.inboxes.items f.next };
+    ghost invariant = { λ f. IsFloor f.digits f.limit f.chunks.count f.desks.items f.lent f.inboxes f.next };
 }
 
 impl<'r> Lists<'r> {
@@ -65,7 +64,7 @@ impl<'r> Lists<'r> {
         let _profile = digits.profile();
         let lent = Lent::new(alloc, parts.len())?;
         let chunks = Chunks::new(alloc, parts)?;
-        let inboxes = empty_inboxes(alloc, desks)?;
+        let inboxes = Inboxes::new(alloc, desks)?;
         let desks = empty_seats(alloc, desks, digits, limit)?;
         Ok(Lists {
             digits,

@@ -4,7 +4,6 @@ ghost use Rattle.event_floor.specs.Floors.{desk_count};
 ghost use Rattle.event_floor.specs.Steps.{Does, Refuses};
 ghost use Rattle.event_floor.specs.declared.request.Request.TheVariants.{Send, Link, Take};
 
-use crate::inboxes::find_half;
 use crate::lists::Lists;
 use crate::seat::Seat;
 use crate::{Refusal, Reply};
@@ -33,7 +32,7 @@ impl<'r> Lists<'r> {
             return Err(Refusal::Spent);
         }
         let number = self.next as u32;
-        match self.inboxes[t as usize].send(desk, t as u16, number) {
+        match self.inboxes.send(desk, t as u16, number) {
             Ok(count) => {
                 self.next += 1;
                 Ok(Reply::Batch(number, count))
@@ -48,12 +47,10 @@ impl<'r> Lists<'r> {
         ensures unchanged { OnErr result (self.new ≡ self.old) }
         ensures desks { desk_count self.new ≡ desk_count self.old }
     {
-        match find_half(&self.inboxes, number) {
-            Some(found) => {
-                self.inboxes[found.inbox].link(found.place);
-                Ok(Reply::Done)
-            }
-            None => Err(Refusal::NoBatch),
+        if self.inboxes.link(number) {
+            Ok(Reply::Done)
+        } else {
+            Err(Refusal::NoBatch)
         }
     }
 
@@ -70,7 +67,7 @@ impl<'r> Lists<'r> {
         let Seat::Held(desk) = &mut self.desks[place] else {
             return Err(Refusal::Idle);
         };
-        let Some(batch) = self.inboxes[place].take() else {
+        let Some(batch) = self.inboxes.take(place) else {
             return Err(Refusal::Nothing);
         };
         let counts = desk.handle(batch);

@@ -26,7 +26,7 @@ impl<'r> Lists<'r> {
         ensures cached { result.1 ≡ capped (length (cached_of (desk_at self.now a))) }
         ensures queued { result.2 ≡ capped (length (buffers_in (inbox_at self.now.inboxes a))) }
     {
-        let queued = self.inboxes[a as usize].count();
+        let queued = self.inboxes.count(a as usize);
         match &self.desks[a as usize] {
             Seat::Idle(desk) => {
                 let (home, cached) = desk.counts();
@@ -60,7 +60,7 @@ impl<'r> Lists<'r> {
         requires { a < desk_count self.now }
         ensures { IfOk result (λ slots. IsPermutation (map slot_of (buffers_in (inbox_at self.now.inboxes a))) slots.items) }
     {
-        self.inboxes[a as usize].slots(alloc)
+        self.inboxes.slots(alloc, a as usize)
     }
 
     /// The slots of the lent buffers, in order. Takes time in the number of slots.

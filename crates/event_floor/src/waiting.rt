@@ -2,7 +2,7 @@
 ghost use Rattle.std.specs.Prelude.{◌≡◌, ◌↔◌, IsTrue, OnOk, length};
 ghost use Rattle.slot_chain.specs.Counts.{capped};
 ghost use Rattle.digit_route.specs.Slots.{AddsSlots};
-ghost use Rattle.event_floor.specs.Posted.{sent_as, as_linked, IsHalf, IsHalfOf};
+ghost use Rattle.event_floor.specs.Posted.{sent_as, as_linked, IsHalf};
 
 use digit_route::Batch;
 use region_cut::Slot;
@@ -56,13 +56,6 @@ impl<'r> Waiting<'r> {
         ensures { IsTrue result ↔ IsHalf number self.now }
     {
         self.number == number && !self.linked
-    }
-
-    /// Whether this desk sent it and it still has to be linked.
-    pub(crate) fn is_half_of(&self, sender: u32) -> bool
-        ensures { IsTrue result ↔ IsHalfOf sender self.now }
-    {
-        self.batch.sender() as u32 == sender && !self.linked
     }
 
     /// Links it.

@@ -4,8 +4,8 @@ use Rattle.event_floor.proofs.RiseLaws.{none_half, not_half}
 use Rattle.event_floor.proofs.inbox.Inbox.find_half.Goals.{else-place-len-via-then-place-len+else-is_half, else-place-len-via-else-place-len}
 use Rattle.event_floor.proofs.inbox.Inbox.find_half.Goals as goal
 
-pub returns : goal.returns
-returns c =
+pub returns-clause-found : goal.returns-clause-found
+returns-clause-found c =
     let i = c.place_of-place.result in
     let ps = c.self.inside.batches.items in
     let other : (d : Posted) → i < length ps → IsHalf c.args.number (get_or ps i d) → ⊥ = elim c.else-place-len.branch [

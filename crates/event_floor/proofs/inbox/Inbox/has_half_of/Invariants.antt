@@ -1,6 +1,0 @@
-use Rattle.std.proofs.Common.{ℕ, ◌<◌, get_or}
-use Rattle.event_floor.specs.Posted.{Posted, IsHalfOf}
-use Rattle.event_floor.proofs.inbox.Inbox.has_half_of.Given as goal
-
-abbrev pub invariant-loop-i : goal.invariant-loop-i
-invariant-loop-i l = (k : ℕ) (d : Posted) → k < l.i → IsHalfOf l.sender (get_or l.self-inside.batches.items k d) → ⊥
