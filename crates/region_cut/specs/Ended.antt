@@ -45,6 +45,11 @@ pub record EndingsState : Type 0 where
 abbrev pub HasKnownSlots : List Ended → Carved → Type 0
 HasKnownSlots all c = All (IsKnown all) c.taken
 
+-- What is known of a slice stays, whatever is learned later.
+abbrev pub KnownEndsStay : Type 0
+KnownEndsStay =
+    (new old : List Ended) → Agrees old → Agrees (new ++ old) → (x : GName) → IsKnown old x → IsKnown (new ++ old) x × (end_in (new ++ old) x ≡ end_in old x)
+
 -- each of these slices ends so
 unfoldable pub all_end_so : List Ended → Fml
 all_end_so [] = ftrue

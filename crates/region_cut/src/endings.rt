@@ -51,6 +51,14 @@ impl<'r> Endings<'r> {
         }
     }
 
+    /// No slice ends in two ways: what was noted of a slice when it was let go is what is known of
+    /// its name.
+    pub fn agree(&self)
+        ensures { Agrees self.now.known }
+    {
+        let _known = &self.known;
+    }
+
     /// Lets go a slice: of a buffer, a part, or the region itself. All that was lent of it was let
     /// go before.
     pub fn close(&mut self, front: Front<'r>)
