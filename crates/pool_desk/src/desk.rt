@@ -290,3 +290,14 @@ impl<'r> Desk<'r> {
         homes.end(endings);
     }
 }
+
+// Lets go the buffers of a cache.
+fn end_cache<'r>(cache: Cache<'r>, endings: &mut Endings<'r>)
+    ensures chunks { endings.new ≡ record endings.old { known = endings.new.known } }
+    ensures known { IsPermutation (map ended_of cache.entry.items ++ endings.old.known) endings.new.known }
+{
+    let mut cache = cache;
+    while let Some(batch) = cache.next_batch() {
+        batch.into_chain().end(endings);
+    }
+}
