@@ -85,7 +85,8 @@ set_other : (old : List (List Posted)) (b : ℕ) (ps : List Posted) (n s c : ℕ
 set_other old b ps n s c ne (l, h) =
     ((let e = length-set old b ps in omega (arith, l, e)), subst (λ z. HasHalf z n s) (sym (get_or-set_other old b c ps [] ne)) h)
 
-set_cases : (old : List (List Posted)) (b : ℕ) (ps : List Posted) (n s c : ℕ) → b < length old → WaitsHalf (set old b ps) n s c → ((c ≡ b) × HasHalf ps n s) ⊎ ((c ≢ b) × WaitsHalf old n s c)
+set_cases : (old : List (List Posted)) (b : ℕ) (ps : List Posted) (n s c : ℕ) → b < length old → WaitsHalf (set old b ps) n s c
+    → ((c ≡ b) × HasHalf ps n s) ⊎ ((c ≢ b) × WaitsHalf old n s c)
 set_cases old b ps n s c l (m, h) =
     ⊎_elim (λ (same : (eqb c b ≡ true) × (c ≡ b)).
     inl (same.1, subst (λ z. HasHalf z n s) (get_or-set_same old b ps [] l) (subst (λ z. HasHalf (inbox_at (set old b ps) z) n s) same.1 h)))
@@ -143,7 +144,8 @@ index_sent old v w t number sender p index l is_number is_sender half absent des
       waits = λ n h found.
           ⊎_elim (λ (same : (eqb number n ≡ true) × (number ≡ n)).
           let e : Entry sender t ≡ h = some_is (Entry sender t) h (sym (now n same.0) ∙ found) in
-          let last : HasHalf (ps ++ p ∷ []) n sender = subst (λ z. HasHalf (ps ++ p ∷ []) n z) is_sender (subst (λ z. HasHalf (ps ++ p ∷ []) z p.sender) (is_number ∙ same.1) (pushed_here ps p half)) in
+          let last : HasHalf (ps ++ p ∷ []) n sender = subst (λ z. HasHalf (ps ++ p ∷ []) n z) is_sender
+          (subst (λ z. HasHalf (ps ++ p ∷ []) z p.sender) (is_number ∙ same.1) (pushed_here ps p half)) in
           subst (λ (z : Half). WaitsHalf (set old t (ps ++ p ∷ [])) n z.sender z.inbox) e (here n sender last))
           (λ (other : (eqb number n ≡ false) × (number ≢ n)).
           let u = index.waits n h (sym (still n other.0) ∙ found) in
@@ -185,7 +187,8 @@ index_refused old v w u number h index absent desks desks' added removed =
     ⊎_elim (λ (same : (eqb number n ≡ true) × (number ≡ n)).
     removed n ∙ (ap (λ z. cond z None (half_of w n)) same.0 ∙ sym (ap (λ z. cond z None (half_of v n)) same.0)))
     (λ (other : (eqb number n ≡ false) × (number ≢ n)).
-    removed n ∙ (ap (λ z. cond z None (half_of w n)) other.0 ∙ (added n ∙ (ap (λ z. cond z (Some h) (half_of v n)) other.0 ∙ sym (ap (λ z. cond z None (half_of v n)) other.0))))) (eqb_tells number n))
+    removed n ∙ (ap (λ z. cond z None (half_of w n)) other.0 ∙ (added n ∙
+    (ap (λ z. cond z (Some h) (half_of v n)) other.0 ∙ sym (ap (λ z. cond z None (half_of v n)) other.0))))) (eqb_tells number n))
 
 -- a number above all is not there
 pub absent_above : (old : List (List Posted)) (v : HalvesSeen) (number : ℕ) (o : Option Half) → IsIndexOf old v
@@ -230,7 +233,8 @@ index_linked old v w b k number index rise l m half desks becomes =
 -- ---- what the index tells
 
 -- a batch that still has to be linked is known by its number, from any stand-in
-half_known : (old : List (List Posted)) (v : HalvesSeen) (b k number : ℕ) (d : Posted) → IsIndexOf old v → b < length old → k < length (inbox_at old b) → IsHalf number (get_or (inbox_at old b) k d)
+half_known : (old : List (List Posted)) (v : HalvesSeen) (b k number : ℕ) (d : Posted) → IsIndexOf old v → b < length old → k < length (inbox_at old b)
+    → IsHalf number (get_or (inbox_at old b) k d)
     → half_of v number ≡ Some (Entry (get_or (inbox_at old b) k d).sender b)
 half_known old v b k number d index l m half =
     let e : get_or (inbox_at old b) k d ≡ batch_at (inbox_at old b) k = get_or_default (inbox_at old b) k d no_batch m in

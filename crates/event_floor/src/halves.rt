@@ -56,7 +56,8 @@ impl Halves {
         ensures adds { OnOk result ((n : ℕ) → half_of self.new n ≡ (if nat_eq number n then Some half else half_of self.old n)) }
         ensures refused { OnErr result (self.new ≡ self.old) }
     {
-        let _few = self.by_number.len();
+        // no desk sent more of them than there are, so its count has room for one more
+        let _count = self.by_number.len();
         self.by_number.insert(number, half)?;
         self.by_sender[half.sender as usize] += 1;
         Ok(())

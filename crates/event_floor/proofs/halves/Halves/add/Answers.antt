@@ -12,8 +12,8 @@ overflow_add-index_mut c =
     let there : c.args.half.sender < length c.self.inside.by_sender.items = subst (λ (z : HalvesSeen). c.args.half.sender < z.desks) (sym c.self.view_is) c.requires.sender in
     let is = counted_read c.self.inside.by_sender.items c.self.inside.by_number.entries c.args.half.sender c.index_mut.result.now c.self.invariant there c.index_mut.ensures.value in
     let few = sent_within c.args.half.sender c.self.inside.by_number.entries in
-    let len = c.len-few.ensures.len in
-    let small = c.len-few.ensures.small in
+    let len = c.len-count.ensures.len in
+    let small = c.len-count.ensures.small in
     omega (arith, is, few, len, small)
 
 pub invariant_of-self-2 : goal.invariant_of-self-2
@@ -21,5 +21,7 @@ invariant_of-self-2 c =
     let there : c.args.half.sender < length c.self.inside.by_sender.items = subst (λ (z : HalvesSeen). c.args.half.sender < z.desks) (sym c.self.view_is) c.requires.sender in
     let absent : lookup (nat_eq c.args.number) c.self.inside.by_number.entries ≡ None = subst (λ (z : HalvesSeen). half_of z c.args.number ≡ None) (sym c.self.view_is) c.requires.absent in
     let puts : IsPermutation ((c.args.number, c.args.half) ∷ c.self.inside.by_number.entries) c.insert.new.self.entries =
-    subst (λ (z : Option Half). PutsEntry nat_eq c.self.inside.by_number c.insert.new.self c.args.number c.args.half z) (c.in_ok-insert.ensures.old ∙ absent) c.in_ok-insert.ensures.entries in
-    added_counted _ c.self.inside.by_number.entries _ c.args.number c.args.half _ c.self.invariant there c.index_mut.ensures.value puts c.in_ok-insert.ensures.unique c.in_ok-insert.ensures.updates.0
+    subst (λ (z : Option Half). PutsEntry nat_eq c.self.inside.by_number c.insert.new.self c.args.number c.args.half z)
+    (c.in_ok-insert.ensures.old ∙ absent) c.in_ok-insert.ensures.entries in
+    added_counted _ c.self.inside.by_number.entries _ c.args.number c.args.half _ c.self.invariant there c.index_mut.ensures.value puts
+    c.in_ok-insert.ensures.unique c.in_ok-insert.ensures.updates.0

@@ -34,4 +34,5 @@ invariant_of-self-in-Err c =
     let stays : set c.self.inside.inboxes.items c.args.t c.send.new.self ≡ c.self.inside.inboxes.items =
     ap (set c.self.inside.inboxes.items c.args.t) (c.in-Err.ensures.refused ∙ sym same) ∙ set-get_or c.self.inside.inboxes.items c.args.t [] in
     subst (λ z. IsIndexOf z c.remove.new.self) (sym stays)
-    (index_refused _ c.self.inside.halves c.add.new.self _ c.args.number _ c.self.invariant absent c.add.ensures.desks c.remove.ensures.desks c.in_ok-add.ensures.adds c.remove.ensures.removes)
+    (index_refused _ c.self.inside.halves c.add.new.self _ c.args.number _ c.self.invariant absent c.add.ensures.desks c.remove.ensures.desks
+    c.in_ok-add.ensures.adds c.remove.ensures.removes)
