@@ -1,9 +1,11 @@
 //! The chunks of a region: those that are drawn, and the parts of those that aren't.
 ghost use Rattle.std.specs.Prelude.{◌≡◌, ◌<◌, ◌∷◌, ◌++◌, [], length, IfOk, MatchOption};
-ghost use Rattle.std.specs.Prelude.{option_map, slice_get};
+ghost use Rattle.std.specs.Prelude.{Some, map, option_map, slice_get};
 ghost use Rattle.event_floor.specs.Chunks.{AreNumbered, class_drawn};
+ghost use Rattle.region_cut.specs.Parts.{name_of};
 ghost use Rattle.region_cut.specs.declared.part.Part.{Part};
 
+use crate::part_names::{PartNames, names_of};
 use region_cut::{Class, Part};
 use slot_chain::NoMemory;
 use std::alloc::Global;
@@ -22,18 +24,18 @@ pub(crate) struct Chunks<'r> {
     // the least number is last
     undrawn: Vec<Part<'r>>,
     drawn: Vec<Drawn>,
+    names: PartNames,
 }
 
 impl<'r> Model for Chunks<'r> {
-    ghost use Rattle.std.specs.Prelude.{◌≡◌, ◌+◌, ◌≤◌, length, map, vec_capacity};
-    ghost use Rattle.region_cut.specs.Parts.{number_of};
-    ghost use Rattle.event_floor.specs.Chunks.{ChunksSeen, stacked};
+    ghost use Rattle.std.specs.Prelude.{◌+◌, ◌≤◌, length, vec_capacity};
+    ghost use Rattle.event_floor.specs.Chunks.{ChunksSeen, AreUndrawn};
 
     ghost Value = { ChunksSeen };
 
-    ghost view = { λ c. record { count = length c.drawn.items + length c.undrawn.items; drawn = c.drawn.items } };
+    ghost view = { λ c. record { parts = c.names.all; drawn = c.drawn.items } };
 
-    ghost invariant = { λ c. (map number_of c.undrawn.items ≡ stacked (length c.drawn.items) (length c.undrawn.items))
+    ghost invariant = { λ c. AreUndrawn (length c.drawn.items) c.names.all c.undrawn.items
         × (length c.drawn.items + length c.undrawn.items ≤ vec_capacity c.drawn) };
 }
 
@@ -41,19 +43,24 @@ impl<'r> Chunks<'r> {
     /// The chunks of these parts, none of them drawn.
     pub(crate) fn new(alloc: Global, parts: Vec<Part<'r>>) -> Result<Chunks<'r>, NoMemory>
         requires { AreNumbered parts.items }
-        ensures { IfOk result (λ c. c ≡ record { count = length parts.entry.items; drawn = [] }) }
+        ensures { IfOk result (λ c. c ≡ record { parts = map name_of parts.entry.items; drawn = [] }) }
     {
         let drawn = Vec::with_capacity(alloc, parts.len())?;
+        let names = names_of(&parts);
         let mut undrawn = parts;
         undrawn.reverse();
-        Ok(Chunks { undrawn, drawn })
+        Ok(Chunks {
+            undrawn,
+            drawn,
+            names,
+        })
     }
 
     /// Draws the undrawn chunk with the least number. Takes no memory.
     pub(crate) fn draw(&mut self, owner: u32, class: Class) -> Option<Part<'r>>
         ensures { MatchOption result
-            ((length self.old.drawn ≡ self.old.count) × (self.new ≡ self.old))
-            (λ (p : Part). (p.chunk ≡ length self.old.drawn) × (length self.old.drawn < self.old.count)
+            ((length self.old.drawn ≡ length self.old.parts) × (self.new ≡ self.old))
+            (λ (p : Part). (p.chunk ≡ length self.old.drawn) × (slice_get self.old.parts p.chunk ≡ Some (name_of p)) × (length self.old.drawn < length self.old.parts)
             × (self.new ≡ record self.old { drawn = self.old.drawn ++ record { owner = owner; class = class } ∷ [] })) }
     {
         let part = self.undrawn.pop()?;

@@ -1,5 +1,6 @@
 //! The floor.
 ghost use Rattle.std.specs.Prelude.{◌≡◌, ◌<◌, ◌≤◌, ◌^◌, length, map, is_some, count_by, IfOk, IfErr, OnErr, IsPermutation};
+ghost use Rattle.region_cut.specs.Parts.{name_of};
 ghost use Rattle.slot_chain.specs.Counts.{capped};
 ghost use Rattle.digit_route.specs.Slots.{slot_of};
 ghost use Rattle.pool_desk.specs.Homes.{slot_at};
@@ -59,7 +60,7 @@ impl<'r> Floor<'r> {
         requires few { desks ≤ 2 ^ digits.bits }
         requires limit { limit ≤ 1048576 }
         requires parts { AreNumbered parts.items }
-        ensures opening { IfOk result (λ f. f ≡ opening desks (length parts.entry.items) digits limit) }
+        ensures opening { IfOk result (λ f. f ≡ opening desks (map name_of parts.entry.items) digits limit) }
         ensures shows { IfOk result (λ f. Shown (listing_of f) (machine_opening desks (length parts.entry.items) digits limit) (λ slot. 0)) }
     {
         let _profile = digits.profile();
@@ -77,6 +78,7 @@ impl<'r> Floor<'r> {
         ensures refuses { IfErr result (λ refusal. Refuses self.old request refusal) }
         ensures unchanged { OnErr result (self.new ≡ self.old) }
         ensures desks { desk_count self.new ≡ desk_count self.old }
+        ensures parts { self.new.parts ≡ self.old.parts }
     {
         let answer = self.lists.apply(alloc, request);
         self.lists.keeps();
@@ -95,6 +97,7 @@ impl<'r> Floor<'r> {
         ensures runs { IfOk result (λ answers. Runs self.old requests.now answers.items self.new) }
         ensures unchanged { OnErr result (self.new ≡ self.old) }
         ensures desks { desk_count self.new ≡ desk_count self.old }
+        ensures parts { self.new.parts ≡ self.old.parts }
     {
         self.keeps();
         let mut answers = Vec::with_capacity(alloc, requests.len())?;

@@ -14,6 +14,7 @@ mod lending;
 mod lent;
 mod lists;
 pub mod naming;
+mod part_names;
 mod refusal;
 mod reply;
 mod request;

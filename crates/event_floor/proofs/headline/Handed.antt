@@ -7,13 +7,13 @@ use Rattle.std.proofs.lemmas.List.Elements.{All-cons, All-head, All-tail}
 use Rattle.std.proofs.lemmas.List.Sorted.{All-permutation, IsPermutation-sym}
 use Rattle.region_cut.specs.declared.slot.Slot.{Slot}
 use Rattle.region_cut.specs.Carved.{Carved}
+use Rattle.region_cut.specs.Classes.{slots_of}
 use Rattle.slot_chain.specs.Buffer.{Buffer}
 use Rattle.pool_desk.specs.Homes.{AtHome, Unused, slot_at, Gives, Names, TakesNext, taken_next}
 use Rattle.pool_desk.specs.Homes.AtHome.{Kept, Fresh}
 use Rattle.pool_desk.specs.Desks.{DeskState}
 use Rattle.event_floor.specs.declared.chunks.Drawn.{Drawn}
 use Rattle.event_floor.specs.declared.seat.Seat.TheVariants.{Held}
-use Rattle.event_floor.specs.Chunks.{class_drawn}
 use Rattle.event_floor.specs.Lent.{place_of}
 use Rattle.event_floor.specs.Posted.{Posted, inbox_at}
 use Rattle.event_floor.specs.Seats.{home_of, cached_of}
@@ -23,7 +23,7 @@ use Rattle.event_floor.specs.machine.Slots.{one_if}
 use Rattle.event_floor.specs.machine.State.{State}
 use Rattle.event_floor.specs.machine.Listing.{Shown}
 use Rattle.event_floor.specs.headline.Listing.{listing_of}
-use Rattle.event_floor.specs.headline.Names.{HasName, HasNoName, IsNamedHome, IsNamedDesk, AreNames, chunks_of, drew, is_drawn_for}
+use Rattle.event_floor.specs.headline.Names.{HasName, HasNoName, IsNamedHome, IsNamedChunk, IsNamedDesk, AreNames, chunks_of, drew, is_drawn_for}
 use Rattle.event_floor.proofs.machine.Enumerate.{count_cons}
 use Rattle.event_floor.proofs.headline.Named.{held_named, changed_named, desk_named, each_place}
 use Rattle.event_floor.proofs.headline.Taken.{get_pushed, get_last, get_set_same, get_set_other, some_is, count_zero, All-to, some_to, same_eqb, other_eqb, eqb_is, eqb_same, chunk_count, chunk_permuted}
@@ -105,9 +105,10 @@ module _ (names : List Carved) (v w : FloorSeen) (a n : ℕ) (slot : Slot) (f : 
           class = ap (λ (c : Carved). c.class) (sym q) ∙ h.class;
           part = ap (λ (c : Carved). c.whole) (sym q) ∙ h.part;
           place = omega (arith, low, apart_index, more, at);
+          within = h.within;
         } in r)
         (λ (other : _ × (x.slot.chunk ≢ chunk)).
-        let r : HasNoName new_names x = record { chunk = h.chunk; is_chunk = get_set_other names chunk x.slot.chunk taken other.1 ∙ h.is_chunk; class = h.class; part = h.part; place = h.place } in r)
+        let r : HasNoName new_names x = record { chunk = h.chunk; is_chunk = get_set_other names chunk x.slot.chunk taken other.1 ∙ h.is_chunk; class = h.class; part = h.part; place = h.place; within = h.within } in r)
         (eqb_tells x.slot.chunk chunk)
 
     kept_home : (x : AtHome) → slot_at x ≢ u.slot → IsNamedHome names x → IsNamedHome new_names x
@@ -159,14 +160,25 @@ module _ (names : List Carved) (v w : FloorSeen) (a n : ℕ) (slot : Slot) (f : 
               ∙ (sym (count_cons (λ (c : Carved). c.chunk == j) t.from t.others) ∙ (chunk_permuted j s.before.drawn (t.from ∷ t.others) t.before ∙ h.once j)));
         }
 
-    lent_chunks : (j : ℕ) (c : Carved) → slice_get new_names j ≡ Some c → (c.chunk ≡ j) × (class_drawn v.drawn j ≡ Some c.class)
+    taken_few : length taken.taken ≤ slots_of taken.class
+    taken_few =
+        let all = All-permutation (IsNamedHome names) _ _ p lender_named.home in
+        let h : HasNoName names u = All-head (IsNamedHome names) (Fresh u) s.after.home all in
+        let low : u.slot.index < slots_of t.from.class = subst (λ c. u.slot.index < slots_of c) (sym t.class_is) h.within in
+        let more = length_push t.from.taken buffer.bytes.ghost_name in
+        let at = t.place in
+        omega (arith, low, more, at)
+
+    taken_chunk : IsNamedChunk v.parts v.drawn chunk taken
+    taken_chunk =
+        let k = f.chunks chunk t.from at_chunk in
+        record { number = t.chunk; class = k.class; part = k.part; few = taken_few }
+
+    lent_chunks : (j : ℕ) (c : Carved) → slice_get new_names j ≡ Some c → IsNamedChunk v.parts v.drawn j c
     lent_chunks j c e = ⊎_elim
         (λ (same : _ × (j ≡ chunk)).
         let q : taken ≡ c = some_is taken c (sym now_there ∙ (ap (slice_get new_names) (sym same.1) ∙ e)) in
-        let k = f.chunks chunk t.from at_chunk in (
-          ap (λ (x : Carved). x.chunk) (sym q) ∙ (t.chunk ∙ sym same.1),
-          ap (class_drawn v.drawn) same.1 ∙ (k.1 ∙ ap (λ (x : Carved). Some x.class) q),
-        ))
+        subst (IsNamedChunk v.parts v.drawn j) q (subst (λ i. IsNamedChunk v.parts v.drawn i taken) (sym same.1) taken_chunk))
         (λ (other : _ × (j ≢ chunk)). f.chunks j c (sym (get_set_other names chunk j taken other.1) ∙ e)) (eqb_tells j chunk)
 
     each_lending : (b : ℕ) → b < length (set v.desks a (Held s.after)) → IsNamedDesk new_names v.drawn b (get_or (set v.desks a (Held s.after)) b no_desk)
