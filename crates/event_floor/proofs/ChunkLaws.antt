@@ -5,7 +5,7 @@ use Rattle.std.specs.List.{slice_get}
 use Rattle.std.proofs.lemmas.Option.{slice_get-get_or}
 use Rattle.std.proofs.lemmas.List.{reverse-append, map-append, length-map, length-reverse, length_push}
 use Rattle.region_cut.specs.declared.part.Part.{Part}
-use Rattle.region_cut.specs.Parts.{number_of, name_of, numbers_from}
+use Rattle.region_cut.specs.Parts.{number_of, name_of, bytes_of, numbers_from}
 use Rattle.event_floor.specs.Chunks.{AreNumbered, AreUndrawn, stacked}
 
 reverse_cons : {X : Type 0} (x : X) (xs : List X) → reverse (x ∷ xs) ≡ reverse xs ++ x ∷ []
@@ -35,7 +35,17 @@ turned_stacked : (ps : List Part) → AreNumbered ps → map number_of (reverse 
 turned_stacked ps h =
     map-reverse number_of ps ∙ (ap reverse h.2 ∙ (reverse-numbers_from 0 h.0 ∙ ap (stacked 0) (sym (numbered_length ps h))))
 
+reverse-reverse : {X : Type 0} (xs : List X) → reverse (reverse xs) ≡ xs
+reverse-reverse [] = refl
+reverse-reverse (x ∷ xs) = ap reverse (reverse_cons x xs) ∙ (reverse-append (reverse xs) (x ∷ []) ∙ ap (λ z. x ∷ z) (reverse-reverse xs))
+
 -- the parts of a cut, turned
+pub turned_bytes : (ps : List Part) → reverse (map bytes_of (reverse ps)) ≡ map bytes_of ps
+turned_bytes ps = ap reverse (map-reverse bytes_of ps) ∙ reverse-reverse (map bytes_of ps)
+
+pub last_bytes : (rest : List Part) (p : Part) → reverse (map bytes_of (rest ++ p ∷ [])) ≡ bytes_of p ∷ reverse (map bytes_of rest)
+last_bytes rest p = ap reverse (map-append bytes_of rest (p ∷ [])) ∙ reverse-append (map bytes_of rest) (bytes_of p ∷ [])
+
 pub none_drawn : (ps : List Part) → AreNumbered ps → AreUndrawn 0 (map name_of ps) (reverse ps)
 none_drawn ps h = record {
   count = let e : length (map name_of ps) ≡ length (reverse ps) = length-map ps name_of ∙ sym (length-reverse ps) in omega (arith, e);

@@ -5,10 +5,12 @@ use Rattle.region_cut.specs.declared.part.Part.{Part}
 use Rattle.region_cut.specs.Parts.{number_of, name_of, numbers_from}
 use Rattle.event_floor.specs.declared.chunks.Drawn.{Drawn}
 
--- the names of the parts of all chunks, and those chunks that are drawn, both in the order of their numbers
+-- the names of the parts of all chunks, the chunks that are drawn, and the bytes of the parts of the others, all in the order of
+-- their numbers
 pub record ChunksSeen : Type 0 where
   pub parts : List GName
   pub drawn : List Drawn
+  pub undrawn : List (List ℕ)
 
 -- the parts are numbered from 0, at most 1,024 of them, as a cut gives them
 abbrev pub AreNumbered : List Part → Type 0

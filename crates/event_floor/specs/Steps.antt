@@ -3,7 +3,7 @@ use Rattle.std.specs.Prelude.{ℕ, ◌≡◌, ◌≢◌, ◌<◌, ◌≤◌, ◌
 use Rattle.region_cut.specs.declared.part.Part.{Part}
 use Rattle.region_cut.specs.declared.slot.Slot.{Slot}
 use Rattle.region_cut.specs.Classes.{classes_of, largest_of}
-use Rattle.region_cut.specs.Parts.{name_of}
+use Rattle.region_cut.specs.Parts.{name_of, bytes_of}
 use Rattle.slot_chain.specs.Buffer.{Buffer}
 use Rattle.slot_chain.specs.Counts.{capped}
 use Rattle.digit_route.specs.Route.{RouteFault}
@@ -111,8 +111,9 @@ pub record DrawsChunk (old : FloorSeen) (a class chunk : ℕ) (new : FloorSeen) 
   pub undrawn : chunk < old.chunks
   pub is_part : part.chunk ≡ chunk
   pub has_name : slice_get old.parts chunk ≡ Some (name_of part)
+  pub first : old.undrawn ≡ bytes_of part ∷ new.undrawn
   pub claims : Claims before part class after
-  pub same : new ≡ record (with_desk old a after) { drawn = old.drawn ++ record { owner = a; class = class } ∷ [] }
+  pub same : new ≡ record (with_desk old a after) { drawn = old.drawn ++ record { owner = a; class = class } ∷ []; undrawn = new.undrawn }
 
 -- the desk gave out the buffer of a slot at home, and it lies in its place in the table
 pub record LendsSlot (old : FloorSeen) (a size : ℕ) (slot : Slot) (new : FloorSeen) : Type 0 where

@@ -2,7 +2,7 @@
 ghost use Rattle.std.specs.Prelude.{◌≡◌, ◌<◌, ◌∷◌, ◌++◌, [], length, IfOk, MatchOption};
 ghost use Rattle.std.specs.Prelude.{Some, map, option_map, slice_get};
 ghost use Rattle.event_floor.specs.Chunks.{AreNumbered, class_drawn};
-ghost use Rattle.region_cut.specs.Parts.{name_of};
+ghost use Rattle.region_cut.specs.Parts.{name_of, bytes_of};
 ghost use Rattle.region_cut.specs.declared.part.Part.{Part};
 
 use crate::part_names::{PartNames, names_of};
@@ -28,12 +28,13 @@ pub(crate) struct Chunks<'r> {
 }
 
 impl<'r> Model for Chunks<'r> {
-    ghost use Rattle.std.specs.Prelude.{◌+◌, ◌≤◌, length, vec_capacity};
+    ghost use Rattle.std.specs.Prelude.{◌+◌, ◌≤◌, length, map, reverse, vec_capacity};
+    ghost use Rattle.region_cut.specs.Parts.{bytes_of};
     ghost use Rattle.event_floor.specs.Chunks.{ChunksSeen, AreUndrawn};
 
     ghost Value = { ChunksSeen };
 
-    ghost view = { λ c. record { parts = c.names.all; drawn = c.drawn.items } };
+    ghost view = { λ c. record { parts = c.names.all; drawn = c.drawn.items; undrawn = reverse (map bytes_of c.undrawn.items) } };
 
     ghost invariant = { λ c. AreUndrawn (length c.drawn.items) c.names.all c.undrawn.items
         × (length c.drawn.items + length c.undrawn.items ≤ vec_capacity c.drawn) };
@@ -43,7 +44,7 @@ impl<'r> Chunks<'r> {
     /// The chunks of these parts, none of them drawn.
     pub(crate) fn new(alloc: Global, parts: Vec<Part<'r>>) -> Result<Chunks<'r>, NoMemory>
         requires { AreNumbered parts.items }
-        ensures { IfOk result (λ c. c ≡ record { parts = map name_of parts.entry.items; drawn = [] }) }
+        ensures { IfOk result (λ c. c ≡ record { parts = map name_of parts.entry.items; drawn = []; undrawn = map bytes_of parts.entry.items }) }
     {
         let drawn = Vec::with_capacity(alloc, parts.len())?;
         let names = names_of(&parts);
@@ -61,7 +62,8 @@ impl<'r> Chunks<'r> {
         ensures { MatchOption result
             ((length self.old.drawn ≡ length self.old.parts) × (self.new ≡ self.old))
             (λ (p : Part). (p.chunk ≡ length self.old.drawn) × (slice_get self.old.parts p.chunk ≡ Some (name_of p)) × (length self.old.drawn < length self.old.parts)
-            × (self.new ≡ record self.old { drawn = self.old.drawn ++ record { owner = owner; class = class } ∷ [] })) }
+            × (self.old.undrawn ≡ bytes_of p ∷ self.new.undrawn)
+            × (self.new ≡ record self.old { drawn = self.old.drawn ++ record { owner = owner; class = class } ∷ []; undrawn = self.new.undrawn })) }
     {
         let part = self.undrawn.pop()?;
         self.drawn.push_reserved(Drawn { owner, class });

@@ -1,6 +1,5 @@
 //! The floor.
 ghost use Rattle.std.specs.Prelude.{◌≡◌, ◌<◌, ◌≤◌, ◌^◌, length, map, is_some, count_by, IfOk, IfErr, OnErr, IsPermutation};
-ghost use Rattle.region_cut.specs.Parts.{name_of};
 ghost use Rattle.slot_chain.specs.Counts.{capped};
 ghost use Rattle.digit_route.specs.Slots.{slot_of};
 ghost use Rattle.pool_desk.specs.Homes.{slot_at};
@@ -60,7 +59,7 @@ impl<'r> Floor<'r> {
         requires few { desks ≤ 2 ^ digits.bits }
         requires limit { limit ≤ 1048576 }
         requires parts { AreNumbered parts.items }
-        ensures opening { IfOk result (λ f. f ≡ opening desks (map name_of parts.entry.items) digits limit) }
+        ensures opening { IfOk result (λ f. f ≡ opening desks parts.entry.items digits limit) }
         ensures shows { IfOk result (λ f. Shown (listing_of f) (machine_opening desks (length parts.entry.items) digits limit) (λ slot. 0)) }
     {
         let _profile = digits.profile();

@@ -1,6 +1,5 @@
 //! The lists of a floor.
-ghost use Rattle.std.specs.Prelude.{◌≡◌, ◌≤◌, ◌^◌, map, IfOk, IfErr, OnErr};
-ghost use Rattle.region_cut.specs.Parts.{name_of};
+ghost use Rattle.std.specs.Prelude.{◌≡◌, ◌≤◌, ◌^◌, IfOk, IfErr, OnErr};
 ghost use Rattle.event_floor.specs.Chunks.{AreNumbered};
 ghost use Rattle.event_floor.specs.Floors.{desk_count, opening, IsFloor};
 ghost use Rattle.event_floor.specs.Steps.{Does, Refuses};
@@ -41,6 +40,7 @@ impl<'r> Model for Lists<'r> {
       chunks = length f.chunks.parts;
       parts = f.chunks.parts;
       drawn = f.chunks.drawn;
+      undrawn = f.chunks.undrawn;
       desks = f.desks.items;
       lent = f.lent;
       inboxes = f.inboxes.items;
@@ -63,7 +63,7 @@ impl<'r> Lists<'r> {
         requires few { desks ≤ 2 ^ digits.bits }
         requires limit { limit ≤ 1048576 }
         requires parts { AreNumbered parts.items }
-        ensures { IfOk result (λ f. f ≡ opening desks (map name_of parts.entry.items) digits limit) }
+        ensures { IfOk result (λ f. f ≡ opening desks parts.entry.items digits limit) }
     {
         let _profile = digits.profile();
         let lent = Lent::new(alloc, parts.len())?;

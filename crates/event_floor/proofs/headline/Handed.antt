@@ -7,7 +7,7 @@ use Rattle.std.proofs.lemmas.List.Elements.{All-cons, All-head, All-tail}
 use Rattle.std.proofs.lemmas.List.Sorted.{All-permutation, IsPermutation-sym}
 use Rattle.region_cut.specs.declared.slot.Slot.{Slot}
 use Rattle.region_cut.specs.Carved.{Carved}
-use Rattle.region_cut.specs.Classes.{slots_of}
+use Rattle.region_cut.specs.Classes.{size_of, slots_of}
 use Rattle.slot_chain.specs.Buffer.{Buffer}
 use Rattle.pool_desk.specs.Homes.{AtHome, Unused, slot_at, Gives, Names, TakesNext, taken_next}
 use Rattle.pool_desk.specs.Homes.AtHome.{Kept, Fresh}
@@ -74,6 +74,9 @@ module _ (names : List Carved) (v w : FloorSeen) (a n : ℕ) (slot : Slot) (f : 
     at_chunk = subst (λ k. slice_get names k ≡ Some t.from) t.chunk
         (All-head (λ (c : Carved). slice_get names c.chunk ≡ Some c) t.from t.others (All-permutation (λ (c : Carved). slice_get names c.chunk ≡ Some c) _ _ t.before lender_named.same))
 
+    fresh_named : HasNoName names u
+    fresh_named = All-head (IsNamedHome names) (Fresh u) s.after.home (All-permutation (IsNamedHome names) _ _ p lender_named.home)
+
     now_there : slice_get new_names chunk ≡ Some taken
     now_there = get_set_same names chunk taken t.from at_chunk
 
@@ -86,9 +89,10 @@ module _ (names : List Carved) (v w : FloorSeen) (a n : ℕ) (slot : Slot) (f : 
           is_chunk = ap (slice_get new_names) same.1 ∙ now_there;
           class = ap (λ (c : Carved). c.class) (sym q) ∙ h.class;
           name = get_pushed t.from.taken buffer.bytes.ghost_name b.bytes.ghost_name b.slot.index (ap (λ (c : Carved). slice_get c.taken b.slot.index) (sym q) ∙ h.name);
+          size = h.size;
         } in r)
         (λ (other : _ × (b.slot.chunk ≢ chunk)).
-        let r : HasName new_names b = record { chunk = h.chunk; is_chunk = get_set_other names chunk b.slot.chunk taken other.1 ∙ h.is_chunk; class = h.class; name = h.name } in r)
+        let r : HasName new_names b = record { chunk = h.chunk; is_chunk = get_set_other names chunk b.slot.chunk taken other.1 ∙ h.is_chunk; class = h.class; name = h.name; size = h.size } in r)
         (eqb_tells b.slot.chunk chunk)
 
     kept_none : (x : Unused) → x.slot ≢ u.slot → HasNoName names x → HasNoName new_names x
@@ -106,9 +110,10 @@ module _ (names : List Carved) (v w : FloorSeen) (a n : ℕ) (slot : Slot) (f : 
           part = ap (λ (c : Carved). c.whole) (sym q) ∙ h.part;
           place = omega (arith, low, apart_index, more, at);
           within = h.within;
+          size = h.size;
         } in r)
         (λ (other : _ × (x.slot.chunk ≢ chunk)).
-        let r : HasNoName new_names x = record { chunk = h.chunk; is_chunk = get_set_other names chunk x.slot.chunk taken other.1 ∙ h.is_chunk; class = h.class; part = h.part; place = h.place; within = h.within } in r)
+        let r : HasNoName new_names x = record { chunk = h.chunk; is_chunk = get_set_other names chunk x.slot.chunk taken other.1 ∙ h.is_chunk; class = h.class; part = h.part; place = h.place; within = h.within; size = h.size } in r)
         (eqb_tells x.slot.chunk chunk)
 
     kept_home : (x : AtHome) → slot_at x ≢ u.slot → IsNamedHome names x → IsNamedHome new_names x
@@ -122,6 +127,7 @@ module _ (names : List Carved) (v w : FloorSeen) (a n : ℕ) (slot : Slot) (f : 
       class = t.class_is ∙ sym g.1;
       name = ap (λ (x : Slot). slice_get (t.from.taken ++ buffer.bytes.ghost_name ∷ []) x.index) g.0
           ∙ (ap (slice_get (t.from.taken ++ buffer.bytes.ghost_name ∷ [])) (sym t.place) ∙ get_last t.from.taken buffer.bytes.ghost_name);
+      size = ap length g.3 ∙ (fresh_named.size ∙ ap size_of (sym g.1));
     }
 
     -- the chunk is in no other list, and once in that of the desk
@@ -162,9 +168,7 @@ module _ (names : List Carved) (v w : FloorSeen) (a n : ℕ) (slot : Slot) (f : 
 
     taken_few : length taken.taken ≤ slots_of taken.class
     taken_few =
-        let all = All-permutation (IsNamedHome names) _ _ p lender_named.home in
-        let h : HasNoName names u = All-head (IsNamedHome names) (Fresh u) s.after.home all in
-        let low : u.slot.index < slots_of t.from.class = subst (λ c. u.slot.index < slots_of c) (sym t.class_is) h.within in
+        let low : u.slot.index < slots_of t.from.class = subst (λ c. u.slot.index < slots_of c) (sym t.class_is) fresh_named.within in
         let more = length_push t.from.taken buffer.bytes.ghost_name in
         let at = t.place in
         omega (arith, low, more, at)

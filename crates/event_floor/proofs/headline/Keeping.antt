@@ -4,7 +4,7 @@ use Rattle.std.specs.Prelude.{IfSome, replicate, count_by}
 use Rattle.std.proofs.lemmas.Bool.{true≢false}
 use Rattle.std.specs.List.{slice_get}
 use Rattle.std.proofs.lemmas.List.Elements.{All-nil, All-append, All-cons}
-use Rattle.std.specs.Borrow.{GName}
+use Rattle.region_cut.specs.declared.part.Part.{Part}
 use Rattle.region_cut.specs.Carved.{Carved}
 use Rattle.slot_chain.specs.Buffer.{Buffer}
 use Rattle.digit_route.specs.Digits.{Scheme}
@@ -82,7 +82,7 @@ none_posted P zero (suc b) = All-nil P
 none_posted P (suc n) zero = All-nil P
 none_posted P (suc n) (suc b) = none_posted P n b
 
-pub opening_named : (desks : ℕ) (parts : List GName) (digits : Scheme) (limit : ℕ) → IsNamed (opening desks parts digits limit)
+pub opening_named : (desks : ℕ) (parts : List Part) (digits : Scheme) (limit : ℕ) → IsNamed (opening desks parts digits limit)
 unfolding IsNamed
 opening_named desks parts digits limit = (
   [],

@@ -70,10 +70,10 @@ All-second P (x ∷ xs) ys h = All-second P xs ys (All-tail P x (xs ++ ys) h)
 -- ---- names
 
 pub freed_named : (names : List Carved) (b : Buffer) → HasName names b → HasName names (freed b)
-freed_named names b h = record { chunk = h.chunk; is_chunk = h.is_chunk; class = h.class; name = h.name }
+freed_named names b h = record { chunk = h.chunk; is_chunk = h.is_chunk; class = h.class; name = h.name; size = h.size }
 
 pub passed_named : (names : List Carved) (b : Buffer) → HasName names b → HasName names (passed_on b)
-passed_named names b h = record { chunk = h.chunk; is_chunk = h.is_chunk; class = h.class; name = h.name }
+passed_named names b h = record { chunk = h.chunk; is_chunk = h.is_chunk; class = h.class; name = h.name; size = h.size }
 
 module _ (names : List Carved) (v : FloorSeen) (n : AreNames names v) where
   pub held_named : (a : ℕ) (d : DeskState) → IsHeld v a d → IsNamedDesk names v.drawn a (Held d)

@@ -1,12 +1,14 @@
 -- Names of chunks that are drawn, and of slots that are handed out for the first time.
-use Rattle.std.proofs.Common.{◌≡◌, ◌≢◌, ℕ, zero, suc, ◌+◌, ◌<◌, ◌≤◌, Bool, true, false, ◌==◌, cond, List, [], ◌∷◌, ◌++◌, length, get_or, set, take, drop, All, Option, Some, None, is_some, refl, sym, ap, ap₂, ◌∙◌, subst, arith, ⊎_elim, IsPermutation}
+use Rattle.std.proofs.Common.{◌≡◌, ◌≢◌, ℕ, zero, suc, ◌+◌, ◌*◌, ◌<◌, ◌≤◌, Bool, true, false, ◌==◌, cond, List, [], ◌∷◌, ◌++◌, length, get_or, set, take, drop, All, Option, Some, None, is_some, refl, sym, ap, ap₂, ◌∙◌, subst, arith, ⊎_elim, IsPermutation}
 use Rattle.std.specs.Prelude.{IfSome, count_by, option_map}
 use Rattle.std.specs.List.{slice_get}
 use Rattle.std.proofs.lemmas.Bool.{true≢false}
 use Rattle.std.proofs.lemmas.Bool.Decides.{eqb_tells}
 use Rattle.std.proofs.lemmas.Option.{slice_get_past}
-use Rattle.std.proofs.lemmas.List.{length-set, length_push, get_or-set_same, get_or-set_other}
+use Rattle.std.proofs.lemmas.List.{length-set, length_push, length-take-le, length-drop, get_or-set_same, get_or-set_other}
+use Rattle.std.proofs.Math.Nat.{suc-mul, div-mul-le_self}
 use Rattle.std.proofs.lemmas.List.Elements.{All-nil, All-cons, All-append}
+use Rattle.region_cut.specs.declared.TheConstants.{CHUNK}
 use Rattle.std.proofs.lemmas.List.Sorted.{All-permutation, sum_by-IsPermutation}
 use Rattle.region_cut.specs.Carved.{Carved}
 use Rattle.region_cut.specs.Classes.{slots_of, size_of}
@@ -94,6 +96,17 @@ chunk_count k cs = count_by (λ (c : Carved). c.chunk == k) cs
 pub chunk_permuted : (k : ℕ) (xs ys : List Carved) → IsPermutation xs ys → chunk_count k ys ≡ chunk_count k xs
 chunk_permuted k xs ys p = sum_by-IsPermutation (λ (c : Carved). cond (c.chunk == k) 1 0) xs ys p
 
+-- ---- bytes
+
+more_than : (m z n : ℕ) → suc m * z ≤ n → z ≤ n
+more_than m z n l = omega (arith, l, suc-mul m z)
+
+rest_of : (m z : ℕ) (bs : List ℕ) → suc m * z ≤ length bs → m * z ≤ length (drop z bs)
+rest_of m z bs l = omega (arith, l, suc-mul m z, length-drop z bs)
+
+slots_fit : (c : ℕ) → slots_of c * size_of c ≤ CHUNK
+slots_fit c = div-mul-le_self CHUNK (size_of c)
+
 -- ---- Claim
 
 module _ (names : List Carved) (v w : FloorSeen) (a class k : ℕ) (n : AreNames names v) (s : DrawsChunk v a class k w) where
@@ -107,18 +120,20 @@ module _ (names : List Carved) (v w : FloorSeen) (a class k : ℕ) (n : AreNames
   new_drawn = v.drawn ++ record { owner = a; class = class } ∷ []
 
   kept_name : (b : Buffer) → HasName names b → HasName new_names b
-  kept_name b h = record { chunk = h.chunk; is_chunk = get_pushed names new_chunk h.chunk b.slot.chunk h.is_chunk; class = h.class; name = h.name }
+  kept_name b h = record { chunk = h.chunk; is_chunk = get_pushed names new_chunk h.chunk b.slot.chunk h.is_chunk; class = h.class; name = h.name; size = h.size }
 
   kept_home : (x : AtHome) → IsNamedHome names x → IsNamedHome new_names x
   kept_home (Kept b) h = kept_name b h
-  kept_home (Fresh u) h = record { chunk = h.chunk; is_chunk = get_pushed names new_chunk h.chunk u.slot.chunk h.is_chunk; class = h.class; part = h.part; place = h.place; within = h.within }
+  kept_home (Fresh u) h = record { chunk = h.chunk; is_chunk = get_pushed names new_chunk h.chunk u.slot.chunk h.is_chunk; class = h.class; part = h.part; place = h.place; within = h.within; size = h.size }
 
   last_place : length names ≡ k
   last_place = n.count ∙ sym s.is_next
 
-  uncut_named : (i m : ℕ) (bs : List ℕ) → i + m ≤ slots_of class → All (IsNamedHome new_names) (unused_from k class s.part.bytes.ghost_name m i bs)
-  uncut_named i zero bs l = All-nil (IsNamedHome new_names)
-  uncut_named i (suc m) bs l =
+  uncut_named : (i m : ℕ) (bs : List ℕ) → i + m ≤ slots_of class → m * size_of class ≤ length bs → All (IsNamedHome new_names) (unused_from k class s.part.bytes.ghost_name m i bs)
+  uncut_named i zero bs l fits = All-nil (IsNamedHome new_names)
+  uncut_named i (suc m) bs l fits =
+      let long : size_of class ≤ length bs = more_than m (size_of class) (length bs) fits in
+      let left : m * size_of class ≤ length (drop (size_of class) bs) = rest_of m (size_of class) bs fits in
       All-cons (IsNamedHome new_names) (Fresh (record { slot = record { chunk = k; index = i }; class = class; part = s.part.bytes.ghost_name; bytes = take (size_of class) bs })) _
       (record {
         chunk = new_chunk;
@@ -127,8 +142,9 @@ module _ (names : List Carved) (v w : FloorSeen) (a class k : ℕ) (n : AreNames
         part = s.claims.drawn.uncut.whole;
         place = subst (λ xs. length xs ≤ i) (sym s.claims.drawn.uncut.none_taken) (omega arith);
         within = omega (arith, l);
+        size = length-take-le (size_of class) bs long;
       })
-      (uncut_named (i + 1) m (drop (size_of class) bs) (omega (arith, l)))
+      (uncut_named (i + 1) m (drop (size_of class) bs) (omega (arith, l)) left)
 
   drew_last : (b : ℕ) → drew new_drawn b (length v.drawn) ≡ (a == b)
   drew_last b = ap (is_drawn_for b) (get_last v.drawn (record { owner = a; class = class }))
@@ -178,7 +194,7 @@ module _ (names : List Carved) (v w : FloorSeen) (a class k : ℕ) (n : AreNames
       subst (λ m. IsPermutation (unused_from m class s.part.bytes.ghost_name (slots_of class) 0 s.part.bytes.now ++ s.before.home) s.after.home) s.is_part s.claims.home in
       record {
         home = All-permutation (IsNamedHome new_names) _ _ slots
-            (All-append (IsNamedHome new_names) _ s.before.home (uncut_named 0 (slots_of class) s.part.bytes.now (omega arith)) (All-to (IsNamedHome names) (IsNamedHome new_names) s.before.home kept_home h.home));
+            (All-append (IsNamedHome new_names) _ s.before.home (uncut_named 0 (slots_of class) s.part.bytes.now (omega arith) (subst (λ n. slots_of class * size_of class ≤ n) (sym s.part.is_whole) (slots_fit class))) (All-to (IsNamedHome names) (IsNamedHome new_names) s.before.home kept_home h.home));
         cached = subst (λ bs. All (HasName new_names) bs) (ap (λ (x : DeskState). x.cached) (sym s.claims.same)) (All-to (HasName names) (HasName new_names) s.before.cached kept_name h.cached);
         same = All-permutation (λ (c : Carved). slice_get new_names c.chunk ≡ Some c) _ _ s.claims.drawn.added
             (All-cons (λ (c : Carved). slice_get new_names c.chunk ≡ Some c) new_chunk s.before.drawn

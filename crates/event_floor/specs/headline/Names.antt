@@ -2,7 +2,7 @@
 use Rattle.std.specs.Prelude.{◌≡◌, ℕ, ◌<◌, ◌≤◌, Bool, false, ◌==◌, List, length, slice_get, slice_index_or, count_by, Option, Some, None, IfSome, All}
 use Rattle.std.specs.Borrow.{GName}
 use Rattle.region_cut.specs.Carved.{Carved}
-use Rattle.region_cut.specs.Classes.{slots_of}
+use Rattle.region_cut.specs.Classes.{size_of, slots_of}
 use Rattle.slot_chain.specs.Buffer.{Buffer}
 use Rattle.pool_desk.specs.Homes.{AtHome, Unused}
 use Rattle.pool_desk.specs.Homes.AtHome.{Kept, Fresh}
@@ -15,12 +15,13 @@ use Rattle.event_floor.specs.Seats.{home_of, cached_of}
 use Rattle.event_floor.specs.Floors.{FloorSeen, desk_at, desk_count}
 use Rattle.event_floor.specs.machine.Slots.{one_if}
 
--- the buffer of place i of a chunk has the i-th name that was taken of the chunk, and the chunk's class
+-- the buffer of place i of a chunk has the i-th name that was taken of the chunk, the chunk's class, and as many bytes as the class says
 pub record HasName (names : List Carved) (b : Buffer) : Type 0 where
   pub chunk : Carved
   pub is_chunk : slice_get names b.slot.chunk ≡ Some chunk
   pub class : chunk.class ≡ b.class
   pub name : slice_get chunk.taken b.slot.index ≡ Some b.bytes.ghost_name
+  pub size : length b.bytes.now ≡ size_of b.class
 
 -- a slot of a chunk that was never handed out: no name was taken for its place yet
 pub record HasNoName (names : List Carved) (u : Unused) : Type 0 where
@@ -30,6 +31,7 @@ pub record HasNoName (names : List Carved) (u : Unused) : Type 0 where
   pub part : chunk.whole ≡ u.part
   pub place : length chunk.taken ≤ u.slot.index
   pub within : u.slot.index < slots_of u.class
+  pub size : length u.bytes ≡ size_of u.class
 
 abbrev pub IsNamedHome : List Carved → AtHome → Type 0
 IsNamedHome names (Kept b) = HasName names b

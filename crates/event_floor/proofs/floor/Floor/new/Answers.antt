@@ -1,6 +1,4 @@
-use Rattle.std.proofs.Common.{◌≡◌, ◌≤◌, length, map, sym, subst}
-use Rattle.std.proofs.lemmas.List.{length-map}
-use Rattle.region_cut.specs.Parts.{name_of}
+use Rattle.std.proofs.Common.{◌≡◌, ◌≤◌, length, sym, subst}
 use Rattle.event_floor.specs.Floors.{FloorSeen, IsFloor, opening}
 use Rattle.event_floor.specs.headline.Headline.{Shows}
 use Rattle.event_floor.specs.headline.Listing.{listing_of}
@@ -16,9 +14,9 @@ use Rattle.event_floor.proofs.floor.Floor.new.Goals as goal
 
 pub invariant_of-result : goal.invariant_of-result
 invariant_of-result c =
-    let parts = map name_of c.args.parts.items in
+    let parts = c.args.parts.items in
     let e : c.in_ok-lists.lists ≡ opening c.args.desks parts c.args.digits c.args.limit = c.in_ok-lists.ensures in
-    let few : length parts ≤ 1024 = rw (length-map c.args.parts.items name_of) (numbered_few c.args.parts.items c.requires.parts) in
+    let few : length parts ≤ 1024 = numbered_few parts c.requires.parts in
     subst (λ (v : FloorSeen). IsWhole v × Shows v × IsNamed v) (sym e) (
       opening_whole c.args.desks parts c.args.digits c.args.limit few
           (subst (λ (v : FloorSeen). IsFloor v.digits v.limit v.chunks v.desks v.lent v.inboxes v.next) e c.keeps.ensures),
@@ -28,8 +26,7 @@ invariant_of-result c =
 
 pub returns-clause-shows : goal.returns-clause-shows
 returns-clause-shows c =
-    let parts = map name_of c.args.parts.items in
+    let parts = c.args.parts.items in
     let e : c.in_ok-lists.lists ≡ opening c.args.desks parts c.args.digits c.args.limit = c.in_ok-lists.ensures in
-    subst (λ v. Shown (listing_of v) (machine_opening c.args.desks (length c.args.parts.items) c.args.digits c.args.limit) (λ slot. 0)) (sym e)
-    (subst (λ n. Shown (listing_of (opening c.args.desks parts c.args.digits c.args.limit)) (machine_opening c.args.desks n c.args.digits c.args.limit) (λ slot. 0))
-    (length-map c.args.parts.items name_of) (shows_opening c.args.desks parts c.args.digits c.args.limit c.profile-profile.ensures.scheme c.requires.few))
+    subst (λ v. Shown (listing_of v) (machine_opening c.args.desks (length parts) c.args.digits c.args.limit) (λ slot. 0)) (sym e)
+    (shows_opening c.args.desks parts c.args.digits c.args.limit c.profile-profile.ensures.scheme c.requires.few)

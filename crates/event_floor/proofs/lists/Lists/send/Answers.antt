@@ -21,6 +21,7 @@ returns-in-Some-clause-refuses c =
       chunks = length c.self.inside.chunks.parts;
       parts = c.self.inside.chunks.parts;
       drawn = c.self.inside.chunks.drawn;
+      undrawn = c.self.inside.chunks.undrawn;
       desks = c.self.inside.desks.items;
       lent = c.self.inside.lent;
       inboxes = c.self.inside.inboxes.items;
