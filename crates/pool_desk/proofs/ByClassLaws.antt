@@ -97,6 +97,7 @@ names_joined (Fresh u) b hs k h l t = record {
   class_is = t.class_is;
   part = t.part;
   place = t.place;
+  left = t.left;
   before = IsPermutation-trans _ _ _ (apart drawn_at hs k l) (IsPermutation-append_left (without drawn_at hs k) _ _ t.before);
   after = IsPermutation-trans _ _ _ (apart_set drawn_at hs k h l) (IsPermutation-append_left (without drawn_at hs k) _ _ t.after);
 }

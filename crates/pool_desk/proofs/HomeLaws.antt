@@ -107,7 +107,7 @@ gives_kept owner class list rest b us drawn all is =
     record { owner_is = one.0; class_is = one.1; from = Kept b; gives = refl; others = rw is (kept_pop rest b us); names = refl }
 
 -- the chunk of a cursor that gave a slot
-pub carved_next : (b b' : Bump) (p : Piece) → GivesNext b b' p → carved_of b' ≡ taken_next (carved_of b) p.bytes.ghost_name b'.front.tie.rest
+pub carved_next : (b b' : Bump) (p : Piece) → GivesNext b b' p → carved_of b' ≡ taken_next (carved_of b) p.bytes.ghost_name b'.front.rest.now
 carved_next b b' p g = rw (g.same_chunk, g.same_class, g.same_part, g.joined_then) refl
 
 -- a slot is given out that never was
@@ -122,12 +122,13 @@ gives_fresh owner class x b b' p drawn g c o k s f m = record {
   others = rw (unused_next b b' p g) (IsPermutation-refl _);
   names = record {
     from = carved_of b;
-    rest = b'.front.tie.rest;
+    rest = b'.front.rest.now;
     others = drawn;
     chunk = sym g.slot_chunk;
     class_is = refl;
     part = refl;
     place = b.counted ∙ sym g.slot_index;
+    left = g.joined_now ∙ ap (λ (z : MutBor (List ℕ)). z.now ++ b'.front.rest.now) (sym m);
     before = IsPermutation-refl _;
     after = rw (carved_next b b' p g, m) (IsPermutation-refl _);
   };
@@ -137,6 +138,6 @@ gives_fresh owner class x b b' p drawn g c o k s f m = record {
 pub draws_new : (p : Part) (class : ℕ) (b : Bump) (old : List Carved) → HoldsPart p class b → Draws p class old (carved_of b ∷ old)
 draws_new p class b old h = record {
   drawn = carved_of b;
-  uncut = record { chunk = h.chunk; class_is = h.class_is; whole = h.same_part; none_taken = h.no_pieces };
+  uncut = record { chunk = h.chunk; class_is = h.class_is; whole = h.same_part; none_taken = h.no_pieces; all_left = h.same_bytes };
   added = IsPermutation-refl _;
 }

@@ -3,3 +3,4 @@ pub mod DeskLaws
 pub mod HandleLaws
 pub mod HomeLaws
 pub mod ListedLaws
+pub mod EndLaws

@@ -23,6 +23,12 @@ pub data AtHome : Type 0 where
   Kept : (buffer : Buffer) → AtHome
   Fresh : (unused : Unused) → AtHome
 
+-- the buffers among the slots at home
+abbrev pub kept_in : List AtHome → List Buffer
+kept_in [] = []
+kept_in (Kept b ∷ hs) = b ∷ kept_in hs
+kept_in (Fresh u ∷ hs) = kept_in hs
+
 abbrev pub slot_at : AtHome → Slot
 slot_at (Kept b) = b.slot
 slot_at (Fresh u) = u.slot
@@ -69,6 +75,7 @@ pub record IsUncut (part : Part) (class : ℕ) (c : Carved) : Type 0 where
   pub class_is : c.class ≡ class
   pub whole : c.whole ≡ part.bytes.ghost_name
   pub none_taken : c.taken ≡ []
+  pub all_left : c.rest ≡ part.bytes.now
 
 -- a chunk of which no slot was given yet comes to those that were drawn
 pub record Draws (part : Part) (class : ℕ) (old new : List Carved) : Type 0 where
@@ -81,19 +88,20 @@ abbrev pub Gives : AtHome → Buffer → Type 0
 Gives (Kept a) b = b ≡ a
 Gives (Fresh u) b = (b.slot ≡ u.slot) × (b.class ≡ u.class) × (b.forwards ≡ 0) × (b.bytes.now ≡ u.bytes)
 
--- the chunk with one more slot taken, of this name
-abbrev pub taken_next : Carved → GName → GName → Carved
+-- the chunk with one more slot taken, of this name, and what is then left of it
+abbrev pub taken_next : Carved → GName → List ℕ → Carved
 taken_next c name rest = record c { taken = c.taken ++ name ∷ []; rest = rest }
 
 -- The slot u of a drawn chunk was given out as b: it is the next of its chunk, and the name of b's bytes is the next of the chunk's.
 pub record TakesNext (u : Unused) (b : Buffer) (old new : List Carved) : Type 0 where
   pub from : Carved
-  pub rest : GName
+  pub rest : List ℕ
   pub others : List Carved
   pub chunk : from.chunk ≡ u.slot.chunk
   pub class_is : from.class ≡ u.class
   pub part : from.whole ≡ u.part
   pub place : length from.taken ≡ u.slot.index
+  pub left : from.rest ≡ b.bytes.now ++ rest
   pub before : IsPermutation old (from ∷ others)
   pub after : IsPermutation new (taken_next from b.bytes.ghost_name rest ∷ others)
 

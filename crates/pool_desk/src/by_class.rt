@@ -1,11 +1,11 @@
 //! The homes of the classes, in order.
 ghost use Rattle.std.specs.Prelude.{◌≡◌, ◌≢◌, ℕ, ◌<◌, ◌≤◌, ◌↔◌, [], ◌∷◌, ◌++◌, All, IsTrue, IsPermutation, MatchResult, length, map, slice_index_or, slice_set};
 ghost use Rattle.arrayvec.specs.ArrayVec.{array_vec_len};
-ghost use Rattle.slot_chain.specs.Buffer.{Buffer};
+ghost use Rattle.slot_chain.specs.Buffer.{Buffer, ended_of};
 ghost use Rattle.region_cut.specs.Classes.{class_count, slots_of};
-ghost use Rattle.pool_desk.specs.Homes.{AtHome, HomeState, IsAtHome, GivesOne, IsRefused, Draws, slot_at, unused_from};
+ghost use Rattle.pool_desk.specs.Homes.{AtHome, HomeState, IsAtHome, GivesOne, IsRefused, Draws, kept_in, slot_at, unused_from};
 ghost use Rattle.pool_desk.specs.Homes.AtHome.{Kept};
-ghost use Rattle.pool_desk.specs.ByClass.{empties, home_at, slots_at};
+ghost use Rattle.pool_desk.specs.ByClass.{empties, home_at, slots_at, drawn_at};
 ghost use Rattle.std.specs.List.{flat_map};
 ghost use Rattle.slot_chain.specs.Counts.{capped};
 ghost use Rattle.pool_desk.specs.Listed.{AddsOn};
@@ -13,7 +13,7 @@ ghost use Rattle.pool_desk.specs.Listed.{AddsOn};
 use crate::DeskError;
 use crate::home::Home;
 use arrayvec::ArrayVec;
-use region_cut::{Class, Part, Slot};
+use region_cut::{Class, Endings, Part, Slot};
 use slot_chain::{Buf, NoMemory};
 use std::alloc::Global;
 
@@ -98,4 +98,17 @@ pub(crate) fn add_all(homes: &[Home<'_>], slots: &mut Vec<Slot>) -> Result<(), N
         home.add_slots(slots)?;
     }
     Ok(())
+}
+
+/// Lets go the buffers and the cursors.
+pub(crate) fn end_all<'r>(homes: ByClass<'r>, endings: &mut Endings<'r>)
+    ensures { endings.new ≡ record {
+      known = map ended_of (kept_in (flat_map slots_at homes.entry.items)) ++ endings.old.known;
+      chunks = flat_map drawn_at homes.entry.items ++ endings.old.chunks;
+    } }
+{
+    let mut homes = homes;
+    while let Some(home) = homes.pop() {
+        home.end(endings);
+    }
 }

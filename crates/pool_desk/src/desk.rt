@@ -1,12 +1,14 @@
 //! A desk that a worker holds.
-ghost use Rattle.std.specs.Prelude.{◌≡◌, ◌≢◌, ◌<◌, ◌^◌, ◌↔◌, [], ◌++◌, length, IsTrue, IsPermutation, Some, None, MatchBool, MatchOption, MatchResult, OnOk, OnErr};
+ghost use Rattle.std.specs.Prelude.{◌≡◌, ◌≢◌, ◌<◌, ◌^◌, ◌↔◌, [], ◌++◌, length, map, IsTrue, IsPermutation, Some, None, MatchBool, MatchOption, MatchResult, OnOk, OnErr};
 ghost use Rattle.region_cut.specs.Classes.{classes_of};
+ghost use Rattle.slot_chain.specs.Buffer.{ended_of};
 ghost use Rattle.slot_chain.specs.Counts.{capped};
 ghost use Rattle.digit_route.specs.Route.{RouteFault};
 ghost use Rattle.digit_route.specs.Slots.{AddsSlots};
 ghost use Rattle.digit_route.specs.States.{Gives};
 ghost use Rattle.pool_desk.specs.ByClass.{HasClass};
 ghost use Rattle.pool_desk.specs.Desks.{profile_at};
+ghost use Rattle.pool_desk.specs.Homes.{kept_in};
 ghost use Rattle.pool_desk.specs.Listed.{Adds, slots_in};
 ghost use Rattle.pool_desk.specs.Steps.{Claims, NotNeededFor, Allocs, Frees, Handles, Counted};
 ghost use Rattle.pool_desk.specs.Handling.{IsPassed, GoesHome, GoesOn};
@@ -14,7 +16,7 @@ ghost use Rattle.pool_desk.specs.Handling.{IsPassed, GoesHome, GoesOn};
 use crate::homes::Homes;
 use crate::{Counts, DeskError, DeskPosting, Freed, IdleDesk};
 use digit_route::{Batch, Cache, Digits, RouteError};
-use region_cut::{Class, Part, Slot};
+use region_cut::{Class, Endings, Part, Slot};
 use slot_chain::{Buf, NoMemory};
 use std::alloc::Global;
 use std::marker::Model;
@@ -272,5 +274,30 @@ impl<'r> Desk<'r> {
         ensures err { OnErr result (slots.new.items ≡ slots.old.items) }
     {
         self.cache.list_slots(slots)
+    }
+
+    /// Lets go the buffers at home and in the cache, and the cursors over its chunks. Takes a walk over the buffers, and no memory.
+    pub fn end(self, endings: &mut Endings<'r>)
+        ensures chunks { endings.new ≡ record endings.old { known = endings.new.known; chunks = self.entry.drawn ++ endings.old.chunks } }
+        ensures known { IsPermutation (map ended_of (kept_in self.entry.home ++ self.entry.cached) ++ endings.old.known) endings.new.known }
+    {
+        let Desk {
+            worker: _,
+            homes,
+            cache,
+        } = self;
+        end_cache(cache, endings);
+        homes.end(endings);
+    }
+}
+
+// Lets go the buffers of a cache.
+fn end_cache<'r>(cache: Cache<'r>, endings: &mut Endings<'r>)
+    ensures chunks { endings.new ≡ record endings.old { known = endings.new.known } }
+    ensures known { IsPermutation (map ended_of cache.entry.items ++ endings.old.known) endings.new.known }
+{
+    let mut cache = cache;
+    while let Some(batch) = cache.next_batch() {
+        batch.into_chain().end(endings);
     }
 }

@@ -1,14 +1,14 @@
 //! The slots at home of one class.
 ghost use Rattle.std.specs.Prelude.{◌≡◌, ◌≢◌, ℕ, ◌<◌, ◌≤◌, ◌↔◌, [], ◌∷◌, ◌++◌, All, IsTrue, IsPermutation, MatchResult, OnOk, OnErr, length, min, ◌^◌, ◌-◌, map};
-ghost use Rattle.slot_chain.specs.Buffer.{Buffer};
-ghost use Rattle.pool_desk.specs.Homes.{AtHome, IsAtHome, GivesOne, IsRefused, Draws, slot_at, unused_from};
+ghost use Rattle.slot_chain.specs.Buffer.{Buffer, ended_of};
+ghost use Rattle.pool_desk.specs.Homes.{AtHome, IsAtHome, GivesOne, IsRefused, Draws, kept_in, slot_at, unused_from};
 ghost use Rattle.pool_desk.specs.Homes.AtHome.{Kept};
 ghost use Rattle.region_cut.specs.Classes.{slots_of};
 ghost use Rattle.pool_desk.specs.Listed.{AddsOn};
 
 use crate::DeskError;
 use crate::listing::{add_chain, add_unused};
-use region_cut::{Bump, Class, Part, Slot, Ties};
+use region_cut::{Bump, Class, Endings, Part, Slot, Ties};
 use slot_chain::{Buf, Chain, NoMemory, Room};
 use std::alloc::Global;
 use std::marker::Model;
@@ -139,6 +139,24 @@ impl<'r> Home<'r> {
         match &self.bump {
             None => Ok(()),
             Some(bump) => add_unused(bump, slots),
+        }
+    }
+
+    /// Lets go the buffers and the cursor.
+    pub(crate) fn end(self, endings: &mut Endings<'r>)
+        ensures { endings.new ≡ record { known = map ended_of (kept_in self.entry.slots) ++ endings.old.known; chunks = self.entry.drawn ++ endings.old.chunks } }
+    {
+        let Home {
+            owner: _,
+            class: _,
+            list,
+            bump,
+            ties,
+        } = self;
+        list.end(endings);
+        endings.keep(ties);
+        if let Some(bump) = bump {
+            endings.carve(bump);
         }
     }
 }

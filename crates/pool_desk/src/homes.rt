@@ -1,17 +1,18 @@
 //! All slots at home of one owner.
 ghost use Rattle.std.specs.Prelude.{◌≡◌, ◌≢◌, ◌<◌, ◌↔◌, [], ◌∷◌, ◌++◌, IsTrue, IsPermutation, MatchResult, length, map};
 ghost use Rattle.region_cut.specs.Classes.{slots_of};
+ghost use Rattle.slot_chain.specs.Buffer.{ended_of};
 ghost use Rattle.slot_chain.specs.Counts.{capped};
-ghost use Rattle.pool_desk.specs.Homes.{Draws, GivesOne, slot_at, unused_from};
+ghost use Rattle.pool_desk.specs.Homes.{Draws, GivesOne, kept_in, slot_at, unused_from};
 ghost use Rattle.pool_desk.specs.Homes.AtHome.{Kept};
 ghost use Rattle.pool_desk.specs.Listed.{AddsOn};
 ghost use Rattle.pool_desk.specs.ByClass.{HasClass, LacksClass, IsWanting};
 
 use crate::DeskError;
 use crate::by_class::{
-    ByClass, add_all, alloc_at, claim_at, count_all, empty_homes, has_at, keep_at,
+    ByClass, add_all, alloc_at, claim_at, count_all, empty_homes, end_all, has_at, keep_at,
 };
-use region_cut::{Class, Part, Slot};
+use region_cut::{Class, Endings, Part, Slot};
 use slot_chain::{Buf, NoMemory};
 use std::alloc::Global;
 use std::marker::Model;
@@ -96,5 +97,13 @@ impl<'r> Homes<'r> {
         ensures { AddsOn result (map slot_at self.now.slots) slots.old.items slots.new.items }
     {
         add_all(self.by_class.as_slice(), slots)
+    }
+
+    /// Lets go the buffers and the cursors.
+    pub(crate) fn end(self, endings: &mut Endings<'r>)
+        ensures { endings.new ≡ record { known = map ended_of (kept_in self.entry.slots) ++ endings.old.known; chunks = self.entry.drawn ++ endings.old.chunks } }
+    {
+        let Homes { owner: _, by_class } = self;
+        end_all(by_class, endings);
     }
 }

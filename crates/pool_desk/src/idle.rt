@@ -1,13 +1,15 @@
 //! A desk that no worker holds.
-ghost use Rattle.std.specs.Prelude.{◌≡◌, ◌<◌, ◌≤◌, ◌^◌, [], length, OnOk, OnErr};
+ghost use Rattle.std.specs.Prelude.{◌≡◌, ◌<◌, ◌≤◌, ◌^◌, ◌++◌, [], length, map, OnOk, OnErr};
 ghost use Rattle.digit_route.specs.Digits.{Scheme};
+ghost use Rattle.slot_chain.specs.Buffer.{ended_of};
 ghost use Rattle.slot_chain.specs.Counts.{capped};
+ghost use Rattle.pool_desk.specs.Homes.{kept_in};
 ghost use Rattle.pool_desk.specs.Listed.{Adds, slots_in};
 
 use crate::desk::Desk;
 use crate::homes::Homes;
 use digit_route::{Cache, Digits};
-use region_cut::Slot;
+use region_cut::{Endings, Slot};
 use slot_chain::NoMemory;
 use std::marker::Model;
 
@@ -82,5 +84,13 @@ impl<'r> IdleDesk<'r> {
         }
         slots.truncate(start);
         Err(NoMemory)
+    }
+
+    /// Lets go the buffers at home, and the cursors over its chunks. Takes a walk over the buffers, and no memory.
+    pub fn end(self, endings: &mut Endings<'r>)
+        ensures { endings.new ≡ record { known = map ended_of (kept_in self.entry.home) ++ endings.old.known; chunks = self.entry.drawn ++ endings.old.chunks } }
+    {
+        let IdleDesk { homes, cache: _ } = self;
+        homes.end(endings);
     }
 }

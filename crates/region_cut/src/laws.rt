@@ -3,6 +3,7 @@
 ghost use Rattle.std.specs.Prelude.{◌↔◌, IsTrue};
 ghost use Rattle.std.specs.Borrow.{sem};
 ghost use Rattle.region_cut.specs.Endings.{WholeEndsJoined, SlicesLieInOrder, SlicesAreGivenInOrder, PartsLieInOrder, PartsMakeTheWhole, SlotsLieAtTheirRanges};
+ghost use Rattle.region_cut.specs.Ended.{KnownEndsStay};
 ghost use Rattle.region_cut.specs.Ranges.{SlotsShareNoByte};
 ghost use Rattle.region_cut.specs.Slots.{IsBefore};
 
@@ -53,4 +54,9 @@ pub fn slots_lie_at_their_ranges()
 /// The ranges of two slots have no byte in common.
 pub fn slots_share_no_byte()
     ensures { SlotsShareNoByte }
+{}
+
+/// What is known of a slice stays known, and the same, whatever is let go later.
+pub fn known_ends_stay()
+    ensures { KnownEndsStay }
 {}

@@ -10,11 +10,14 @@
 //! each slice has a ghost name: the names that a [`Bump`] gave, in order, are the slots of its
 //! chunk from the front, and the names of the parts, in order, are the chunks of their region
 //! (`specs/Joins.antt`, [`laws`]). A caller that wants to know what its region holds afterwards
-//! gives back to a [`Front`] what was cut off it.
+//! gives back to a [`Front`] what was cut off it, in order, or lets go all of it into [`Endings`], in
+//! any order in which a slice goes after those that were lent out of it.
 #![tactic(auto)]
 
 mod class;
+mod endings;
 mod error;
+mod known;
 pub mod laws;
 mod part;
 mod profile;
@@ -24,6 +27,7 @@ mod tie;
 mod ties;
 
 pub use class::{Class, SIZES};
+pub use endings::Endings;
 pub use error::CutError;
 pub use part::{Bump, Part, Piece};
 pub use profile::{Profile, class_for};

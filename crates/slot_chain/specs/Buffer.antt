@@ -2,6 +2,7 @@
 use Rattle.std.specs.Prelude.{◌≡◌, ℕ, ◌<◌, List, length}
 use Rattle.std.specs.Borrow.{MutBor}
 use Rattle.region_cut.specs.Classes.{size_of}
+use Rattle.region_cut.specs.Ended.{Ended}
 use Rattle.region_cut.specs.declared.slot.Slot.{Slot}
 
 -- two buffers are the same where these agree: `bytes` has the bytes now, and the name that tells the bytes when the borrow ends
@@ -15,3 +16,7 @@ pub record Buffer : Type 0 where
 -- its owner is a number of at most 12 bits, and its slice has the class's size
 abbrev pub IsBuffer : Buffer → Type 0
 IsBuffer b = (b.owner < 4096) × (length b.bytes.now ≡ size_of b.class)
+
+-- where the buffer is let go, its slice ends as the bytes that it has
+abbrev pub ended_of : Buffer → Ended
+ended_of b = record { name = b.bytes.ghost_name; bytes = b.bytes.now }

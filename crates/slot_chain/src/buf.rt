@@ -4,7 +4,7 @@ ghost use Rattle.std.specs.Ptr.{block_ptr};
 ghost use Rattle.region_cut.specs.Classes.{size_of};
 
 use crate::node::Node;
-use region_cut::{Class, Slot};
+use region_cut::{Class, Front, Slot};
 use std::marker::Model;
 use std::slice;
 
@@ -37,6 +37,8 @@ impl<'r> Model for Buf<'r> {
 
 impl<'r> Buf<'r> {
     ghost use Rattle.std.specs.Borrow.{sem};
+    ghost use Rattle.std.specs.Prelude.{[]};
+    ghost use Rattle.region_cut.specs.Fronts.{whole_of, settled_of, lent_of, rest_of};
     ghost use Rattle.slot_chain.specs.Lends.{LendsBytes};
 
     /// The place of the buffer in its region.
@@ -100,5 +102,24 @@ impl<'r> Buf<'r> {
     {
         let (at, len) = self.words();
         unsafe { slice::from_raw_parts_mut(at, len) }
+    }
+
+    /// Gives up the box, and gives the bytes back, of which nothing is lent, to be let go.
+    pub fn into_front(self) -> Front<'r>
+        ensures whole { whole_of result ≡ self.entry.bytes.ghost_name }
+        ensures settled { settled_of result ≡ [] }
+        ensures lent { lent_of result ≡ [] }
+        ensures rest { rest_of result ≡ self.entry.bytes.now }
+    {
+        let Buf { node } = self;
+        let Node {
+            slot: _,
+            class: _,
+            owner: _,
+            forwards: _,
+            lease,
+            below: _,
+        } = Box::into_inner(node);
+        Front::new(lease.into_bytes())
     }
 }

@@ -1,11 +1,12 @@
 //! Lists of buffers, linked through the boxes that they lie in.
-ghost use Rattle.std.specs.Prelude.{◌≡◌, [], ◌∷◌, ◌++◌, length, MatchOption, MatchBool, IsTrue, ◌↔◌};
-ghost use Rattle.slot_chain.specs.Buffer.{Buffer};
+ghost use Rattle.std.specs.Prelude.{◌≡◌, [], ◌∷◌, ◌++◌, length, map, MatchOption, MatchBool, IsTrue, ◌↔◌};
+ghost use Rattle.slot_chain.specs.Buffer.{Buffer, ended_of};
 ghost use Rattle.slot_chain.specs.Counts.{capped, sizes};
 
 use crate::buf::Buf;
 use crate::node::Node;
 use crate::walk::Walk;
+use region_cut::Endings;
 use std::marker::Model;
 use std::mem;
 
@@ -176,6 +177,16 @@ impl<'r> Chain<'r> {
         match self.top {
             None => true,
             Some(_) => false,
+        }
+    }
+
+    /// Lets go all buffers: it is then known what each ends as. Takes a walk over them.
+    pub fn end(self, endings: &mut Endings<'r>)
+        ensures { endings.new ≡ record endings.old { known = map ended_of self.entry ++ endings.old.known } }
+    {
+        let mut chain = self;
+        while let Some(buf) = chain.pop() {
+            endings.close(buf.into_front());
         }
     }
 

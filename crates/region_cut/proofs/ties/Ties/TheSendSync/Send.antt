@@ -6,14 +6,14 @@ use denote.Exit.{Exit, Kept, unchanged, leaves, hidden, under}
 use denote.Param.Send.{IsSend, Quiet, owning_send, struct_send}
 use denote.Struct.Owning.{shape, fields, to}
 use denote.Struct.Struct.{exits_of}
-use Rattle.region_cut.specs.Joins.{joins_after}
+use Rattle.region_cut.specs.Joins.{ends_after}
 use Rattle.region_cut.specs.Carved.{Carved, all_joined}
 use Rattle.region_cut.specs.contracts.ties.Ties.{the_row, the_type}
 
-keyless : (γ : GName) (done : List ℕ) (xs : List GName) (δ : GName) → Keyless (joins_after γ done xs δ)
-unfolding joins_after
-keyless γ done [] δ = λ w. (tt, tt)
-keyless γ done (x ∷ xs) δ = λ v. (tt, keyless γ (done ++ v) xs δ)
+keyless : (γ : GName) (done : List ℕ) (xs : List GName) (tail : List ℕ) → Keyless (ends_after γ done xs tail)
+unfolding ends_after
+keyless γ done [] tail = tt
+keyless γ done (x ∷ xs) tail = λ v. (tt, keyless γ (done ++ v) xs tail)
 
 keyless_all : (cs : List Carved) → Keyless (all_joined cs)
 unfolding all_joined
