@@ -293,7 +293,7 @@ counted_drawn f (x ∷ xs) a (suc n) l e =
     let z : one_if (is_some (f a)) ≡ 1 = ap (λ o. one_if (is_some o)) (first_drawn f (x ∷ xs) a e) in
     omega (arith, h, r, z)
 
-some_at : (xs : List Drawn) (k : ℕ) → k < length xs → (d : Drawn) × (slice_get xs k ≡ Some d)
+pub some_at : {X : Type 0} (xs : List X) (k : ℕ) → k < length xs → (x : X) × (slice_get xs k ≡ Some x)
 some_at [] k l = absurd (omega arith)
 some_at (x ∷ xs) zero l = (x, refl)
 some_at (x ∷ xs) (suc k) l = some_at xs k (omega arith)

@@ -1,10 +1,12 @@
 -- Names of slots that are handed out.
-use Rattle.std.proofs.Common.{◌≡◌, ◌≢◌, ℕ, ◌+◌, ◌<◌, ◌≤◌, Bool, true, false, ◌==◌, cond, List, [], ◌∷◌, ◌++◌, length, get_or, set, All, Option, Some, None, refl, sym, ap, ◌∙◌, subst, arith, ⊎_elim, IsPermutation}
+use Rattle.std.proofs.Common.{◌≡◌, ◌≢◌, ℕ, suc, ◌+◌, ◌*◌, ◌<◌, ◌≤◌, Bool, true, false, ◌==◌, cond, List, [], ◌∷◌, ◌++◌, length, get_or, set, All, Option, Some, None, refl, sym, ap, ◌∙◌, subst, arith, ⊎_elim, IsPermutation}
 use Rattle.std.specs.List.{slice_get}
+use Rattle.std.proofs.Math.Nat.{suc-mul}
 use Rattle.std.proofs.lemmas.Bool.Decides.{eqb_tells}
-use Rattle.std.proofs.lemmas.List.{length-set, length_push, get_or-set_same, get_or-set_other}
+use Rattle.std.proofs.lemmas.List.{length-set, length_push, length-append, get_or-set_same, get_or-set_other}
 use Rattle.std.proofs.lemmas.List.Elements.{All-cons, All-head, All-tail}
 use Rattle.std.proofs.lemmas.List.Sorted.{All-permutation, IsPermutation-sym}
+use Rattle.region_cut.specs.declared.TheConstants.{CHUNK}
 use Rattle.region_cut.specs.declared.slot.Slot.{Slot}
 use Rattle.region_cut.specs.Carved.{Carved}
 use Rattle.region_cut.specs.Classes.{size_of, slots_of}
@@ -35,7 +37,7 @@ drawn_apart a b None e ne = refl
 drawn_apart a b (Some d) e ne = other_eqb d.owner b (λ q. ne (sym q ∙ eqb_is d.owner a e))
 
 -- what two facts say of each element
-All-to-both : {X : Type 0} (P Q R : X → Type 0) (xs : List X) → ((x : X) → P x → Q x → R x) → All P xs → All Q xs → All R xs
+pub All-to-both : {X : Type 0} (P Q R : X → Type 0) (xs : List X) → ((x : X) → P x → Q x → R x) → All P xs → All Q xs → All R xs
 All-to-both P Q R xs f p q = λ k d l. f (get_or xs k d) (p k d l) (q k d l)
 
 module _ (names : List Carved) (v w : FloorSeen) (a n : ℕ) (slot : Slot) (f : AreNames names v) (s : LendsSlot v a n slot w) where
@@ -173,10 +175,19 @@ module _ (names : List Carved) (v w : FloorSeen) (a n : ℕ) (slot : Slot) (f : 
         let at = t.place in
         omega (arith, low, more, at)
 
+    taken_whole : length taken.taken * size_of taken.class + length taken.rest ≡ CHUNK
+    taken_whole =
+        let z = size_of t.from.class in
+        let k = (f.chunks chunk t.from at_chunk).whole in
+        let more : length taken.taken ≡ suc (length t.from.taken) = (let l = length_push t.from.taken buffer.bytes.ghost_name in omega (arith, l)) in
+        let size : length buffer.bytes.now ≡ z = ap length g.3 ∙ (fresh_named.size ∙ ap size_of (sym t.class_is)) in
+        let left : length t.from.rest ≡ length buffer.bytes.now + length t.rest = ap length t.left ∙ length-append buffer.bytes.now t.rest in
+        subst (λ n. n * z + length t.rest ≡ CHUNK) (sym more) (omega (arith, suc-mul (length t.from.taken) z, size, left, k))
+
     taken_chunk : IsNamedChunk v.parts v.drawn chunk taken
     taken_chunk =
         let k = f.chunks chunk t.from at_chunk in
-        record { number = t.chunk; class = k.class; part = k.part; few = taken_few }
+        record { number = t.chunk; class = k.class; part = k.part; few = taken_few; whole = taken_whole }
 
     lent_chunks : (j : ℕ) (c : Carved) → slice_get new_names j ≡ Some c → IsNamedChunk v.parts v.drawn j c
     lent_chunks j c e = ⊎_elim

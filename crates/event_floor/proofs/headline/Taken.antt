@@ -210,6 +210,8 @@ module _ (names : List Carved) (v w : FloorSeen) (a class k : ℕ) (n : AreNames
         ∙ (ap (option_map (λ (d : Drawn). d.class)) (get_last v.drawn (record { owner = a; class = class })) ∙ ap (λ m. Some m) (sym s.claims.drawn.uncut.class_is));
     part = ap (slice_get v.parts) (same ∙ last_place) ∙ (s.has_name ∙ ap (λ g. Some g) (sym s.claims.drawn.uncut.whole));
     few = subst (λ xs. length xs ≤ slots_of new_chunk.class) (sym s.claims.drawn.uncut.none_taken) (omega arith);
+    whole = subst (λ xs. length xs * size_of new_chunk.class + length new_chunk.rest ≡ CHUNK) (sym s.claims.drawn.uncut.none_taken)
+        (let left : length new_chunk.rest ≡ length s.part.bytes.now = ap length s.claims.drawn.uncut.all_left in let all = s.part.is_whole in omega (arith, left, all));
   }
 
   claimed_chunks : (j : ℕ) (c : Carved) → slice_get new_names j ≡ Some c → IsNamedChunk v.parts new_drawn j c
@@ -223,6 +225,7 @@ module _ (names : List Carved) (v w : FloorSeen) (a class k : ℕ) (n : AreNames
         class = ap (option_map (λ (d : Drawn). d.class)) (get_before v.drawn (record { owner = a; class = class }) j (λ q. other.1 (q ∙ sym n.count))) ∙ h.class;
         part = h.part;
         few = h.few;
+        whole = h.whole;
       } in r) (eqb_tells j (length names))
 
   each_claimed : (b : ℕ) → b < length (set v.desks a (Held s.after)) → IsNamedDesk new_names new_drawn b (get_or (set v.desks a (Held s.after)) b no_desk)

@@ -1,6 +1,7 @@
 -- The names by which the bytes of the slots are known when the region's borrow ends.
-use Rattle.std.specs.Prelude.{◌≡◌, ℕ, ◌<◌, ◌≤◌, Bool, false, ◌==◌, List, length, slice_get, slice_index_or, count_by, Option, Some, None, IfSome, All}
+use Rattle.std.specs.Prelude.{◌≡◌, ℕ, ◌+◌, ◌*◌, ◌<◌, ◌≤◌, Bool, false, ◌==◌, List, length, slice_get, slice_index_or, count_by, Option, Some, None, IfSome, All}
 use Rattle.std.specs.Borrow.{GName}
+use Rattle.region_cut.specs.declared.TheConstants.{CHUNK}
 use Rattle.region_cut.specs.Carved.{Carved}
 use Rattle.region_cut.specs.Classes.{size_of, slots_of}
 use Rattle.slot_chain.specs.Buffer.{Buffer}
@@ -57,12 +58,14 @@ pub record IsNamedDesk (names : List Carved) (drawn : List Drawn) (a : ℕ) (s :
   pub same : All (λ (c : Carved). slice_get names c.chunk ≡ Some c) (chunks_of s)
   pub once : (k : ℕ) → count_by (λ (c : Carved). c.chunk == k) (chunks_of s) ≡ one_if (drew drawn a k)
 
--- chunk k was drawn for its class, over the part of its number, and no more names were taken of it than it has slots
+-- chunk k was drawn for its class, over the part of its number; no more names were taken of it than it has slots, and what is left of it
+-- are the bytes behind them
 pub record IsNamedChunk (parts : List GName) (drawn : List Drawn) (k : ℕ) (c : Carved) : Type 0 where
   pub number : c.chunk ≡ k
   pub class : class_drawn drawn k ≡ Some c.class
   pub part : slice_get parts k ≡ Some c.whole
   pub few : length c.taken ≤ slots_of c.class
+  pub whole : length c.taken * size_of c.class + length c.rest ≡ CHUNK
 
 -- these are the drawn chunks of the floor in order, each with its part and the names taken of it, and all buffers have their names
 pub record AreNames (names : List Carved) (v : FloorSeen) : Type 0 where
