@@ -1,12 +1,13 @@
 -- The numbers and the names of the undrawn parts.
-use Rattle.std.proofs.Common.{◌≡◌, ℕ, zero, suc, ◌+◌, ◌<◌, ◌≤◌, List, [], ◌∷◌, ◌++◌, length, map, reverse, drop, get_or, Some, refl, sym, ap, ◌∙◌, arith, drop-cons}
+use Rattle.std.proofs.Common.{◌≡◌, ℕ, zero, suc, ◌+◌, ◌<◌, ◌≤◌, List, [], ◌∷◌, ◌++◌, length, map, reverse, drop, get_or, Some, refl, sym, ap, ap₂, ◌∙◌, arith, drop-cons, append_assoc}
 use Rattle.std.specs.Borrow.{GName}
 use Rattle.std.specs.List.{slice_get}
 use Rattle.std.proofs.lemmas.Option.{slice_get-get_or}
 use Rattle.std.proofs.lemmas.List.{reverse-append, map-append, length-map, length-reverse, length_push}
 use Rattle.region_cut.specs.declared.part.Part.{Part}
+use Rattle.region_cut.specs.Ended.{EndingsState}
 use Rattle.region_cut.specs.Parts.{number_of, name_of, bytes_of, numbers_from}
-use Rattle.event_floor.specs.Chunks.{AreNumbered, AreUndrawn, stacked}
+use Rattle.event_floor.specs.Chunks.{AreNumbered, AreUndrawn, stacked, ended_part, ended_parts}
 
 reverse_cons : {X : Type 0} (x : X) (xs : List X) → reverse (x ∷ xs) ≡ reverse xs ++ x ∷ []
 reverse_cons x xs = reverse-append (x ∷ []) xs
@@ -91,3 +92,22 @@ module _ (drawn : ℕ) (names : List GName) (rest : List Part) (p : Part) (h : A
 
   pub drawn_name : slice_get names p.chunk ≡ Some (name_of p)
   drawn_name = ap (slice_get names) drawn_number ∙ (slice_get-get_or names drawn (name_of p) drawn_below ∙ ap (λ n. Some n) (sym name.1))
+
+-- ---- parts that are let go
+
+abbrev pub parts_let_go : List Part → EndingsState → EndingsState
+parts_let_go ps s = record s { known = map ended_part ps ++ s.known }
+
+pub part_ends : (rest : List Part) (p : Part) (s t : EndingsState) → t ≡ record s { known = ended_part p ∷ s.known } → parts_let_go rest t ≡ parts_let_go (rest ++ p ∷ []) s
+part_ends rest p s t e =
+    ap (parts_let_go rest) e
+    ∙ ap (λ es. record s { known = es }) (sym (ap (λ es. es ++ s.known) (map-append ended_part rest (p ∷ [])) ∙ rw append_assoc refl))
+
+zipped : (ps : List Part) → ended_parts (map name_of ps) (map bytes_of ps) ≡ map ended_part ps
+zipped [] = refl
+zipped (p ∷ ps) = ap (λ es. ended_part p ∷ es) (zipped ps)
+
+pub parts_ended : (drawn : ℕ) (names : List GName) (undrawn : List Part) → AreUndrawn drawn names undrawn
+    → ended_parts (drop drawn names) (reverse (map bytes_of undrawn)) ≡ map ended_part (reverse undrawn)
+parts_ended drawn names undrawn h =
+    ap₂ ended_parts (sym (map-reverse name_of undrawn ∙ (ap reverse h.names ∙ reverse-reverse (drop drawn names)))) (sym (map-reverse bytes_of undrawn)) ∙ zipped (reverse undrawn)

@@ -2,7 +2,8 @@
 use Rattle.std.specs.Prelude.{ℕ, zero, suc, ◌≡◌, ◌≤◌, ◌+◌, List, [], ◌∷◌, ◌++◌, length, map, drop, reverse, Option, option_map, slice_get}
 use Rattle.std.specs.Borrow.{GName}
 use Rattle.region_cut.specs.declared.part.Part.{Part}
-use Rattle.region_cut.specs.Parts.{number_of, name_of, numbers_from}
+use Rattle.region_cut.specs.Ended.{Ended}
+use Rattle.region_cut.specs.Parts.{number_of, name_of, bytes_of, numbers_from}
 use Rattle.event_floor.specs.declared.chunks.Drawn.{Drawn}
 
 -- the names of the parts of all chunks, the chunks that are drawn, and the bytes of the parts of the others, all in the order of
@@ -26,6 +27,15 @@ pub record AreUndrawn (drawn : ℕ) (parts : List GName) (undrawn : List Part) :
   pub count : length parts ≡ drawn + length undrawn
   pub numbers : map number_of undrawn ≡ stacked drawn (length undrawn)
   pub names : map name_of undrawn ≡ reverse (drop drawn parts)
+
+-- a part that is let go ends as it is
+abbrev pub ended_part : Part → Ended
+ended_part p = record { name = name_of p; bytes = bytes_of p }
+
+-- and so do the parts of these names, each with its bytes
+abbrev pub ended_parts : List GName → List (List ℕ) → List Ended
+ended_parts (x ∷ xs) (b ∷ bs) = record { name = x; bytes = b } ∷ ended_parts xs bs
+ended_parts xs bs = []
 
 -- the class of a chunk, where it is drawn
 abbrev pub class_drawn : List Drawn → ℕ → Option ℕ

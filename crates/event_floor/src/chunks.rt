@@ -1,12 +1,12 @@
 //! The chunks of a region: those that are drawn, and the parts of those that aren't.
 ghost use Rattle.std.specs.Prelude.{◌≡◌, ◌<◌, ◌∷◌, ◌++◌, [], length, IfOk, MatchOption};
-ghost use Rattle.std.specs.Prelude.{Some, map, option_map, slice_get};
-ghost use Rattle.event_floor.specs.Chunks.{AreNumbered, class_drawn};
+ghost use Rattle.std.specs.Prelude.{Some, drop, map, option_map, slice_get};
+ghost use Rattle.event_floor.specs.Chunks.{AreNumbered, class_drawn, ended_part, ended_parts};
 ghost use Rattle.region_cut.specs.Parts.{name_of, bytes_of};
 ghost use Rattle.region_cut.specs.declared.part.Part.{Part};
 
 use crate::part_names::{PartNames, names_of};
-use region_cut::{Class, Part};
+use region_cut::{Class, Endings, Part};
 use slot_chain::NoMemory;
 use std::alloc::Global;
 use std::marker::Model;
@@ -70,6 +70,20 @@ impl<'r> Chunks<'r> {
         Some(part)
     }
 
+    /// Lets go the parts that aren't drawn.
+    pub(crate) fn end(self, endings: &mut Endings<'r>)
+        ensures { endings.new ≡ record endings.old { known = ended_parts (drop (length self.entry.drawn) self.entry.parts) self.entry.undrawn ++ endings.old.known } }
+    {
+        let Chunks {
+            undrawn,
+            drawn: _,
+            names: _,
+        } = self;
+        let mut undrawn = undrawn;
+        undrawn.reverse();
+        end_parts(undrawn, endings);
+    }
+
     /// How many are drawn.
     pub(crate) fn drawn_count(&self) -> u64
         ensures { result ≡ length self.now.drawn }
@@ -83,5 +97,15 @@ impl<'r> Chunks<'r> {
     {
         let drawn = self.drawn.get(chunk as usize)?;
         Some(drawn.class)
+    }
+}
+
+// Lets go these parts.
+fn end_parts<'r>(parts: Vec<Part<'r>>, endings: &mut Endings<'r>)
+    ensures { endings.new ≡ record endings.old { known = map ended_part parts.entry.items ++ endings.old.known } }
+{
+    let mut parts = parts;
+    while let Some(part) = parts.pop() {
+        endings.close(part.into_front());
     }
 }

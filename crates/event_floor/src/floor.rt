@@ -1,5 +1,5 @@
 //! The floor.
-ghost use Rattle.std.specs.Prelude.{◌≡◌, ◌<◌, ◌≤◌, ◌^◌, length, map, is_some, count_by, IfOk, IfErr, OnErr, IsPermutation};
+ghost use Rattle.std.specs.Prelude.{[], ◌≡◌, ◌<◌, ◌≤◌, ◌^◌, length, map, is_some, count_by, IfOk, IfErr, OnErr, IsPermutation};
 ghost use Rattle.slot_chain.specs.Counts.{capped};
 ghost use Rattle.digit_route.specs.Slots.{slot_of};
 ghost use Rattle.pool_desk.specs.Homes.{slot_at};
@@ -11,6 +11,7 @@ ghost use Rattle.event_floor.specs.Runs.{Runs};
 ghost use Rattle.event_floor.specs.Seats.{home_of, cached_of};
 ghost use Rattle.event_floor.specs.Steps.{Does, Refuses};
 ghost use Rattle.event_floor.specs.headline.Headline.{Applies, Headline, Shows};
+ghost use Rattle.event_floor.specs.headline.Known.{EndsKnown};
 ghost use Rattle.event_floor.specs.headline.Listing.{listing_of};
 ghost use Rattle.event_floor.specs.headline.Names.{IsNamed};
 ghost use Rattle.event_floor.specs.machine.Listing.{Shown};
@@ -19,7 +20,8 @@ ghost use Rattle.event_floor.specs.machine.State.{opening as machine_opening};
 use crate::lists::Lists;
 use crate::{Refusal, Reply, Request};
 use digit_route::Digits;
-use region_cut::{Class, Part, Slot};
+use region_cut::laws::{known_ends_stay, slots_lie_at_their_ranges};
+use region_cut::{Class, Endings, Part, Slot};
 use slot_chain::NoMemory;
 use std::alloc::Global;
 use std::marker::Model;
@@ -106,6 +108,22 @@ impl<'r> Floor<'r> {
         }
         self.keeps();
         Ok(answers)
+    }
+
+    /// Ends the floor: all its buffers, cursors and parts are let go, and what is known of them afterwards tells what the region
+    /// holds. Takes a walk over all of them, and no memory.
+    pub fn end(self) -> Endings<'r>
+        ensures known { EndsKnown self.entry result.known }
+        ensures closed { result.chunks ≡ [] }
+    {
+        let Floor { lists } = self;
+        let mut endings = lists.end();
+        endings.agree();
+        endings.close_chunks();
+        endings.agree();
+        known_ends_stay();
+        slots_lie_at_their_ranges();
+        endings
     }
 
     // What its type keeps.

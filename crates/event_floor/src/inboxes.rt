@@ -1,8 +1,10 @@
 //! The inboxes of all desks.
-ghost use Rattle.std.specs.Prelude.{◌≡◌, ◌<◌, [], length, replicate, slice_index_or, IfOk, MatchOption, MatchBool};
-ghost use Rattle.event_floor.specs.Posted.{IsHalf, IsHalfOf, IsHalfAt, SomePosted, NonePosted};
+ghost use Rattle.std.specs.Prelude.{◌≡◌, ◌<◌, [], ◌++◌, length, map, flat_map, replicate, slice_index_or, IfOk, MatchOption, MatchBool};
+ghost use Rattle.event_floor.specs.Posted.{IsHalf, IsHalfOf, IsHalfAt, SomePosted, NonePosted, buffers_in};
+ghost use Rattle.slot_chain.specs.Buffer.{ended_of};
 
 use crate::inbox::Inbox;
+use region_cut::Endings;
 use slot_chain::NoMemory;
 use std::alloc::Global;
 
@@ -46,4 +48,14 @@ pub(crate) fn any_half_of(inboxes: &[Inbox<'_>], sender: u32) -> bool
         }
     }
     false
+}
+
+/// Lets go all buffers that wait in some inbox.
+pub(crate) fn end_inboxes<'r>(inboxes: Vec<Inbox<'r>>, endings: &mut Endings<'r>)
+    ensures { endings.new ≡ record endings.old { known = map ended_of (flat_map buffers_in inboxes.entry.items) ++ endings.old.known } }
+{
+    let mut inboxes = inboxes;
+    while let Some(inbox) = inboxes.pop() {
+        inbox.end(endings);
+    }
 }

@@ -5,6 +5,7 @@
 #![tactic(auto)]
 
 mod chunks;
+mod ending;
 mod floor;
 mod holding;
 mod inbox;

@@ -1,14 +1,14 @@
 -- What is known once all buffers of a floor, and all parts that aren't drawn, were let go.
-use Rattle.std.proofs.Common.{◌≡◌, ℕ, zero, suc, ◌+◌, ◌*◌, ◌-◌, ◌<◌, ◌≤◌, Bool, true, false, ◌==◌, cond, List, [], ◌∷◌, ◌++◌, map, flat_map, drop, length, get_or, All, Option, Some, None, is_some, refl, sym, ap, ap₂, ◌∙◌, subst, arith, ⊎_elim, IsPermutation}
+use Rattle.std.proofs.Common.{◌≡◌, ℕ, ◌+◌, ◌*◌, ◌-◌, ◌<◌, ◌≤◌, ◌==◌, List, [], ◌∷◌, ◌++◌, map, flat_map, length, get_or, All, Option, Some, None, is_some, refl, sym, ap, ap₂, ◌∙◌, subst, arith, ⊎_elim, IsPermutation}
 use Rattle.std.specs.Prelude.{count_by, option_map}
 use Rattle.std.specs.Borrow.{GName}
 use Rattle.std.specs.List.{slice_get}
 use Rattle.std.proofs.Math.Nat.{suc-mul}
 use Rattle.std.proofs.lemmas.Bool.{true≢false, cases_lt}
-use Rattle.std.proofs.lemmas.Option.{slice_get_within, slice_get-get_or, get_or_from_slice_get}
+use Rattle.std.proofs.lemmas.Option.{slice_get-get_or, get_or_from_slice_get}
 use Rattle.std.proofs.lemmas.List.{length-map, length-append, length-drop, get_or-map, get_or-drop}
 use Rattle.std.proofs.lemmas.List.Elements.{All-nil, All-cons, All-head, All-tail}
-use Rattle.std.proofs.lemmas.List.Sorted.{All-permutation, IsPermutation-sym}
+use Rattle.std.proofs.lemmas.List.Sorted.{All-permutation, IsPermutation-sym, IsPermutation-refl}
 use Rattle.region_cut.specs.declared.TheConstants.{CHUNK}
 use Rattle.region_cut.specs.declared.slot.Slot.{Slot}
 use Rattle.region_cut.specs.Carved.{Carved}
@@ -18,18 +18,20 @@ use Rattle.region_cut.specs.Endings.{StandsAt, BeginsWith, SlotsLieAtTheirRanges
 use Rattle.region_cut.specs.Ranges.{start_of}
 use Rattle.slot_chain.specs.Buffer.{Buffer, ended_of}
 use Rattle.event_floor.specs.declared.chunks.Drawn.{Drawn}
+use Rattle.event_floor.specs.Chunks.{ended_parts}
 use Rattle.event_floor.specs.Floors.{FloorSeen, desk_at, desk_count}
 use Rattle.event_floor.specs.machine.Slots.{one_if}
 use Rattle.event_floor.specs.machine.State.{State}
 use Rattle.event_floor.specs.machine.Listing.{Shown}
 use Rattle.event_floor.specs.headline.Known.{buffers_of, undrawn_parts, EndsKnown}
 use Rattle.event_floor.specs.headline.Listing.{desk_of, listing_of}
-use Rattle.event_floor.specs.headline.Names.{HasName, AreNames, chunks_of, drew, is_drawn_for}
-use Rattle.event_floor.specs.headline.Whole.{IsStocked}
+use Rattle.event_floor.specs.headline.Headline.{Shows}
+use Rattle.event_floor.specs.headline.Names.{HasName, AreNames, IsNamed, chunks_of, is_drawn_for}
+use Rattle.event_floor.specs.headline.Whole.{IsStocked, IsWhole}
 use Rattle.event_floor.proofs.headline.Found.{All-flat, All-parts, found, seat_each, buffers_named, taken_buffer}
 use Rattle.event_floor.proofs.headline.Counts.{some_at}
 use Rattle.event_floor.proofs.headline.Handed.{All-to-both}
-use Rattle.event_floor.proofs.headline.Named.{All-first}
+use Rattle.event_floor.proofs.headline.Named.{All-first, All-second}
 use Rattle.event_floor.proofs.headline.Taken.{All-to, some_is, same_eqb, eqb_is}
 
 -- ---- lists
@@ -58,14 +60,9 @@ EndsSo known e = IsKnown known e.name × (end_in known e.name ≡ e.bytes)
 
 pub noted : (known : List Ended) → Agrees known → All (EndsSo known) known
 noted known h = λ k d l. (
-      (k, subst (λ n. k < n) (sym (length-map known name_at)) l, get_or-map name_at known k d (get_or known k d).name l),
-      h k d l,
-    )
-
--- the parts of these names, each with its bytes
-abbrev pub ended_parts : List GName → List (List ℕ) → List Ended
-ended_parts (x ∷ xs) (b ∷ bs) = record { name = x; bytes = b } ∷ ended_parts xs bs
-ended_parts xs bs = []
+  (k, subst (λ n. k < n) (sym (length-map known name_at)) l, get_or-map name_at known k d (get_or known k d).name l),
+  h k d l,
+)
 
 parts_end : (known : List Ended) (xs : List GName) (bs : List (List ℕ)) → length xs ≡ length bs → All (EndsSo known) (ended_parts xs bs)
     → All (IsKnown known) xs × (map (end_in known) xs ≡ bs)
@@ -218,3 +215,28 @@ module _ (v : FloorSeen) (names : List Carved) (n : AreNames names v) (st : Stat
                 (lie (end_in second) b.slot b.class (flat_map (end_in second) v.parts ++ tail) v.parts (record { sizes = whole; rest = tail; joined = refl })
                 q.chunk.whole (n.chunks b.slot.chunk q.chunk q.is_chunk).part q.chunk.taken
                 (subst (λ z. BeginsWith (end_in second) q.chunk.taken (size_of z) (end_in second q.chunk.whole)) q.class (chunk_begins b.slot.chunk q.chunk q.is_chunk)) b.bytes.ghost_name q.name)
+
+-- ---- a floor
+
+module _ (v : FloorSeen) (whole : IsWhole v) (shows : Shows v) (named : IsNamed v) (first : List Ended) (chunks : List Carved) (agree : Agrees first) (are : chunks ≡ flat_map chunks_of v.desks)
+    (p : IsPermutation (map ended_of (buffers_of v) ++ ended_parts (undrawn_parts v) v.undrawn) first) where
+  all_noted : All (EndsSo first) (map ended_of (buffers_of v) ++ ended_parts (undrawn_parts v) v.undrawn)
+  all_noted = All-permutation (EndsSo first) _ _ (IsPermutation-sym _ _ p) (noted first agree)
+
+  held : All (EndsSo first) (map ended_of (buffers_of v))
+  held = All-first (EndsSo first) (map ended_of (buffers_of v)) (ended_parts (undrawn_parts v) v.undrawn) all_noted
+
+  left : All (EndsSo first) (ended_parts (undrawn_parts v) v.undrawn)
+  left = All-second (EndsSo first) (map ended_of (buffers_of v)) (ended_parts (undrawn_parts v) v.undrawn) all_noted
+
+  same : IsPermutation (flat_map chunks_of v.desks) chunks
+  same = subst (IsPermutation (flat_map chunks_of v.desks)) (sym are) (IsPermutation-refl (flat_map chunks_of v.desks))
+
+  pub floor_slots : All (HasKnownSlots first) chunks
+  unfolding Shows IsNamed
+  floor_slots = slots_known v named.0 named.1 shows.0 shows.1 shows.2 first agree held chunks same
+
+  pub floor_ends : (last : List Ended) → last ≡ map (ended_chunk first) chunks ++ first → Agrees last → KnownEndsStay → SlotsLieAtTheirRanges → EndsKnown v last
+  unfolding Shows IsNamed
+  floor_ends last is agree' stay lie =
+      subst (EndsKnown v) (sym is) (all_ends_known v named.0 named.1 shows.0 shows.1 shows.2 first agree held chunks same (subst Agrees is agree') stay whole.stocked left lie)

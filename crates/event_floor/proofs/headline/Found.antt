@@ -25,9 +25,9 @@ use Rattle.event_floor.specs.machine.Slots.{same_slot, has_index, times, one_if}
 use Rattle.event_floor.specs.machine.State.{State}
 use Rattle.event_floor.specs.machine.Listing.{DeskListing, BatchListing, slots_seen, Shown}
 use Rattle.event_floor.specs.machine.Headline.{joined}
-use Rattle.event_floor.specs.headline.Known.{buffers_of}
+use Rattle.event_floor.specs.headline.Known.{buffers_with, buffers_of}
 use Rattle.event_floor.specs.headline.Listing.{entry_of, desk_of, batch_of, listing_of}
-use Rattle.event_floor.specs.headline.Names.{HasName, HasNoName, IsNamedHome, IsNamedDesk, AreNames}
+use Rattle.event_floor.specs.headline.Names.{HasName, IsNamedHome, AreNames}
 use Rattle.event_floor.proofs.machine.Basics.{same_slot_eq}
 use Rattle.event_floor.proofs.machine.Enumerate.{count_cons, count_map}
 use Rattle.event_floor.proofs.machine.Joined.{shown_once}
@@ -120,18 +120,18 @@ All-two P Q xs p q = λ k d l. (p k d l, q k d l)
 
 placed_each : (K : Buffer → Type 0) (v : FloorSeen) → All K (buffers_of v) → All (KeptIs K) (places v)
 placed_each K v h =
-    let homes = flat_map (λ (s : Seat). kept_in (home_of s)) v.desks in
     let lent = buffers_lent v.lent in
     let caches = flat_map cached_of v.desks in
     let posts = flat_map buffers_in v.inboxes in
-    let at_home = All-first K homes (lent ++ (caches ++ posts)) h in
-    let others = All-second K homes (lent ++ (caches ++ posts)) h in
-    let out = All-second K lent (caches ++ posts) others in
-    All-append (KeptIs K) (flat_map home_of v.desks) (map Kept lent ++ (map Kept caches ++ map Kept posts))
-    (All-flat (KeptIs K) home_of v.desks
-    (All-to (λ (s : Seat). All K (kept_in (home_of s))) (λ (s : Seat). All (KeptIs K) (home_of s)) v.desks (λ s. kept_each K (home_of s)) (All-parts K (λ (s : Seat). kept_in (home_of s)) v.desks at_home)))
-    (All-append (KeptIs K) (map Kept lent) (map Kept caches ++ map Kept posts) (All-map (KeptIs K) Kept lent (All-first K lent (caches ++ posts) others))
-    (All-append (KeptIs K) (map Kept caches) (map Kept posts) (All-map (KeptIs K) Kept caches (All-first K caches posts out)) (All-map (KeptIs K) Kept posts (All-second K caches posts out))))
+    let desks = All-parts K buffers_with v.desks (All-first K (flat_map buffers_with v.desks) (lent ++ posts) h) in
+    let out = All-second K (flat_map buffers_with v.desks) (lent ++ posts) h in
+    let at_home : All (λ (s : Seat). All (KeptIs K) (home_of s)) v.desks =
+    All-to (λ (s : Seat). All K (buffers_with s)) (λ (s : Seat). All (KeptIs K) (home_of s)) v.desks (λ s g. kept_each K (home_of s) (All-first K (kept_in (home_of s)) (cached_of s) g)) desks in
+    let in_caches : All K caches =
+    All-flat K cached_of v.desks (All-to (λ (s : Seat). All K (buffers_with s)) (λ (s : Seat). All K (cached_of s)) v.desks (λ s g. All-second K (kept_in (home_of s)) (cached_of s) g) desks) in
+    All-append (KeptIs K) (flat_map home_of v.desks) (map Kept lent ++ (map Kept caches ++ map Kept posts)) (All-flat (KeptIs K) home_of v.desks at_home)
+    (All-append (KeptIs K) (map Kept lent) (map Kept caches ++ map Kept posts) (All-map (KeptIs K) Kept lent (All-first K lent posts out))
+    (All-append (KeptIs K) (map Kept caches) (map Kept posts) (All-map (KeptIs K) Kept caches in_caches) (All-map (KeptIs K) Kept posts (All-second K lent posts out))))
 
 lent_each : (P : Buffer → Type 0) (lent : List (Option Buffer)) → ((i : ℕ) → IfSome (get_or lent i None) P) → All P (buffers_lent lent)
 lent_each P [] h = All-nil P
@@ -167,10 +167,11 @@ module _ (v : FloorSeen) (names : List Carved) (n : AreNames names v) where
 
   pub buffers_named : All (HasName names) (buffers_of v)
   buffers_named =
-      All-append (HasName names) (flat_map (λ (s : Seat). kept_in (home_of s)) v.desks) _
-      (All-flat (HasName names) (λ (s : Seat). kept_in (home_of s)) v.desks
-      (All-to (λ (s : Seat). All (IsNamedHome names) (home_of s)) (λ (s : Seat). All (HasName names) (kept_in (home_of s))) v.desks (λ s. kept_back (IsNamedHome names) (home_of s)) home_named))
-      (All-append (HasName names) (buffers_lent v.lent) _ lent_named (All-append (HasName names) (flat_map cached_of v.desks) _ cached_named posted_named))
+      All-append (HasName names) (flat_map buffers_with v.desks) _
+      (All-flat (HasName names) buffers_with v.desks
+      (seat_each (λ (s : Seat). All (HasName names) (buffers_with s)) v
+      (λ a l. All-append (HasName names) (kept_in (home_of (desk_at v a))) _ (kept_back (IsNamedHome names) (home_of (desk_at v a)) (n.desks a l).home) (n.desks a l).cached)))
+      (All-append (HasName names) (buffers_lent v.lent) _ lent_named posted_named)
 
   module _ (st : State) (count : Slot → ℕ) (h : Shown (listing_of v) st count) where
     has_place : (o : Option Drawn) (i class : ℕ) → option_map (λ (d : Drawn). d.class) o ≡ Some class → i < slots_of class → has_index i o ≡ true

@@ -1,5 +1,5 @@
 -- What is known of a region once a floor over it is ended.
-use Rattle.std.specs.Prelude.{ℕ, ◌≡◌, List, [], ◌∷◌, ◌++◌, length, map, drop, flat_map, All}
+use Rattle.std.specs.Prelude.{ℕ, ◌≡◌, List, ◌++◌, length, map, drop, flat_map, All}
 use Rattle.std.specs.Borrow.{GName}
 use Rattle.region_cut.specs.declared.TheConstants.{CHUNK}
 use Rattle.region_cut.specs.Ended.{Ended, IsKnown, end_in}
@@ -13,9 +13,13 @@ use Rattle.event_floor.specs.Posted.{buffers_in}
 use Rattle.event_floor.specs.Seats.{home_of, cached_of}
 use Rattle.event_floor.specs.Floors.{FloorSeen}
 
--- all buffers of a floor: at home, lent, in caches and in batches
+-- the buffers at home with a desk, and those in its cache
+abbrev pub buffers_with : Seat → List Buffer
+buffers_with s = kept_in (home_of s) ++ cached_of s
+
+-- all buffers of a floor: with its desks, lent, and in batches
 abbrev pub buffers_of : FloorSeen → List Buffer
-buffers_of v = flat_map (λ (s : Seat). kept_in (home_of s)) v.desks ++ (buffers_lent v.lent ++ (flat_map cached_of v.desks ++ flat_map buffers_in v.inboxes))
+buffers_of v = flat_map buffers_with v.desks ++ (buffers_lent v.lent ++ flat_map buffers_in v.inboxes)
 
 -- the names of the parts that aren't drawn
 abbrev pub undrawn_parts : FloorSeen → List GName
