@@ -1,4 +1,5 @@
 pub mod ChunkLaws
+pub mod EndLaws
 pub mod FloorLaws
 pub mod HalfLaws
 pub mod IndexLaws

@@ -1,6 +1,8 @@
 -- What the calls of the parts of a floor come to, in the words of its steps.
 use Rattle.std.proofs.Common.{◌≡◌, ℕ, ◌+◌, ◌<◌, ◌≤◌, List, [], ◌∷◌, ◌++◌, length, refl, sym, ◌∙◌, subst}
 use Rattle.std.specs.Prelude.{Option, Some, None}
+use Rattle.std.specs.List.{slice_get}
+use Rattle.region_cut.specs.Parts.{name_of, bytes_of}
 use Rattle.region_cut.specs.declared.part.Part.{Part}
 use Rattle.slot_chain.specs.Buffer.{Buffer}
 use Rattle.digit_route.specs.declared.error.RouteError.{RouteError}
@@ -22,10 +24,10 @@ use Rattle.event_floor.specs.declared.request.Request.TheVariants.{Send}
 use Rattle.event_floor.specs.declared.refusal.Refusal.{Refusal}
 
 pub draws_chunk : (v : FloorSeen) (a class k n : ℕ) (d d' : DeskState) (p : Part) (old new : ChunksSeen)
-    → IsHeld v a d → n ≡ class → class < class_limit v → v.chunks ≡ old.count → v.drawn ≡ old.drawn
-    → p.chunk ≡ length old.drawn → length old.drawn < old.count → new ≡ record old { drawn = old.drawn ++ record { owner = a; class = n } ∷ [] }
-    → Claims d p n d' → k ≡ p.chunk → DrawsChunk v a class k (record (with_desk v a d') { chunks = new.count; drawn = new.drawn })
-draws_chunk v a class k n d d' p old new held same_class few chunks drawn next left is claims k_is = record {
+    → IsHeld v a d → n ≡ class → class < class_limit v → v.chunks ≡ length old.parts → v.parts ≡ old.parts → v.drawn ≡ old.drawn
+    → p.chunk ≡ length old.drawn → slice_get old.parts p.chunk ≡ Some (name_of p) → length old.drawn < length old.parts → v.undrawn ≡ old.undrawn → old.undrawn ≡ bytes_of p ∷ new.undrawn → new ≡ record old { drawn = old.drawn ++ record { owner = a; class = n } ∷ []; undrawn = new.undrawn }
+    → Claims d p n d' → k ≡ p.chunk → DrawsChunk v a class k (record (with_desk v a d') { chunks = length new.parts; parts = new.parts; drawn = new.drawn; undrawn = new.undrawn })
+draws_chunk v a class k n d d' p old new held same_class few chunks parts drawn next name left undrawn first is claims k_is = record {
   before = d;
   after = d';
   part = p;
@@ -34,8 +36,10 @@ draws_chunk v a class k n d d' p old new held same_class few chunks drawn next l
   is_next = rw drawn (k_is ∙ next);
   undrawn = rw (chunks, k_is, next) left;
   is_part = sym k_is;
+  has_name = rw (k_is, parts) name;
+  first = undrawn ∙ first;
   claims = rw same_class at claims;
-  same = rw (is, same_class, drawn, chunks) refl;
+  same = rw (is, same_class, drawn, parts, chunks) refl;
 }
 
 -- a desk in its seat reads numbers as the floor does, and has the seat's number

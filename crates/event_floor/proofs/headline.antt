@@ -17,3 +17,5 @@ pub mod Taken
 pub mod Apart
 pub mod Handed
 pub mod Keeping
+pub mod Found
+pub mod Ends

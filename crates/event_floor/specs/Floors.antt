@@ -1,5 +1,8 @@
 -- What a contract sees of a floor.
-use Rattle.std.specs.Prelude.{ℕ, ◌≡◌, ◌<◌, ◌≤◌, ◌+◌, ◌*◌, ◌^◌, List, [], Option, None, IfSome, length, replicate, slice_index_or, slice_set, All}
+use Rattle.std.specs.Prelude.{ℕ, ◌≡◌, ◌<◌, ◌≤◌, ◌+◌, ◌*◌, ◌^◌, List, [], Option, None, IfSome, map, length, replicate, slice_index_or, slice_set, All}
+use Rattle.std.specs.Borrow.{GName}
+use Rattle.region_cut.specs.Parts.{name_of, bytes_of}
+use Rattle.region_cut.specs.declared.part.Part.{Part}
 use Rattle.region_cut.specs.declared.profile.Profile.{Profile}
 use Rattle.slot_chain.specs.Buffer.{Buffer}
 use Rattle.digit_route.specs.Digits.{Scheme}
@@ -11,13 +14,15 @@ use Rattle.event_floor.specs.declared.seat.Seat.TheVariants.{Idle, Held}
 use Rattle.event_floor.specs.Seats.{idle_seats, new_desk, home_of, cached_of, IsNumbered, HasPlace}
 use Rattle.event_floor.specs.Posted.{Posted, inbox_at}
 
--- how the numbers of desks are read, the limit in bytes of each desk's cache, how many chunks there are, those that are drawn,
--- in the order of their numbers, the desks, the table of the lent buffers, the inbox of each desk, and the number of the next batch
+-- how the numbers of desks are read, the limit in bytes of each desk's cache, how many chunks there are, the names of their parts,
+-- the chunks that are drawn, and the bytes of the parts of the others, all in the order of their numbers, the desks, the table of the lent buffers, the inbox of each desk, and the number of the next batch
 pub record FloorSeen : Type 0 where
   pub digits : Scheme
   pub limit : ℕ
   pub chunks : ℕ
+  pub parts : List GName
   pub drawn : List Drawn
+  pub undrawn : List (List ℕ)
   pub desks : List Seat
   pub lent : List (Option Buffer)
   pub inboxes : List (List Posted)
@@ -60,15 +65,17 @@ with_desk v a d = with_seat v a (Held d)
 abbrev pub with_inbox : FloorSeen → ℕ → List Posted → FloorSeen
 with_inbox v b posted = record v { inboxes = slice_set v.inboxes b posted }
 
--- a floor with nothing drawn and nothing lent, all desks idle, no batch numbered
-abbrev pub opening : ℕ → ℕ → Scheme → ℕ → FloorSeen
-opening desks chunks digits limit = record {
+-- a floor over these parts, with nothing drawn and nothing lent, all desks idle, no batch numbered
+abbrev pub opening : ℕ → List Part → Scheme → ℕ → FloorSeen
+opening desks parts digits limit = record {
   digits = digits;
   limit = limit;
-  chunks = chunks;
+  chunks = length parts;
+  parts = map name_of parts;
   drawn = [];
+  undrawn = map bytes_of parts;
   desks = idle_seats digits limit desks;
-  lent = replicate (256 * chunks) None;
+  lent = replicate (256 * length parts) None;
   inboxes = replicate desks [];
   next = 1;
 }

@@ -1,8 +1,9 @@
 -- What a request does to a floor, and why it is refused.
-use Rattle.std.specs.Prelude.{ℕ, ◌≡◌, ◌≢◌, ◌<◌, ◌≤◌, ◌+◌, ◌∷◌, ◌++◌, ◌⊎◌, [], true, List, length, slice_index_or, slice_set, Option, Some, None, Ok}
+use Rattle.std.specs.Prelude.{ℕ, ◌≡◌, ◌≢◌, ◌<◌, ◌≤◌, ◌+◌, ◌∷◌, ◌++◌, ◌⊎◌, [], true, List, length, slice_get, slice_index_or, slice_set, Option, Some, None, Ok}
 use Rattle.region_cut.specs.declared.part.Part.{Part}
 use Rattle.region_cut.specs.declared.slot.Slot.{Slot}
 use Rattle.region_cut.specs.Classes.{classes_of, largest_of}
+use Rattle.region_cut.specs.Parts.{name_of, bytes_of}
 use Rattle.slot_chain.specs.Buffer.{Buffer}
 use Rattle.slot_chain.specs.Counts.{capped}
 use Rattle.digit_route.specs.Route.{RouteFault}
@@ -99,7 +100,7 @@ Refuses v request refusal = ⊥
 
 -- ---- accepted requests
 
--- the chunk drawn is the next one, and its slots are at home with the desk
+-- the chunk drawn is the next one, its part has the name at its number, and its slots are at home with the desk
 pub record DrawsChunk (old : FloorSeen) (a class chunk : ℕ) (new : FloorSeen) : Type 0 where
   pub before : DeskState
   pub after : DeskState
@@ -109,8 +110,10 @@ pub record DrawsChunk (old : FloorSeen) (a class chunk : ℕ) (new : FloorSeen) 
   pub is_next : chunk ≡ length old.drawn
   pub undrawn : chunk < old.chunks
   pub is_part : part.chunk ≡ chunk
+  pub has_name : slice_get old.parts chunk ≡ Some (name_of part)
+  pub first : old.undrawn ≡ bytes_of part ∷ new.undrawn
   pub claims : Claims before part class after
-  pub same : new ≡ record (with_desk old a after) { drawn = old.drawn ++ record { owner = a; class = class } ∷ [] }
+  pub same : new ≡ record (with_desk old a after) { drawn = old.drawn ++ record { owner = a; class = class } ∷ []; undrawn = new.undrawn }
 
 -- the desk gave out the buffer of a slot at home, and it lies in its place in the table
 pub record LendsSlot (old : FloorSeen) (a size : ℕ) (slot : Slot) (new : FloorSeen) : Type 0 where

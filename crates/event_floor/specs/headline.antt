@@ -4,3 +4,4 @@ pub mod Whole
 pub mod Names
 pub mod Lying
 pub mod Headline
+pub mod Known

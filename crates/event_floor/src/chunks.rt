@@ -1,10 +1,12 @@
 //! The chunks of a region: those that are drawn, and the parts of those that aren't.
 ghost use Rattle.std.specs.Prelude.{◌≡◌, ◌<◌, ◌∷◌, ◌++◌, [], length, IfOk, MatchOption};
-ghost use Rattle.std.specs.Prelude.{option_map, slice_get};
-ghost use Rattle.event_floor.specs.Chunks.{AreNumbered, class_drawn};
+ghost use Rattle.std.specs.Prelude.{Some, drop, map, option_map, slice_get};
+ghost use Rattle.event_floor.specs.Chunks.{AreNumbered, class_drawn, ended_part, ended_parts};
+ghost use Rattle.region_cut.specs.Parts.{name_of, bytes_of};
 ghost use Rattle.region_cut.specs.declared.part.Part.{Part};
 
-use region_cut::{Class, Part};
+use crate::part_names::{PartNames, names_of};
+use region_cut::{Class, Endings, Part};
 use slot_chain::NoMemory;
 use std::alloc::Global;
 use std::marker::Model;
@@ -22,18 +24,19 @@ pub(crate) struct Chunks<'r> {
     // the least number is last
     undrawn: Vec<Part<'r>>,
     drawn: Vec<Drawn>,
+    names: PartNames,
 }
 
 impl<'r> Model for Chunks<'r> {
-    ghost use Rattle.std.specs.Prelude.{◌≡◌, ◌+◌, ◌≤◌, length, map, vec_capacity};
-    ghost use Rattle.region_cut.specs.Parts.{number_of};
-    ghost use Rattle.event_floor.specs.Chunks.{ChunksSeen, stacked};
+    ghost use Rattle.std.specs.Prelude.{◌+◌, ◌≤◌, length, map, reverse, vec_capacity};
+    ghost use Rattle.region_cut.specs.Parts.{bytes_of};
+    ghost use Rattle.event_floor.specs.Chunks.{ChunksSeen, AreUndrawn};
 
     ghost Value = { ChunksSeen };
 
-    ghost view = { λ c. record { count = length c.drawn.items + length c.undrawn.items; drawn = c.drawn.items } };
+    ghost view = { λ c. record { parts = c.names.all; drawn = c.drawn.items; undrawn = reverse (map bytes_of c.undrawn.items) } };
 
-    ghost invariant = { λ c. (map number_of c.undrawn.items ≡ stacked (length c.drawn.items) (length c.undrawn.items))
+    ghost invariant = { λ c. AreUndrawn (length c.drawn.items) c.names.all c.undrawn.items
         × (length c.drawn.items + length c.undrawn.items ≤ vec_capacity c.drawn) };
 }
 
@@ -41,24 +44,44 @@ impl<'r> Chunks<'r> {
     /// The chunks of these parts, none of them drawn.
     pub(crate) fn new(alloc: Global, parts: Vec<Part<'r>>) -> Result<Chunks<'r>, NoMemory>
         requires { AreNumbered parts.items }
-        ensures { IfOk result (λ c. c ≡ record { count = length parts.entry.items; drawn = [] }) }
+        ensures { IfOk result (λ c. c ≡ record { parts = map name_of parts.entry.items; drawn = []; undrawn = map bytes_of parts.entry.items }) }
     {
         let drawn = Vec::with_capacity(alloc, parts.len())?;
+        let names = names_of(&parts);
         let mut undrawn = parts;
         undrawn.reverse();
-        Ok(Chunks { undrawn, drawn })
+        Ok(Chunks {
+            undrawn,
+            drawn,
+            names,
+        })
     }
 
     /// Draws the undrawn chunk with the least number. Takes no memory.
     pub(crate) fn draw(&mut self, owner: u32, class: Class) -> Option<Part<'r>>
         ensures { MatchOption result
-            ((length self.old.drawn ≡ self.old.count) × (self.new ≡ self.old))
-            (λ (p : Part). (p.chunk ≡ length self.old.drawn) × (length self.old.drawn < self.old.count)
-            × (self.new ≡ record self.old { drawn = self.old.drawn ++ record { owner = owner; class = class } ∷ [] })) }
+            ((length self.old.drawn ≡ length self.old.parts) × (self.new ≡ self.old))
+            (λ (p : Part). (p.chunk ≡ length self.old.drawn) × (slice_get self.old.parts p.chunk ≡ Some (name_of p)) × (length self.old.drawn < length self.old.parts)
+            × (self.old.undrawn ≡ bytes_of p ∷ self.new.undrawn)
+            × (self.new ≡ record self.old { drawn = self.old.drawn ++ record { owner = owner; class = class } ∷ []; undrawn = self.new.undrawn })) }
     {
         let part = self.undrawn.pop()?;
         self.drawn.push_reserved(Drawn { owner, class });
         Some(part)
+    }
+
+    /// Lets go the parts that aren't drawn.
+    pub(crate) fn end(self, endings: &mut Endings<'r>)
+        ensures { endings.new ≡ record endings.old { known = ended_parts (drop (length self.entry.drawn) self.entry.parts) self.entry.undrawn ++ endings.old.known } }
+    {
+        let Chunks {
+            undrawn,
+            drawn: _,
+            names: _,
+        } = self;
+        let mut undrawn = undrawn;
+        undrawn.reverse();
+        end_parts(undrawn, endings);
     }
 
     /// How many are drawn.
@@ -74,5 +97,15 @@ impl<'r> Chunks<'r> {
     {
         let drawn = self.drawn.get(chunk as usize)?;
         Some(drawn.class)
+    }
+}
+
+// Lets go these parts.
+fn end_parts<'r>(parts: Vec<Part<'r>>, endings: &mut Endings<'r>)
+    ensures { endings.new ≡ record endings.old { known = map ended_part parts.entry.items ++ endings.old.known } }
+{
+    let mut parts = parts;
+    while let Some(part) = parts.pop() {
+        endings.close(part.into_front());
     }
 }

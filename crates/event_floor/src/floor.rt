@@ -1,5 +1,5 @@
 //! The floor.
-ghost use Rattle.std.specs.Prelude.{◌≡◌, ◌<◌, ◌≤◌, ◌^◌, length, map, is_some, count_by, IfOk, IfErr, OnErr, IsPermutation};
+ghost use Rattle.std.specs.Prelude.{[], ◌≡◌, ◌<◌, ◌≤◌, ◌^◌, length, map, is_some, count_by, IfOk, IfErr, OnErr, IsPermutation};
 ghost use Rattle.slot_chain.specs.Counts.{capped};
 ghost use Rattle.digit_route.specs.Slots.{slot_of};
 ghost use Rattle.pool_desk.specs.Homes.{slot_at};
@@ -11,6 +11,7 @@ ghost use Rattle.event_floor.specs.Runs.{Runs};
 ghost use Rattle.event_floor.specs.Seats.{home_of, cached_of};
 ghost use Rattle.event_floor.specs.Steps.{Does, Refuses};
 ghost use Rattle.event_floor.specs.headline.Headline.{Applies, Headline, Shows};
+ghost use Rattle.event_floor.specs.headline.Known.{EndsKnown};
 ghost use Rattle.event_floor.specs.headline.Listing.{listing_of};
 ghost use Rattle.event_floor.specs.headline.Names.{IsNamed};
 ghost use Rattle.event_floor.specs.machine.Listing.{Shown};
@@ -19,7 +20,8 @@ ghost use Rattle.event_floor.specs.machine.State.{opening as machine_opening};
 use crate::lists::Lists;
 use crate::{Refusal, Reply, Request};
 use digit_route::Digits;
-use region_cut::{Class, Part, Slot};
+use region_cut::laws::{known_ends_stay, slots_lie_at_their_ranges};
+use region_cut::{Class, Endings, Part, Slot};
 use slot_chain::NoMemory;
 use std::alloc::Global;
 use std::marker::Model;
@@ -59,7 +61,7 @@ impl<'r> Floor<'r> {
         requires few { desks ≤ 2 ^ digits.bits }
         requires limit { limit ≤ 1048576 }
         requires parts { AreNumbered parts.items }
-        ensures opening { IfOk result (λ f. f ≡ opening desks (length parts.entry.items) digits limit) }
+        ensures opening { IfOk result (λ f. f ≡ opening desks parts.entry.items digits limit) }
         ensures shows { IfOk result (λ f. Shown (listing_of f) (machine_opening desks (length parts.entry.items) digits limit) (λ slot. 0)) }
     {
         let _profile = digits.profile();
@@ -78,6 +80,7 @@ impl<'r> Floor<'r> {
         ensures refuses { IfErr result (λ refusal. Refuses self.old request refusal) }
         ensures unchanged { OnErr result (self.new ≡ self.old) }
         ensures desks { desk_count self.new ≡ desk_count self.old }
+        ensures parts { self.new.parts ≡ self.old.parts }
     {
         let answer = self.lists.apply(alloc, request);
         self.lists.keeps();
@@ -96,6 +99,7 @@ impl<'r> Floor<'r> {
         ensures runs { IfOk result (λ answers. Runs self.old requests.now answers.items self.new) }
         ensures unchanged { OnErr result (self.new ≡ self.old) }
         ensures desks { desk_count self.new ≡ desk_count self.old }
+        ensures parts { self.new.parts ≡ self.old.parts }
     {
         self.keeps();
         let mut answers = Vec::with_capacity(alloc, requests.len())?;
@@ -105,6 +109,22 @@ impl<'r> Floor<'r> {
         }
         self.keeps();
         Ok(answers)
+    }
+
+    /// Ends the floor: all its buffers, cursors and parts are let go, and what is known of them afterwards tells what the region
+    /// holds. Takes a walk over all of them, and no memory.
+    pub fn end(self) -> Endings<'r>
+        ensures known { EndsKnown self.entry result.known }
+        ensures closed { result.chunks ≡ [] }
+    {
+        let Floor { lists } = self;
+        let mut endings = lists.end();
+        endings.agree();
+        endings.close_chunks();
+        endings.agree();
+        known_ends_stay();
+        slots_lie_at_their_ranges();
+        endings
     }
 
     // What its type keeps.

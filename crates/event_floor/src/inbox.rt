@@ -1,5 +1,6 @@
 //! A desk's inbox.
-ghost use Rattle.std.specs.Prelude.{◌≡◌, ◌<◌, ◌≤◌, ℕ, ◌∷◌, [], length, slice_index_or, slice_set, All, IfOk, OnErr, None, MatchOption, IsPermutation, map};
+ghost use Rattle.std.specs.Prelude.{◌≡◌, ◌<◌, ◌≤◌, ℕ, ◌∷◌, ◌++◌, [], length, slice_index_or, slice_set, All, IfOk, OnErr, None, MatchOption, IsPermutation, map};
+ghost use Rattle.slot_chain.specs.Buffer.{ended_of};
 ghost use Rattle.slot_chain.specs.Counts.{capped};
 ghost use Rattle.digit_route.specs.Route.{RouteFault};
 ghost use Rattle.digit_route.specs.Slots.{slot_of};
@@ -8,7 +9,7 @@ ghost use Rattle.event_floor.specs.Posted.{Posted, as_linked, no_batch, IsHalf, 
 use crate::waiting::Waiting;
 use digit_route::Batch;
 use pool_desk::Desk;
-use region_cut::Slot;
+use region_cut::{Endings, Slot};
 use slot_chain::NoMemory;
 use std::alloc::Global;
 use std::collections::VecDeque;
@@ -108,6 +109,17 @@ impl<'r> Inbox<'r> {
         }
         let front = self.batches.pop_front()?;
         Some(front.into_batch())
+    }
+
+    /// Lets go all buffers that wait here.
+    pub(crate) fn end(self, endings: &mut Endings<'r>)
+        ensures { endings.new ≡ record endings.old { known = map ended_of (buffers_in self.entry) ++ endings.old.known } }
+    {
+        let Inbox { batches } = self;
+        let mut batches = batches;
+        while let Some(waiting) = batches.pop_back() {
+            waiting.into_batch().into_chain().end(endings);
+        }
     }
 
     /// How many buffers wait here, by a walk.

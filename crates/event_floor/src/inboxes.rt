@@ -1,5 +1,6 @@
 //! The inboxes of all desks.
-ghost use Rattle.std.specs.Prelude.{◌≡◌, ◌<◌, ℕ, [], length, replicate, map, All, IfOk, OnErr, None, MatchOption, MatchBool, IsPermutation};
+ghost use Rattle.std.specs.Prelude.{◌≡◌, ◌<◌, ℕ, [], ◌++◌, length, replicate, map, flat_map, All, IfOk, OnErr, None, MatchOption, MatchBool, IsPermutation};
+ghost use Rattle.slot_chain.specs.Buffer.{ended_of};
 ghost use Rattle.slot_chain.specs.Counts.{capped};
 ghost use Rattle.digit_route.specs.Route.{RouteFault};
 ghost use Rattle.digit_route.specs.Slots.{slot_of};
@@ -9,7 +10,7 @@ use crate::halves::{Half, Halves};
 use crate::inbox::Inbox;
 use digit_route::Batch;
 use pool_desk::Desk;
-use region_cut::Slot;
+use region_cut::{Endings, Slot};
 use slot_chain::NoMemory;
 use std::alloc::Global;
 use std::marker::Model;
@@ -119,5 +120,23 @@ impl<'r> Inboxes<'r> {
         ensures { IfOk result (λ slots. IsPermutation (map slot_of (buffers_in (inbox_at self.now b))) slots.items) }
     {
         self.inboxes[b].slots(alloc)
+    }
+
+    /// Lets go all buffers that wait in some inbox.
+    pub(crate) fn end(self, endings: &mut Endings<'r>)
+        ensures { endings.new ≡ record endings.old { known = map ended_of (flat_map buffers_in self.entry) ++ endings.old.known } }
+    {
+        let Inboxes { inboxes, halves: _ } = self;
+        end_inboxes(inboxes, endings);
+    }
+}
+
+// Lets go the buffers of these inboxes.
+fn end_inboxes<'r>(inboxes: Vec<Inbox<'r>>, endings: &mut Endings<'r>)
+    ensures { endings.new ≡ record endings.old { known = map ended_of (flat_map buffers_in inboxes.entry.items) ++ endings.old.known } }
+{
+    let mut inboxes = inboxes;
+    while let Some(inbox) = inboxes.pop() {
+        inbox.end(endings);
     }
 }

@@ -1,10 +1,12 @@
 //! The lent buffers, each found by the numbers of its slot.
-ghost use Rattle.std.specs.Prelude.{◌≡◌, ◌<◌, ◌≤◌, ◌*◌, ◌+◌, length, replicate, slice_set, IfOk, MatchOption, Some, None, is_some, map};
+ghost use Rattle.std.specs.Prelude.{◌≡◌, ◌<◌, ◌≤◌, ◌*◌, ◌+◌, length, replicate, slice_set, IfOk, MatchOption, Some, None, is_some, map, ◌++◌};
+ghost use Rattle.std.specs.Option.{option_to_list};
+ghost use Rattle.slot_chain.specs.Buffer.{ended_of};
 ghost use Rattle.std.specs.Prelude.{count_by};
 ghost use Rattle.digit_route.specs.Slots.{slot_of};
 ghost use Rattle.event_floor.specs.Lent.{lent_at, place_of, buffers_lent};
 
-use region_cut::Slot;
+use region_cut::{Endings, Slot};
 use slot_chain::{Buf, NoMemory};
 use std::alloc::Global;
 use std::marker::Model;
@@ -70,6 +72,17 @@ impl<'r> Lent<'r> {
         self.places[place].take()
     }
 
+    /// Lets go all lent buffers.
+    pub(crate) fn end(self, endings: &mut Endings<'r>)
+        ensures { endings.new ≡ record endings.old { known = map ended_of (buffers_lent self.entry) ++ endings.old.known } }
+    {
+        let Lent { places } = self;
+        let mut places = places;
+        while let Some(place) = places.pop() {
+            end_place(place, endings);
+        }
+    }
+
     /// How many buffers are lent, by a walk over the table.
     pub(crate) fn count(&self) -> u64
         ensures { result ≡ count_by is_some self.now }
@@ -88,5 +101,14 @@ impl<'r> Lent<'r> {
             }
         }
         Ok(slots)
+    }
+}
+
+// Lets go the buffer of a place, where one is there.
+fn end_place<'r>(place: Option<Buf<'r>>, endings: &mut Endings<'r>)
+    ensures { endings.new ≡ record endings.old { known = map ended_of (option_to_list place.entry) ++ endings.old.known } }
+{
+    if let Some(buf) = place {
+        endings.close(buf.into_front());
     }
 }

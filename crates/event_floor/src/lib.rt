@@ -5,6 +5,7 @@
 #![tactic(auto)]
 
 mod chunks;
+mod ending;
 mod floor;
 mod halves;
 mod holding;
@@ -15,6 +16,7 @@ mod lending;
 mod lent;
 mod lists;
 pub mod naming;
+mod part_names;
 mod refusal;
 mod reply;
 mod request;

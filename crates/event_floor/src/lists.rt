@@ -1,5 +1,5 @@
 //! The lists of a floor.
-ghost use Rattle.std.specs.Prelude.{◌≡◌, ◌≤◌, ◌^◌, length, IfOk, IfErr, OnErr};
+ghost use Rattle.std.specs.Prelude.{◌≡◌, ◌≤◌, ◌^◌, IfOk, IfErr, OnErr};
 ghost use Rattle.event_floor.specs.Chunks.{AreNumbered};
 ghost use Rattle.event_floor.specs.Floors.{desk_count, opening, IsFloor};
 ghost use Rattle.event_floor.specs.Steps.{Does, Refuses};
@@ -28,6 +28,7 @@ pub(crate) struct Lists<'r> {
 }
 
 impl<'r> Model for Lists<'r> {
+    ghost use Rattle.std.specs.Prelude.{length};
     ghost use Rattle.event_floor.specs.Floors.{FloorSeen, IsFloor};
 
     ghost Value = { FloorSeen };
@@ -35,15 +36,17 @@ impl<'r> Model for Lists<'r> {
     ghost view = { λ f. record {
       digits = f.digits;
       limit = f.limit;
-      chunks = f.chunks.count;
+      chunks = length f.chunks.parts;
+      parts = f.chunks.parts;
       drawn = f.chunks.drawn;
+      undrawn = f.chunks.undrawn;
       desks = f.desks.items;
       lent = f.lent;
       inboxes = f.inboxes;
       next = f.next;
     } };
 
-    ghost invariant = { λ f. IsFloor f.digits f.limit f.chunks.count f.desks.items f.lent f.inboxes f.next };
+    ghost invariant = { λ f. IsFloor f.digits f.limit (length f.chunks.parts) f.desks.items f.lent f.inboxes f.next };
 }
 
 impl<'r> Lists<'r> {
@@ -59,7 +62,7 @@ impl<'r> Lists<'r> {
         requires few { desks ≤ 2 ^ digits.bits }
         requires limit { limit ≤ 1048576 }
         requires parts { AreNumbered parts.items }
-        ensures { IfOk result (λ f. f ≡ opening desks (length parts.entry.items) digits limit) }
+        ensures { IfOk result (λ f. f ≡ opening desks parts.entry.items digits limit) }
     {
         let _profile = digits.profile();
         let lent = Lent::new(alloc, parts.len())?;

@@ -23,7 +23,7 @@ entry_slots : (n : ℕ) (home : List AtHome) → slots_seen (map (entry_at n) ho
 entry_slots n [] = refl
 entry_slots n (x ∷ home) = ap₂ ◌∷◌ (slot_seen n x) (entry_slots n home)
 
-home_slots : (s : Seat) → slots_seen (desk_of s).home ≡ map slot_at (home_of s)
+pub home_slots : (s : Seat) → slots_seen (desk_of s).home ≡ map slot_at (home_of s)
 home_slots (Idle d) = entry_slots d.number d.home
 home_slots (Held d) = entry_slots d.number d.home
 

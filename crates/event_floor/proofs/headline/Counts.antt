@@ -1,5 +1,5 @@
 -- What a floor's calls count, from the lists that it shows.
-use Rattle.std.proofs.Common.{◌≡◌, ◌≢◌, ℕ, zero, suc, ◌+◌, ◌<◌, ◌≤◌, Bool, true, false, ◌&&◌, ◌==◌, cond, List, [], ◌∷◌, ◌++◌, map, filter, length, get_or, sum_by, flat_map, All, Option, Some, None, is_some, if◌then◌else◌, refl, sym, ap, ap₂, ◌∙◌, subst, arith, ⊎_elim}
+use Rattle.std.proofs.Common.{◌≡◌, ◌≢◌, ℕ, zero, suc, ◌+◌, ◌<◌, ◌≤◌, Bool, true, false, ◌&&◌, ◌==◌, List, [], ◌∷◌, ◌++◌, map, filter, length, get_or, sum_by, flat_map, All, Option, Some, None, is_some, if◌then◌else◌, refl, sym, ap, ap₂, ◌∙◌, subst, arith, ⊎_elim}
 use Rattle.std.specs.List.{range_with_len, slice_get}
 use Rattle.std.specs.Prelude.{count_by}
 use Rattle.std.proofs.lemmas.Bool.{eqb-true, ne_eqb, eq-eqb, cases_lt}
@@ -21,7 +21,7 @@ use Rattle.event_floor.specs.Posted.{Posted, buffers_in, inbox_at}
 use Rattle.event_floor.specs.Seats.{home_of, cached_of}
 use Rattle.event_floor.specs.Floors.{FloorSeen, desk_at}
 use Rattle.event_floor.specs.machine.Slots.{same_slot, times, one_if}
-use Rattle.event_floor.specs.machine.State.{State, Waiting, owner_of, is_slot, slots, is_home, is_lent, is_posted, cached_by, slots_of_batch, inbox}
+use Rattle.event_floor.specs.machine.State.{State, Waiting, owner_of, is_slot, slots, is_lent, is_posted, cached_by, slots_of_batch}
 use Rattle.event_floor.specs.machine.Listing.{Named, HomeOf, Loans, CacheOf, BatchOf, Entry, DeskListing, BatchListing, Listing, Counted, named_of, is_list, list_named, slots_seen, if_numbered, desk_listing, inbox_listing, as_waiting, Shown}
 use Rattle.event_floor.specs.machine.Sound.{Rising}
 use Rattle.event_floor.specs.machine.Told.{at_home_with, home_count, cached_count, queued_count, lent_count, drawn_count}
@@ -293,7 +293,7 @@ counted_drawn f (x ∷ xs) a (suc n) l e =
     let z : one_if (is_some (f a)) ≡ 1 = ap (λ o. one_if (is_some o)) (first_drawn f (x ∷ xs) a e) in
     omega (arith, h, r, z)
 
-some_at : (xs : List Drawn) (k : ℕ) → k < length xs → (d : Drawn) × (slice_get xs k ≡ Some d)
+pub some_at : {X : Type 0} (xs : List X) (k : ℕ) → k < length xs → (x : X) × (slice_get xs k ≡ Some x)
 some_at [] k l = absurd (omega arith)
 some_at (x ∷ xs) zero l = (x, refl)
 some_at (x ∷ xs) (suc k) l = some_at xs k (omega arith)

@@ -1,19 +1,21 @@
 -- Names of slots that are handed out.
-use Rattle.std.proofs.Common.{◌≡◌, ◌≢◌, ℕ, ◌+◌, ◌<◌, ◌≤◌, Bool, true, false, ◌==◌, cond, List, [], ◌∷◌, ◌++◌, length, get_or, set, All, Option, Some, None, refl, sym, ap, ◌∙◌, subst, arith, ⊎_elim, IsPermutation}
+use Rattle.std.proofs.Common.{◌≡◌, ◌≢◌, ℕ, suc, ◌+◌, ◌*◌, ◌<◌, ◌≤◌, Bool, true, false, ◌==◌, cond, List, [], ◌∷◌, ◌++◌, length, get_or, set, All, Option, Some, None, refl, sym, ap, ◌∙◌, subst, arith, ⊎_elim, IsPermutation}
 use Rattle.std.specs.List.{slice_get}
+use Rattle.std.proofs.Math.Nat.{suc-mul}
 use Rattle.std.proofs.lemmas.Bool.Decides.{eqb_tells}
-use Rattle.std.proofs.lemmas.List.{length-set, length_push, get_or-set_same, get_or-set_other}
+use Rattle.std.proofs.lemmas.List.{length-set, length_push, length-append, get_or-set_same, get_or-set_other}
 use Rattle.std.proofs.lemmas.List.Elements.{All-cons, All-head, All-tail}
 use Rattle.std.proofs.lemmas.List.Sorted.{All-permutation, IsPermutation-sym}
+use Rattle.region_cut.specs.declared.TheConstants.{CHUNK}
 use Rattle.region_cut.specs.declared.slot.Slot.{Slot}
 use Rattle.region_cut.specs.Carved.{Carved}
+use Rattle.region_cut.specs.Classes.{size_of, slots_of}
 use Rattle.slot_chain.specs.Buffer.{Buffer}
 use Rattle.pool_desk.specs.Homes.{AtHome, Unused, slot_at, Gives, Names, TakesNext, taken_next}
 use Rattle.pool_desk.specs.Homes.AtHome.{Kept, Fresh}
 use Rattle.pool_desk.specs.Desks.{DeskState}
 use Rattle.event_floor.specs.declared.chunks.Drawn.{Drawn}
 use Rattle.event_floor.specs.declared.seat.Seat.TheVariants.{Held}
-use Rattle.event_floor.specs.Chunks.{class_drawn}
 use Rattle.event_floor.specs.Lent.{place_of}
 use Rattle.event_floor.specs.Posted.{Posted, inbox_at}
 use Rattle.event_floor.specs.Seats.{home_of, cached_of}
@@ -23,7 +25,7 @@ use Rattle.event_floor.specs.machine.Slots.{one_if}
 use Rattle.event_floor.specs.machine.State.{State}
 use Rattle.event_floor.specs.machine.Listing.{Shown}
 use Rattle.event_floor.specs.headline.Listing.{listing_of}
-use Rattle.event_floor.specs.headline.Names.{HasName, HasNoName, IsNamedHome, IsNamedDesk, AreNames, chunks_of, drew, is_drawn_for}
+use Rattle.event_floor.specs.headline.Names.{HasName, HasNoName, IsNamedHome, IsNamedChunk, IsNamedDesk, AreNames, chunks_of, drew, is_drawn_for}
 use Rattle.event_floor.proofs.machine.Enumerate.{count_cons}
 use Rattle.event_floor.proofs.headline.Named.{held_named, changed_named, desk_named, each_place}
 use Rattle.event_floor.proofs.headline.Taken.{get_pushed, get_last, get_set_same, get_set_other, some_is, count_zero, All-to, some_to, same_eqb, other_eqb, eqb_is, eqb_same, chunk_count, chunk_permuted}
@@ -35,7 +37,7 @@ drawn_apart a b None e ne = refl
 drawn_apart a b (Some d) e ne = other_eqb d.owner b (λ q. ne (sym q ∙ eqb_is d.owner a e))
 
 -- what two facts say of each element
-All-to-both : {X : Type 0} (P Q R : X → Type 0) (xs : List X) → ((x : X) → P x → Q x → R x) → All P xs → All Q xs → All R xs
+pub All-to-both : {X : Type 0} (P Q R : X → Type 0) (xs : List X) → ((x : X) → P x → Q x → R x) → All P xs → All Q xs → All R xs
 All-to-both P Q R xs f p q = λ k d l. f (get_or xs k d) (p k d l) (q k d l)
 
 module _ (names : List Carved) (v w : FloorSeen) (a n : ℕ) (slot : Slot) (f : AreNames names v) (s : LendsSlot v a n slot w) where
@@ -74,6 +76,9 @@ module _ (names : List Carved) (v w : FloorSeen) (a n : ℕ) (slot : Slot) (f : 
     at_chunk = subst (λ k. slice_get names k ≡ Some t.from) t.chunk
         (All-head (λ (c : Carved). slice_get names c.chunk ≡ Some c) t.from t.others (All-permutation (λ (c : Carved). slice_get names c.chunk ≡ Some c) _ _ t.before lender_named.same))
 
+    fresh_named : HasNoName names u
+    fresh_named = All-head (IsNamedHome names) (Fresh u) s.after.home (All-permutation (IsNamedHome names) _ _ p lender_named.home)
+
     now_there : slice_get new_names chunk ≡ Some taken
     now_there = get_set_same names chunk taken t.from at_chunk
 
@@ -86,9 +91,10 @@ module _ (names : List Carved) (v w : FloorSeen) (a n : ℕ) (slot : Slot) (f : 
           is_chunk = ap (slice_get new_names) same.1 ∙ now_there;
           class = ap (λ (c : Carved). c.class) (sym q) ∙ h.class;
           name = get_pushed t.from.taken buffer.bytes.ghost_name b.bytes.ghost_name b.slot.index (ap (λ (c : Carved). slice_get c.taken b.slot.index) (sym q) ∙ h.name);
+          size = h.size;
         } in r)
         (λ (other : _ × (b.slot.chunk ≢ chunk)).
-        let r : HasName new_names b = record { chunk = h.chunk; is_chunk = get_set_other names chunk b.slot.chunk taken other.1 ∙ h.is_chunk; class = h.class; name = h.name } in r)
+        let r : HasName new_names b = record { chunk = h.chunk; is_chunk = get_set_other names chunk b.slot.chunk taken other.1 ∙ h.is_chunk; class = h.class; name = h.name; size = h.size } in r)
         (eqb_tells b.slot.chunk chunk)
 
     kept_none : (x : Unused) → x.slot ≢ u.slot → HasNoName names x → HasNoName new_names x
@@ -105,9 +111,11 @@ module _ (names : List Carved) (v w : FloorSeen) (a n : ℕ) (slot : Slot) (f : 
           class = ap (λ (c : Carved). c.class) (sym q) ∙ h.class;
           part = ap (λ (c : Carved). c.whole) (sym q) ∙ h.part;
           place = omega (arith, low, apart_index, more, at);
+          within = h.within;
+          size = h.size;
         } in r)
         (λ (other : _ × (x.slot.chunk ≢ chunk)).
-        let r : HasNoName new_names x = record { chunk = h.chunk; is_chunk = get_set_other names chunk x.slot.chunk taken other.1 ∙ h.is_chunk; class = h.class; part = h.part; place = h.place } in r)
+        let r : HasNoName new_names x = record { chunk = h.chunk; is_chunk = get_set_other names chunk x.slot.chunk taken other.1 ∙ h.is_chunk; class = h.class; part = h.part; place = h.place; within = h.within; size = h.size } in r)
         (eqb_tells x.slot.chunk chunk)
 
     kept_home : (x : AtHome) → slot_at x ≢ u.slot → IsNamedHome names x → IsNamedHome new_names x
@@ -121,6 +129,7 @@ module _ (names : List Carved) (v w : FloorSeen) (a n : ℕ) (slot : Slot) (f : 
       class = t.class_is ∙ sym g.1;
       name = ap (λ (x : Slot). slice_get (t.from.taken ++ buffer.bytes.ghost_name ∷ []) x.index) g.0
           ∙ (ap (slice_get (t.from.taken ++ buffer.bytes.ghost_name ∷ [])) (sym t.place) ∙ get_last t.from.taken buffer.bytes.ghost_name);
+      size = ap length g.3 ∙ (fresh_named.size ∙ ap size_of (sym g.1));
     }
 
     -- the chunk is in no other list, and once in that of the desk
@@ -159,14 +168,32 @@ module _ (names : List Carved) (v w : FloorSeen) (a n : ℕ) (slot : Slot) (f : 
               ∙ (sym (count_cons (λ (c : Carved). c.chunk == j) t.from t.others) ∙ (chunk_permuted j s.before.drawn (t.from ∷ t.others) t.before ∙ h.once j)));
         }
 
-    lent_chunks : (j : ℕ) (c : Carved) → slice_get new_names j ≡ Some c → (c.chunk ≡ j) × (class_drawn v.drawn j ≡ Some c.class)
+    taken_few : length taken.taken ≤ slots_of taken.class
+    taken_few =
+        let low : u.slot.index < slots_of t.from.class = subst (λ c. u.slot.index < slots_of c) (sym t.class_is) fresh_named.within in
+        let more = length_push t.from.taken buffer.bytes.ghost_name in
+        let at = t.place in
+        omega (arith, low, more, at)
+
+    taken_whole : length taken.taken * size_of taken.class + length taken.rest ≡ CHUNK
+    taken_whole =
+        let z = size_of t.from.class in
+        let k = (f.chunks chunk t.from at_chunk).whole in
+        let more : length taken.taken ≡ suc (length t.from.taken) = (let l = length_push t.from.taken buffer.bytes.ghost_name in omega (arith, l)) in
+        let size : length buffer.bytes.now ≡ z = ap length g.3 ∙ (fresh_named.size ∙ ap size_of (sym t.class_is)) in
+        let left : length t.from.rest ≡ length buffer.bytes.now + length t.rest = ap length t.left ∙ length-append buffer.bytes.now t.rest in
+        subst (λ n. n * z + length t.rest ≡ CHUNK) (sym more) (omega (arith, suc-mul (length t.from.taken) z, size, left, k))
+
+    taken_chunk : IsNamedChunk v.parts v.drawn chunk taken
+    taken_chunk =
+        let k = f.chunks chunk t.from at_chunk in
+        record { number = t.chunk; class = k.class; part = k.part; few = taken_few; whole = taken_whole }
+
+    lent_chunks : (j : ℕ) (c : Carved) → slice_get new_names j ≡ Some c → IsNamedChunk v.parts v.drawn j c
     lent_chunks j c e = ⊎_elim
         (λ (same : _ × (j ≡ chunk)).
         let q : taken ≡ c = some_is taken c (sym now_there ∙ (ap (slice_get new_names) (sym same.1) ∙ e)) in
-        let k = f.chunks chunk t.from at_chunk in (
-          ap (λ (x : Carved). x.chunk) (sym q) ∙ (t.chunk ∙ sym same.1),
-          ap (class_drawn v.drawn) same.1 ∙ (k.1 ∙ ap (λ (x : Carved). Some x.class) q),
-        ))
+        subst (IsNamedChunk v.parts v.drawn j) q (subst (λ i. IsNamedChunk v.parts v.drawn i taken) (sym same.1) taken_chunk))
         (λ (other : _ × (j ≢ chunk)). f.chunks j c (sym (get_set_other names chunk j taken other.1) ∙ e)) (eqb_tells j chunk)
 
     each_lending : (b : ℕ) → b < length (set v.desks a (Held s.after)) → IsNamedDesk new_names v.drawn b (get_or (set v.desks a (Held s.after)) b no_desk)

@@ -1,9 +1,10 @@
 -- Each answer of a floor keeps all names.
-use Rattle.std.proofs.Common.{◌≡◌, ℕ, zero, suc, ◌*◌, ◌==◌, is_some, List, [], get_or, All, Option, Some, None, Ok, Err, refl, sym, ap, subst}
+use Rattle.std.proofs.Common.{◌≡◌, ℕ, zero, suc, ◌*◌, ◌==◌, is_some, length, List, [], get_or, All, Option, Some, None, Ok, Err, refl, sym, ap, subst}
 use Rattle.std.specs.Prelude.{IfSome, replicate, count_by}
 use Rattle.std.proofs.lemmas.Bool.{true≢false}
 use Rattle.std.specs.List.{slice_get}
 use Rattle.std.proofs.lemmas.List.Elements.{All-nil, All-append, All-cons}
+use Rattle.region_cut.specs.declared.part.Part.{Part}
 use Rattle.region_cut.specs.Carved.{Carved}
 use Rattle.slot_chain.specs.Buffer.{Buffer}
 use Rattle.digit_route.specs.Digits.{Scheme}
@@ -81,15 +82,15 @@ none_posted P zero (suc b) = All-nil P
 none_posted P (suc n) zero = All-nil P
 none_posted P (suc n) (suc b) = none_posted P n b
 
-pub opening_named : (desks chunks : ℕ) (digits : Scheme) (limit : ℕ) → IsNamed (opening desks chunks digits limit)
+pub opening_named : (desks : ℕ) (parts : List Part) (digits : Scheme) (limit : ℕ) → IsNamed (opening desks parts digits limit)
 unfolding IsNamed
-opening_named desks chunks digits limit = (
+opening_named desks parts digits limit = (
   [],
   record {
     count = refl;
     chunks = λ k c e. absurd (true≢false (sym (ap is_some e)));
     desks = λ a l. bare_named a (get_or (idle_seats digits limit desks) a no_desk) (idle_bare digits limit desks a no_desk l);
-    lent = λ i. none_lent (HasName []) (256 * chunks) i;
+    lent = λ i. none_lent (HasName []) (256 * length parts) i;
     posted = λ b. none_posted (λ (p : Posted). All (HasName []) p.buffers) desks b;
   },
 )

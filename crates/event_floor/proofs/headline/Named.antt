@@ -59,21 +59,21 @@ All-filtered P p (x ∷ xs) h = go (p x) (All-filtered P p xs (All-tail P x xs h
     go true k = All-cons P x (filter p xs) (All-head P x xs h) k
     go false k = k
 
-All-first : {X : Type 0} (P : X → Type 0) (xs ys : List X) → All P (xs ++ ys) → All P xs
+pub All-first : {X : Type 0} (P : X → Type 0) (xs ys : List X) → All P (xs ++ ys) → All P xs
 All-first P [] ys h = All-nil P
 All-first P (x ∷ xs) ys h = All-cons P x xs (All-head P x (xs ++ ys) h) (All-first P xs ys (All-tail P x (xs ++ ys) h))
 
-All-second : {X : Type 0} (P : X → Type 0) (xs ys : List X) → All P (xs ++ ys) → All P ys
+pub All-second : {X : Type 0} (P : X → Type 0) (xs ys : List X) → All P (xs ++ ys) → All P ys
 All-second P [] ys h = h
 All-second P (x ∷ xs) ys h = All-second P xs ys (All-tail P x (xs ++ ys) h)
 
 -- ---- names
 
 pub freed_named : (names : List Carved) (b : Buffer) → HasName names b → HasName names (freed b)
-freed_named names b h = record { chunk = h.chunk; is_chunk = h.is_chunk; class = h.class; name = h.name }
+freed_named names b h = record { chunk = h.chunk; is_chunk = h.is_chunk; class = h.class; name = h.name; size = h.size }
 
 pub passed_named : (names : List Carved) (b : Buffer) → HasName names b → HasName names (passed_on b)
-passed_named names b h = record { chunk = h.chunk; is_chunk = h.is_chunk; class = h.class; name = h.name }
+passed_named names b h = record { chunk = h.chunk; is_chunk = h.is_chunk; class = h.class; name = h.name; size = h.size }
 
 module _ (names : List Carved) (v : FloorSeen) (n : AreNames names v) where
   pub held_named : (a : ℕ) (d : DeskState) → IsHeld v a d → IsNamedDesk names v.drawn a (Held d)

@@ -2,6 +2,7 @@
 use Rattle.std.proofs.Common.{ℕ, List, [], ◌∷◌, ◌++◌, ◌^◌, ◌≤◌}
 use Rattle.digit_route.specs.Digits.{Scheme, IsScheme}
 use Rattle.event_floor.specs.declared.request.Request.{Request}
+use Rattle.region_cut.specs.declared.part.Part.{Part}
 use Rattle.event_floor.specs.Floors.{FloorSeen, opening}
 use Rattle.event_floor.specs.Runs.{Answers}
 use Rattle.event_floor.specs.machine.Steps.{Answer}
@@ -41,6 +42,6 @@ pub run_headline : (u v : FloorSeen) (qs : List Request) (ys : List Answer) → 
 unfolding AppliesAll
 run_headline u v qs ys f n = record { run = headline (listing_of u) qs ys (listing_of v) f; named = n }
 
-pub opening_shows : (desks chunks : ℕ) (digits : Scheme) (limit : ℕ) → IsScheme digits → desks ≤ 2 ^ digits.bits → Shows (opening desks chunks digits limit)
+pub opening_shows : (desks : ℕ) (parts : List Part) (digits : Scheme) (limit : ℕ) → IsScheme digits → desks ≤ 2 ^ digits.bits → Shows (opening desks parts digits limit)
 unfolding Shows
-opening_shows desks chunks digits limit i l = (_, _, shows_opening desks chunks digits limit i l)
+opening_shows desks parts digits limit i l = (_, _, shows_opening desks parts digits limit i l)

@@ -1,12 +1,14 @@
 -- Names of chunks that are drawn, and of slots that are handed out for the first time.
-use Rattle.std.proofs.Common.{◌≡◌, ◌≢◌, ℕ, zero, suc, ◌+◌, ◌<◌, ◌≤◌, Bool, true, false, ◌==◌, cond, List, [], ◌∷◌, ◌++◌, length, get_or, set, take, drop, All, Option, Some, None, is_some, refl, sym, ap, ap₂, ◌∙◌, subst, arith, ⊎_elim, IsPermutation}
+use Rattle.std.proofs.Common.{◌≡◌, ◌≢◌, ℕ, zero, suc, ◌+◌, ◌*◌, ◌<◌, ◌≤◌, Bool, true, false, ◌==◌, cond, List, [], ◌∷◌, ◌++◌, length, get_or, set, take, drop, All, Option, Some, None, is_some, refl, sym, ap, ap₂, ◌∙◌, subst, arith, ⊎_elim, IsPermutation}
 use Rattle.std.specs.Prelude.{IfSome, count_by, option_map}
 use Rattle.std.specs.List.{slice_get}
 use Rattle.std.proofs.lemmas.Bool.{true≢false}
 use Rattle.std.proofs.lemmas.Bool.Decides.{eqb_tells}
 use Rattle.std.proofs.lemmas.Option.{slice_get_past}
-use Rattle.std.proofs.lemmas.List.{length-set, length_push, get_or-set_same, get_or-set_other}
+use Rattle.std.proofs.lemmas.List.{length-set, length_push, length-take-le, length-drop, get_or-set_same, get_or-set_other}
+use Rattle.std.proofs.Math.Nat.{suc-mul, div-mul-le_self}
 use Rattle.std.proofs.lemmas.List.Elements.{All-nil, All-cons, All-append}
+use Rattle.region_cut.specs.declared.TheConstants.{CHUNK}
 use Rattle.std.proofs.lemmas.List.Sorted.{All-permutation, sum_by-IsPermutation}
 use Rattle.region_cut.specs.Carved.{Carved}
 use Rattle.region_cut.specs.Classes.{slots_of, size_of}
@@ -17,13 +19,12 @@ use Rattle.pool_desk.specs.Desks.{DeskState}
 use Rattle.event_floor.specs.declared.chunks.Drawn.{Drawn}
 use Rattle.event_floor.specs.declared.seat.Seat.{Seat}
 use Rattle.event_floor.specs.declared.seat.Seat.TheVariants.{Held}
-use Rattle.event_floor.specs.Chunks.{class_drawn}
 use Rattle.event_floor.specs.Posted.{Posted, inbox_at}
 use Rattle.event_floor.specs.Seats.{home_of, cached_of}
 use Rattle.event_floor.specs.Floors.{FloorSeen, desk_at, no_desk}
 use Rattle.event_floor.specs.Steps.{DrawsChunk}
 use Rattle.event_floor.specs.machine.Slots.{one_if}
-use Rattle.event_floor.specs.headline.Names.{HasName, IsNamedHome, IsNamedDesk, AreNames, chunks_of, drew, is_drawn_for}
+use Rattle.event_floor.specs.headline.Names.{HasName, IsNamedHome, IsNamedChunk, IsNamedDesk, AreNames, chunks_of, drew, is_drawn_for}
 use Rattle.event_floor.proofs.machine.Enumerate.{count_cons}
 use Rattle.event_floor.proofs.headline.Named.{held_named}
 
@@ -95,6 +96,17 @@ chunk_count k cs = count_by (λ (c : Carved). c.chunk == k) cs
 pub chunk_permuted : (k : ℕ) (xs ys : List Carved) → IsPermutation xs ys → chunk_count k ys ≡ chunk_count k xs
 chunk_permuted k xs ys p = sum_by-IsPermutation (λ (c : Carved). cond (c.chunk == k) 1 0) xs ys p
 
+-- ---- bytes
+
+more_than : (m z n : ℕ) → suc m * z ≤ n → z ≤ n
+more_than m z n l = omega (arith, l, suc-mul m z)
+
+rest_of : (m z : ℕ) (bs : List ℕ) → suc m * z ≤ length bs → m * z ≤ length (drop z bs)
+rest_of m z bs l = omega (arith, l, suc-mul m z, length-drop z bs)
+
+slots_fit : (c : ℕ) → slots_of c * size_of c ≤ CHUNK
+slots_fit c = div-mul-le_self CHUNK (size_of c)
+
 -- ---- Claim
 
 module _ (names : List Carved) (v w : FloorSeen) (a class k : ℕ) (n : AreNames names v) (s : DrawsChunk v a class k w) where
@@ -108,18 +120,20 @@ module _ (names : List Carved) (v w : FloorSeen) (a class k : ℕ) (n : AreNames
   new_drawn = v.drawn ++ record { owner = a; class = class } ∷ []
 
   kept_name : (b : Buffer) → HasName names b → HasName new_names b
-  kept_name b h = record { chunk = h.chunk; is_chunk = get_pushed names new_chunk h.chunk b.slot.chunk h.is_chunk; class = h.class; name = h.name }
+  kept_name b h = record { chunk = h.chunk; is_chunk = get_pushed names new_chunk h.chunk b.slot.chunk h.is_chunk; class = h.class; name = h.name; size = h.size }
 
   kept_home : (x : AtHome) → IsNamedHome names x → IsNamedHome new_names x
   kept_home (Kept b) h = kept_name b h
-  kept_home (Fresh u) h = record { chunk = h.chunk; is_chunk = get_pushed names new_chunk h.chunk u.slot.chunk h.is_chunk; class = h.class; part = h.part; place = h.place }
+  kept_home (Fresh u) h = record { chunk = h.chunk; is_chunk = get_pushed names new_chunk h.chunk u.slot.chunk h.is_chunk; class = h.class; part = h.part; place = h.place; within = h.within; size = h.size }
 
   last_place : length names ≡ k
   last_place = n.count ∙ sym s.is_next
 
-  uncut_named : (i m : ℕ) (bs : List ℕ) → All (IsNamedHome new_names) (unused_from k class s.part.bytes.ghost_name m i bs)
-  uncut_named i zero bs = All-nil (IsNamedHome new_names)
-  uncut_named i (suc m) bs =
+  uncut_named : (i m : ℕ) (bs : List ℕ) → i + m ≤ slots_of class → m * size_of class ≤ length bs → All (IsNamedHome new_names) (unused_from k class s.part.bytes.ghost_name m i bs)
+  uncut_named i zero bs l fits = All-nil (IsNamedHome new_names)
+  uncut_named i (suc m) bs l fits =
+      let long : size_of class ≤ length bs = more_than m (size_of class) (length bs) fits in
+      let left : m * size_of class ≤ length (drop (size_of class) bs) = rest_of m (size_of class) bs fits in
       All-cons (IsNamedHome new_names) (Fresh (record { slot = record { chunk = k; index = i }; class = class; part = s.part.bytes.ghost_name; bytes = take (size_of class) bs })) _
       (record {
         chunk = new_chunk;
@@ -127,8 +141,10 @@ module _ (names : List Carved) (v w : FloorSeen) (a class k : ℕ) (n : AreNames
         class = s.claims.drawn.uncut.class_is;
         part = s.claims.drawn.uncut.whole;
         place = subst (λ xs. length xs ≤ i) (sym s.claims.drawn.uncut.none_taken) (omega arith);
+        within = omega (arith, l);
+        size = length-take-le (size_of class) bs long;
       })
-      (uncut_named (i + 1) m (drop (size_of class) bs))
+      (uncut_named (i + 1) m (drop (size_of class) bs) (omega (arith, l)) left)
 
   drew_last : (b : ℕ) → drew new_drawn b (length v.drawn) ≡ (a == b)
   drew_last b = ap (is_drawn_for b) (get_last v.drawn (record { owner = a; class = class }))
@@ -178,7 +194,7 @@ module _ (names : List Carved) (v w : FloorSeen) (a class k : ℕ) (n : AreNames
       subst (λ m. IsPermutation (unused_from m class s.part.bytes.ghost_name (slots_of class) 0 s.part.bytes.now ++ s.before.home) s.after.home) s.is_part s.claims.home in
       record {
         home = All-permutation (IsNamedHome new_names) _ _ slots
-            (All-append (IsNamedHome new_names) _ s.before.home (uncut_named 0 (slots_of class) s.part.bytes.now) (All-to (IsNamedHome names) (IsNamedHome new_names) s.before.home kept_home h.home));
+            (All-append (IsNamedHome new_names) _ s.before.home (uncut_named 0 (slots_of class) s.part.bytes.now (omega arith) (subst (λ n. slots_of class * size_of class ≤ n) (sym s.part.is_whole) (slots_fit class))) (All-to (IsNamedHome names) (IsNamedHome new_names) s.before.home kept_home h.home));
         cached = subst (λ bs. All (HasName new_names) bs) (ap (λ (x : DeskState). x.cached) (sym s.claims.same)) (All-to (HasName names) (HasName new_names) s.before.cached kept_name h.cached);
         same = All-permutation (λ (c : Carved). slice_get new_names c.chunk ≡ Some c) _ _ s.claims.drawn.added
             (All-cons (λ (c : Carved). slice_get new_names c.chunk ≡ Some c) new_chunk s.before.drawn
@@ -187,19 +203,30 @@ module _ (names : List Carved) (v w : FloorSeen) (a class k : ℕ) (n : AreNames
         once = claimed_once;
       }
 
-  claimed_chunks : (j : ℕ) (c : Carved) → slice_get new_names j ≡ Some c → (c.chunk ≡ j) × (class_drawn new_drawn j ≡ Some c.class)
+  last_named : (j : ℕ) → j ≡ length names → IsNamedChunk v.parts new_drawn j new_chunk
+  last_named j same = record {
+    number = new_chunk_is ∙ sym (same ∙ last_place);
+    class = ap (λ m. option_map (λ (d : Drawn). d.class) (slice_get new_drawn m)) (same ∙ n.count)
+        ∙ (ap (option_map (λ (d : Drawn). d.class)) (get_last v.drawn (record { owner = a; class = class })) ∙ ap (λ m. Some m) (sym s.claims.drawn.uncut.class_is));
+    part = ap (slice_get v.parts) (same ∙ last_place) ∙ (s.has_name ∙ ap (λ g. Some g) (sym s.claims.drawn.uncut.whole));
+    few = subst (λ xs. length xs ≤ slots_of new_chunk.class) (sym s.claims.drawn.uncut.none_taken) (omega arith);
+    whole = subst (λ xs. length xs * size_of new_chunk.class + length new_chunk.rest ≡ CHUNK) (sym s.claims.drawn.uncut.none_taken)
+        (let left : length new_chunk.rest ≡ length s.part.bytes.now = ap length s.claims.drawn.uncut.all_left in let all = s.part.is_whole in omega (arith, left, all));
+  }
+
+  claimed_chunks : (j : ℕ) (c : Carved) → slice_get new_names j ≡ Some c → IsNamedChunk v.parts new_drawn j c
   claimed_chunks j c e = ⊎_elim
       (λ (same : _ × (j ≡ length names)).
-      let q : new_chunk ≡ c = some_is new_chunk c (sym (get_last names new_chunk) ∙ (ap (slice_get new_names) (sym same.1) ∙ e)) in (
-        ap (λ (x : Carved). x.chunk) (sym q) ∙ (new_chunk_is ∙ sym (same.1 ∙ last_place)),
-        ap (λ m. option_map (λ (d : Drawn). d.class) (slice_get new_drawn m)) (same.1 ∙ n.count)
-            ∙ (ap (option_map (λ (d : Drawn). d.class)) (get_last v.drawn (record { owner = a; class = class })) ∙ ap (λ m. Some m) (sym s.claims.drawn.uncut.class_is ∙ ap (λ (x : Carved). x.class) q)),
-      ))
+      subst (IsNamedChunk v.parts new_drawn j) (some_is new_chunk c (sym (get_last names new_chunk) ∙ (ap (slice_get new_names) (sym same.1) ∙ e))) (last_named j same.1))
       (λ (other : _ × (j ≢ length names)).
-      let h = n.chunks j c (sym (get_before names new_chunk j other.1) ∙ e) in (
-        h.0,
-        ap (option_map (λ (d : Drawn). d.class)) (get_before v.drawn (record { owner = a; class = class }) j (λ q. other.1 (q ∙ sym n.count))) ∙ h.1,
-      )) (eqb_tells j (length names))
+      let h = n.chunks j c (sym (get_before names new_chunk j other.1) ∙ e) in
+      let r : IsNamedChunk v.parts new_drawn j c = record {
+        number = h.number;
+        class = ap (option_map (λ (d : Drawn). d.class)) (get_before v.drawn (record { owner = a; class = class }) j (λ q. other.1 (q ∙ sym n.count))) ∙ h.class;
+        part = h.part;
+        few = h.few;
+        whole = h.whole;
+      } in r) (eqb_tells j (length names))
 
   each_claimed : (b : ℕ) → b < length (set v.desks a (Held s.after)) → IsNamedDesk new_names new_drawn b (get_or (set v.desks a (Held s.after)) b no_desk)
   each_claimed b m = ⊎_elim

@@ -1,7 +1,8 @@
 -- What is kept of a floor stays kept.
-use Rattle.std.proofs.Common.{◌≡◌, ◌≢◌, ℕ, zero, suc, ◌*◌, ◌^◌, ◌<◌, ◌≤◌, List, [], ◌∷◌, ◌++◌, map, length, get_or, set, Option, Some, None, Ok, Err, refl, sym, ap, ◌∙◌, subst, ⊎_elim}
+use Rattle.std.proofs.Common.{◌≡◌, ◌≢◌, ℕ, zero, suc, ◌+◌, ◌*◌, ◌^◌, ◌<◌, ◌≤◌, List, [], ◌∷◌, ◌++◌, map, length, get_or, set, All, Option, Some, None, Ok, Err, refl, sym, ap, ◌∙◌, subst, ⊎_elim, arith}
 use Rattle.std.specs.Prelude.{IfSome, replicate}
-use Rattle.std.proofs.lemmas.List.{get_or-set_same, get_or-set_other, map-append}
+use Rattle.std.proofs.lemmas.List.{get_or-set_same, get_or-set_other, map-append, length-map, length_push}
+use Rattle.std.proofs.lemmas.List.Elements.{All-nil, All-cons, All-tail}
 use Rattle.std.proofs.lemmas.Bool.Decides.{eqb_tells}
 use Rattle.region_cut.specs.declared.slot.Slot.{Slot}
 use Rattle.slot_chain.specs.Buffer.{Buffer}
@@ -13,14 +14,17 @@ use Rattle.event_floor.specs.declared.reply.Reply.{Reply}
 use Rattle.event_floor.specs.declared.reply.Reply.TheVariants.{Done, Chunk, Slot as Lent, Home, Cached, Due, Batch, Counts}
 use Rattle.event_floor.specs.Lent.{place_of, AreInPlace}
 use Rattle.event_floor.specs.Seats.{idle_seats}
+use Rattle.region_cut.specs.declared.TheConstants.{CHUNK}
+use Rattle.region_cut.specs.Parts.{name_of, bytes_of}
+use Rattle.region_cut.specs.declared.part.Part.{Part}
 use Rattle.event_floor.specs.Floors.{FloorSeen, IsFloor, opening}
-use Rattle.event_floor.specs.Steps.{Does, LendsSlot, TakesBack}
+use Rattle.event_floor.specs.Steps.{Does, DrawsChunk, LendsSlot, TakesBack}
 use Rattle.event_floor.specs.Runs.{Answers}
 use Rattle.event_floor.specs.machine.Steps.{Answer}
 use Rattle.event_floor.specs.machine.Listing.{empty_desk, Shown}
 use Rattle.event_floor.specs.machine.State.{opening as machine_opening}
 use Rattle.event_floor.specs.headline.Listing.{entry_of, desk_of, batch_of, listing_of}
-use Rattle.event_floor.specs.headline.Whole.{IsWhole}
+use Rattle.event_floor.specs.headline.Whole.{IsWhole, IsStocked}
 use Rattle.event_floor.proofs.machine.Parts.{opened, opening_shown}
 use Rattle.event_floor.proofs.headline.Tables.{present_replicate}
 use Rattle.event_floor.proofs.headline.Lends.{placed_slot, in_table}
@@ -55,30 +59,66 @@ takes_in_place : (v w : FloorSeen) (a k i : ℕ) (r : Freed) → IsWhole v → T
 takes_in_place v w a k i r f s = subst AreInPlace (sym (ap (λ (x : FloorSeen). x.lent) s.same)) (gone_in_place v.lent (place_of s.buffer.slot) f.in_place)
 
 -- what each accepted request keeps
-keeps : (v w : FloorSeen) (q : Request) (r : Reply) → IsWhole v → Does v q r w → AreInPlace w.lent × (w.chunks ≡ v.chunks)
-keeps v w (Adopt a x) Done f h = (lent_stays v w (ap (λ (x : FloorSeen). x.lent) h.2) f.in_place, ap (λ (x : FloorSeen). x.chunks) h.2)
+keeps : (v w : FloorSeen) (q : Request) (r : Reply) → IsWhole v → Does v q r w → AreInPlace w.lent × (w.chunks ≡ v.chunks) × (w.parts ≡ v.parts)
+keeps v w (Adopt a x) Done f h = (lent_stays v w (ap (λ (x : FloorSeen). x.lent) h.2) f.in_place, ap (λ (x : FloorSeen). x.chunks) h.2, ap (λ (x : FloorSeen). x.parts) h.2)
 keeps v w (Adopt a x) _ f h = elim h [ ]
-keeps v w (Retire a) Done f h = (lent_stays v w (ap (λ (x : FloorSeen). x.lent) h.4) f.in_place, ap (λ (x : FloorSeen). x.chunks) h.4)
+keeps v w (Retire a) Done f h = (lent_stays v w (ap (λ (x : FloorSeen). x.lent) h.4) f.in_place, ap (λ (x : FloorSeen). x.chunks) h.4, ap (λ (x : FloorSeen). x.parts) h.4)
 keeps v w (Retire a) _ f h = elim h [ ]
-keeps v w (Claim a c) (Chunk k) f h = (lent_stays v w (ap (λ (x : FloorSeen). x.lent) h.same) f.in_place, ap (λ (x : FloorSeen). x.chunks) h.same)
+keeps v w (Claim a c) (Chunk k) f h = (lent_stays v w (ap (λ (x : FloorSeen). x.lent) h.same) f.in_place, ap (λ (x : FloorSeen). x.chunks) h.same, ap (λ (x : FloorSeen). x.parts) h.same)
 keeps v w (Claim a c) _ f h = elim h [ ]
-keeps v w (Alloc a n) (Lent slot) f h = (lends_in_place v w a n slot f h, ap (λ (x : FloorSeen). x.chunks) h.same)
+keeps v w (Alloc a n) (Lent slot) f h = (lends_in_place v w a n slot f h, ap (λ (x : FloorSeen). x.chunks) h.same, ap (λ (x : FloorSeen). x.parts) h.same)
 keeps v w (Alloc a n) _ f h = elim h [ ]
-keeps v w (Free a pair) Home f h = (takes_in_place v w a pair.0 pair.1 _ f h, ap (λ (x : FloorSeen). x.chunks) h.same)
-keeps v w (Free a pair) Cached f h = (takes_in_place v w a pair.0 pair.1 _ f h, ap (λ (x : FloorSeen). x.chunks) h.same)
-keeps v w (Free a pair) Due f h = (takes_in_place v w a pair.0 pair.1 _ f h, ap (λ (x : FloorSeen). x.chunks) h.same)
+keeps v w (Free a pair) Home f h = (takes_in_place v w a pair.0 pair.1 _ f h, ap (λ (x : FloorSeen). x.chunks) h.same, ap (λ (x : FloorSeen). x.parts) h.same)
+keeps v w (Free a pair) Cached f h = (takes_in_place v w a pair.0 pair.1 _ f h, ap (λ (x : FloorSeen). x.chunks) h.same, ap (λ (x : FloorSeen). x.parts) h.same)
+keeps v w (Free a pair) Due f h = (takes_in_place v w a pair.0 pair.1 _ f h, ap (λ (x : FloorSeen). x.chunks) h.same, ap (λ (x : FloorSeen). x.parts) h.same)
 keeps v w (Free a pair) _ f h = elim h [ ]
-keeps v w (Send a t) (Batch number count) f h = (lent_stays v w (ap (λ (x : FloorSeen). x.lent) h.same) f.in_place, ap (λ (x : FloorSeen). x.chunks) h.same)
+keeps v w (Send a t) (Batch number count) f h = (lent_stays v w (ap (λ (x : FloorSeen). x.lent) h.same) f.in_place, ap (λ (x : FloorSeen). x.chunks) h.same, ap (λ (x : FloorSeen). x.parts) h.same)
 keeps v w (Send a t) _ f h = elim h [ ]
-keeps v w (Link n) Done f h = (lent_stays v w (ap (λ (x : FloorSeen). x.lent) h.same) f.in_place, ap (λ (x : FloorSeen). x.chunks) h.same)
+keeps v w (Link n) Done f h = (lent_stays v w (ap (λ (x : FloorSeen). x.lent) h.same) f.in_place, ap (λ (x : FloorSeen). x.chunks) h.same, ap (λ (x : FloorSeen). x.parts) h.same)
 keeps v w (Link n) _ f h = elim h [ ]
-keeps v w (Take b) (Counts home on) f h = (lent_stays v w (ap (λ (x : FloorSeen). x.lent) h.same) f.in_place, ap (λ (x : FloorSeen). x.chunks) h.same)
+keeps v w (Take b) (Counts home on) f h = (lent_stays v w (ap (λ (x : FloorSeen). x.lent) h.same) f.in_place, ap (λ (x : FloorSeen). x.chunks) h.same, ap (λ (x : FloorSeen). x.parts) h.same)
 keeps v w (Take b) _ f h = elim h [ ]
+
+-- a part that is drawn leaves those that aren't
+draws_stocked : (v w : FloorSeen) (a c k : ℕ) → IsStocked v → DrawsChunk v a c k w → IsStocked w
+draws_stocked v w a c k f h =
+    let all = subst (λ bs. All (λ (b : List ℕ). length b ≡ CHUNK) bs) h.first f.1 in
+    let count : length v.undrawn ≡ suc (length w.undrawn) = ap length h.first in
+    let all_of = f.0 in
+    let parts : length w.parts ≡ length v.parts = ap (λ (x : FloorSeen). length x.parts) h.same in
+    let drawn : length w.drawn ≡ length v.drawn + 1 = ap (λ (x : FloorSeen). length x.drawn) h.same ∙ length_push v.drawn _ in
+    (omega (arith, all_of, count, parts, drawn), All-tail (λ (b : List ℕ). length b ≡ CHUNK) (bytes_of h.part) w.undrawn all)
+
+does_stocked : (v w : FloorSeen) (q : Request) (r : Reply) → IsStocked v → Does v q r w → IsStocked w
+does_stocked v w (Adopt a x) Done f h = subst IsStocked (sym h.2) f
+does_stocked v w (Adopt a x) _ f h = elim h [ ]
+does_stocked v w (Retire a) Done f h = subst IsStocked (sym h.4) f
+does_stocked v w (Retire a) _ f h = elim h [ ]
+does_stocked v w (Claim a c) (Chunk k) f h = draws_stocked v w a c k f h
+does_stocked v w (Claim a c) _ f h = elim h [ ]
+does_stocked v w (Alloc a n) (Lent slot) f h = subst IsStocked (sym h.same) f
+does_stocked v w (Alloc a n) _ f h = elim h [ ]
+does_stocked v w (Free a pair) Home f h = subst IsStocked (sym h.same) f
+does_stocked v w (Free a pair) Cached f h = subst IsStocked (sym h.same) f
+does_stocked v w (Free a pair) Due f h = subst IsStocked (sym h.same) f
+does_stocked v w (Free a pair) _ f h = elim h [ ]
+does_stocked v w (Send a t) (Batch number count) f h = subst IsStocked (sym h.same) f
+does_stocked v w (Send a t) _ f h = elim h [ ]
+does_stocked v w (Link n) Done f h = subst IsStocked (sym h.same) f
+does_stocked v w (Link n) _ f h = elim h [ ]
+does_stocked v w (Take b) (Counts home on) f h = subst IsStocked (sym h.same) f
+does_stocked v w (Take b) _ f h = elim h [ ]
 
 pub stays_whole : (v w : FloorSeen) (q : Request) (y : Answer) → IsWhole v → Answers v q y w
     → IsFloor w.digits w.limit w.chunks w.desks w.lent w.inboxes w.next → IsWhole w
-stays_whole v w q (Ok r) f h g = let k = keeps v w q r f h in record { floor = g; in_place = k.0; few_chunks = subst (λ n. n ≤ 1024) (sym k.1) f.few_chunks }
+stays_whole v w q (Ok r) f h g =
+    let k = keeps v w q r f h in
+    record { floor = g; in_place = k.0; few_chunks = subst (λ n. n ≤ 1024) (sym k.1) f.few_chunks; stocked = does_stocked v w q r f.stocked h }
 stays_whole v w q (Err r) f h g = subst IsWhole (sym h.1) f
+
+pub stays_over : (v w : FloorSeen) (q : Request) (y : Answer) → IsWhole v → Answers v q y w → w.parts ≡ v.parts
+stays_over v w q (Ok r) f h = (keeps v w q r f h).2
+stays_over v w q (Err r) f h = ap (λ (x : FloorSeen). x.parts) h.1
 
 -- ---- a new floor
 
@@ -105,23 +145,32 @@ none_in_place n i = subst (λ o. IfSome o (λ (b : Buffer). (place_of b.slot ≡
     none_at (suc n) zero = refl
     none_at (suc n) (suc i) = none_at n i
 
-opening_listed : (desks chunks : ℕ) (digits : Scheme) (limit : ℕ) → listing_of (opening desks chunks digits limit) ≡ opened desks chunks digits limit
-opening_listed desks chunks digits limit i = record {
+opening_listed : (desks : ℕ) (parts : List Part) (digits : Scheme) (limit : ℕ) → listing_of (opening desks parts digits limit) ≡ opened desks (length parts) digits limit
+opening_listed desks parts digits limit i = record {
   digits = digits;
   limit = limit;
-  chunks = chunks;
+  chunks = length parts;
   drawn = [];
   desks = idle_listed digits limit desks i;
-  lent = map entry_of (present_replicate (256 * chunks) i);
+  lent = map entry_of (present_replicate (256 * length parts) i);
   inboxes = empty_listed desks i;
   next = 1;
 }
 
-pub shows_opening : (desks chunks : ℕ) (digits : Scheme) (limit : ℕ) → IsScheme digits → desks ≤ 2 ^ digits.bits
-    → Shown (listing_of (opening desks chunks digits limit)) (machine_opening desks chunks digits limit) (λ s. 0)
-shows_opening desks chunks digits limit i l =
-    subst (λ z. Shown z (machine_opening desks chunks digits limit) (λ s. 0)) (sym (opening_listed desks chunks digits limit)) (opening_shown desks chunks digits limit i l)
+pub shows_opening : (desks : ℕ) (parts : List Part) (digits : Scheme) (limit : ℕ) → IsScheme digits → desks ≤ 2 ^ digits.bits
+    → Shown (listing_of (opening desks parts digits limit)) (machine_opening desks (length parts) digits limit) (λ s. 0)
+shows_opening desks parts digits limit i l =
+    subst (λ z. Shown z (machine_opening desks (length parts) digits limit) (λ s. 0)) (sym (opening_listed desks parts digits limit)) (opening_shown desks (length parts) digits limit i l)
 
-pub opening_whole : (desks chunks : ℕ) (digits : Scheme) (limit : ℕ) → chunks ≤ 1024
-    → (let v = opening desks chunks digits limit in IsFloor v.digits v.limit v.chunks v.desks v.lent v.inboxes v.next) → IsWhole (opening desks chunks digits limit)
-opening_whole desks chunks digits limit few floor = record { floor = floor; in_place = λ i. none_in_place (256 * chunks) i; few_chunks = few }
+all_full : (ps : List Part) → All (λ (b : List ℕ). length b ≡ CHUNK) (map bytes_of ps)
+all_full [] = All-nil (λ (b : List ℕ). length b ≡ CHUNK)
+all_full (p ∷ ps) = All-cons (λ (b : List ℕ). length b ≡ CHUNK) (bytes_of p) (map bytes_of ps) p.is_whole (all_full ps)
+
+pub opening_whole : (desks : ℕ) (parts : List Part) (digits : Scheme) (limit : ℕ) → length parts ≤ 1024
+    → (let v = opening desks parts digits limit in IsFloor v.digits v.limit v.chunks v.desks v.lent v.inboxes v.next) → IsWhole (opening desks parts digits limit)
+opening_whole desks parts digits limit few floor = record {
+  floor = floor;
+  in_place = λ i. none_in_place (256 * length parts) i;
+  few_chunks = few;
+  stocked = (let e : length (map name_of parts) ≡ length (map bytes_of parts) = length-map parts name_of ∙ sym (length-map parts bytes_of) in omega (arith, e), all_full parts);
+}

@@ -1,8 +1,8 @@
 -- What a floor's calls count is what the machine counts.
-use Rattle.std.specs.Prelude.{ℕ, ◌≡◌, ◌<◌, ◌≤◌, length, count_by, is_some}
+use Rattle.std.specs.Prelude.{ℕ, ◌≡◌, ◌≤◌, length, count_by, is_some}
 use Rattle.region_cut.specs.declared.slot.Slot.{Slot}
 use Rattle.slot_chain.specs.Counts.{capped}
-use Rattle.event_floor.specs.Floors.{FloorSeen, desk_count, desk_at}
+use Rattle.event_floor.specs.Floors.{FloorSeen, desk_at}
 use Rattle.event_floor.specs.Posted.{buffers_in, inbox_at}
 use Rattle.event_floor.specs.Seats.{home_of, cached_of}
 use Rattle.event_floor.specs.machine.State.{State}

@@ -1,6 +1,9 @@
 -- The names by which the bytes of the slots are known when the region's borrow ends.
-use Rattle.std.specs.Prelude.{◌≡◌, ℕ, ◌<◌, ◌≤◌, Bool, false, ◌==◌, List, length, slice_get, slice_index_or, count_by, Option, Some, None, IfSome, All}
+use Rattle.std.specs.Prelude.{◌≡◌, ℕ, ◌+◌, ◌*◌, ◌<◌, ◌≤◌, Bool, false, ◌==◌, List, length, slice_get, slice_index_or, count_by, Option, Some, None, IfSome, All}
+use Rattle.std.specs.Borrow.{GName}
+use Rattle.region_cut.specs.declared.TheConstants.{CHUNK}
 use Rattle.region_cut.specs.Carved.{Carved}
+use Rattle.region_cut.specs.Classes.{size_of, slots_of}
 use Rattle.slot_chain.specs.Buffer.{Buffer}
 use Rattle.pool_desk.specs.Homes.{AtHome, Unused}
 use Rattle.pool_desk.specs.Homes.AtHome.{Kept, Fresh}
@@ -13,20 +16,23 @@ use Rattle.event_floor.specs.Seats.{home_of, cached_of}
 use Rattle.event_floor.specs.Floors.{FloorSeen, desk_at, desk_count}
 use Rattle.event_floor.specs.machine.Slots.{one_if}
 
--- the buffer of place i of a chunk has the i-th name that was taken of the chunk, and the chunk's class
+-- the buffer of place i of a chunk has the i-th name that was taken of the chunk, the chunk's class, and as many bytes as the class says
 pub record HasName (names : List Carved) (b : Buffer) : Type 0 where
   pub chunk : Carved
   pub is_chunk : slice_get names b.slot.chunk ≡ Some chunk
   pub class : chunk.class ≡ b.class
   pub name : slice_get chunk.taken b.slot.index ≡ Some b.bytes.ghost_name
+  pub size : length b.bytes.now ≡ size_of b.class
 
--- a slot that was never handed out: no name was taken for its place yet
+-- a slot of a chunk that was never handed out: no name was taken for its place yet
 pub record HasNoName (names : List Carved) (u : Unused) : Type 0 where
   pub chunk : Carved
   pub is_chunk : slice_get names u.slot.chunk ≡ Some chunk
   pub class : chunk.class ≡ u.class
   pub part : chunk.whole ≡ u.part
   pub place : length chunk.taken ≤ u.slot.index
+  pub within : u.slot.index < slots_of u.class
+  pub size : length u.bytes ≡ size_of u.class
 
 abbrev pub IsNamedHome : List Carved → AtHome → Type 0
 IsNamedHome names (Kept b) = HasName names b
@@ -52,10 +58,19 @@ pub record IsNamedDesk (names : List Carved) (drawn : List Drawn) (a : ℕ) (s :
   pub same : All (λ (c : Carved). slice_get names c.chunk ≡ Some c) (chunks_of s)
   pub once : (k : ℕ) → count_by (λ (c : Carved). c.chunk == k) (chunks_of s) ≡ one_if (drew drawn a k)
 
--- these are the drawn chunks of the floor in order, each with its class and the names taken of it, and all buffers have their names
+-- chunk k was drawn for its class, over the part of its number; no more names were taken of it than it has slots, and what is left of it
+-- are the bytes behind them
+pub record IsNamedChunk (parts : List GName) (drawn : List Drawn) (k : ℕ) (c : Carved) : Type 0 where
+  pub number : c.chunk ≡ k
+  pub class : class_drawn drawn k ≡ Some c.class
+  pub part : slice_get parts k ≡ Some c.whole
+  pub few : length c.taken ≤ slots_of c.class
+  pub whole : length c.taken * size_of c.class + length c.rest ≡ CHUNK
+
+-- these are the drawn chunks of the floor in order, each with its part and the names taken of it, and all buffers have their names
 pub record AreNames (names : List Carved) (v : FloorSeen) : Type 0 where
   pub count : length names ≡ length v.drawn
-  pub chunks : (k : ℕ) (c : Carved) → slice_get names k ≡ Some c → (c.chunk ≡ k) × (class_drawn v.drawn k ≡ Some c.class)
+  pub chunks : (k : ℕ) (c : Carved) → slice_get names k ≡ Some c → IsNamedChunk v.parts v.drawn k c
   pub desks : (a : ℕ) → a < desk_count v → IsNamedDesk names v.drawn a (desk_at v a)
   pub lent : (i : ℕ) → IfSome (slice_index_or v.lent i None) (HasName names)
   pub posted : (b : ℕ) → All (λ (p : Posted). All (HasName names) p.buffers) (inbox_at v.inboxes b)

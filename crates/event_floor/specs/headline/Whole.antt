@@ -1,10 +1,16 @@
 -- What is kept of a floor besides what its type says.
-use Rattle.std.specs.Prelude.{◌≤◌}
+use Rattle.std.specs.Prelude.{◌≡◌, ◌+◌, ◌≤◌, length, All}
+use Rattle.region_cut.specs.declared.TheConstants.{CHUNK}
 use Rattle.event_floor.specs.Lent.{AreInPlace}
 use Rattle.event_floor.specs.Floors.{FloorSeen, IsFloor}
+
+-- the parts are those of the drawn chunks and the others, each of the others whole
+abbrev pub IsStocked : FloorSeen → Type 0
+IsStocked v = (length v.parts ≡ length v.drawn + length v.undrawn) × All (λ bs. length bs ≡ CHUNK) v.undrawn
 
 -- a floor of at most 1,024 chunks, whose lent buffers lie in the places of their slots
 pub record IsWhole (v : FloorSeen) : Type 0 where
   pub floor : IsFloor v.digits v.limit v.chunks v.desks v.lent v.inboxes v.next
   pub in_place : AreInPlace v.lent
   pub few_chunks : v.chunks ≤ 1024
+  pub stocked : IsStocked v

@@ -1,5 +1,5 @@
 -- How many slots are where, as it is told of a state.
-use Rattle.std.specs.Prelude.{ℕ, Bool, ◌&&◌, ◌==◌, List, filter, length, sum_by, count_by, is_some}
+use Rattle.std.specs.Prelude.{ℕ, Bool, ◌&&◌, ◌==◌, filter, length, sum_by, count_by, is_some}
 use Rattle.std.specs.List.{range_with_len}
 use Rattle.region_cut.specs.declared.slot.Slot.{Slot}
 use Rattle.event_floor.specs.machine.State.{State, Waiting, owner_of, slots, is_home, is_lent, cached_by, slots_of_batch, inbox}

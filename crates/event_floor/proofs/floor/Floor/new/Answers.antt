@@ -14,19 +14,19 @@ use Rattle.event_floor.proofs.floor.Floor.new.Goals as goal
 
 pub invariant_of-result : goal.invariant_of-result
 invariant_of-result c =
-    let chunks = length c.args.parts.items in
-    let e : c.in_ok-lists.lists ≡ opening c.args.desks chunks c.args.digits c.args.limit = c.in_ok-lists.ensures in
-    let few : chunks ≤ 1024 = numbered_few c.args.parts.items c.requires.parts in
+    let parts = c.args.parts.items in
+    let e : c.in_ok-lists.lists ≡ opening c.args.desks parts c.args.digits c.args.limit = c.in_ok-lists.ensures in
+    let few : length parts ≤ 1024 = numbered_few parts c.requires.parts in
     subst (λ (v : FloorSeen). IsWhole v × Shows v × IsNamed v) (sym e) (
-      opening_whole c.args.desks chunks c.args.digits c.args.limit few
+      opening_whole c.args.desks parts c.args.digits c.args.limit few
           (subst (λ (v : FloorSeen). IsFloor v.digits v.limit v.chunks v.desks v.lent v.inboxes v.next) e c.keeps.ensures),
-      opening_shows c.args.desks chunks c.args.digits c.args.limit c.profile-profile.ensures.scheme c.requires.few,
-      opening_named c.args.desks chunks c.args.digits c.args.limit,
+      opening_shows c.args.desks parts c.args.digits c.args.limit c.profile-profile.ensures.scheme c.requires.few,
+      opening_named c.args.desks parts c.args.digits c.args.limit,
     )
 
 pub returns-clause-shows : goal.returns-clause-shows
 returns-clause-shows c =
-    let chunks = length c.args.parts.items in
-    let e : c.in_ok-lists.lists ≡ opening c.args.desks chunks c.args.digits c.args.limit = c.in_ok-lists.ensures in
-    subst (λ v. Shown (listing_of v) (machine_opening c.args.desks chunks c.args.digits c.args.limit) (λ slot. 0)) (sym e)
-    (shows_opening c.args.desks chunks c.args.digits c.args.limit c.profile-profile.ensures.scheme c.requires.few)
+    let parts = c.args.parts.items in
+    let e : c.in_ok-lists.lists ≡ opening c.args.desks parts c.args.digits c.args.limit = c.in_ok-lists.ensures in
+    subst (λ v. Shown (listing_of v) (machine_opening c.args.desks (length parts) c.args.digits c.args.limit) (λ slot. 0)) (sym e)
+    (shows_opening c.args.desks parts c.args.digits c.args.limit c.profile-profile.ensures.scheme c.requires.few)

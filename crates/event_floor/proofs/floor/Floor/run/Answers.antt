@@ -13,6 +13,7 @@ loop-request-init c = record {
   count = c.in_ok-answers.ensures.len;
   room = c.in_ok-answers.ensures.capacity;
   desks = refl;
+  parts = refl;
 }
 
 pub loop-request-preserved : goal.loop-request-preserved
@@ -37,6 +38,7 @@ loop-request-preserved c = record {
   count = (let e = c.push_reserved.ensures.len in let g = c.loop-request.invariant.count in e ∙ ap (λ n. n + 1) g);
   room = (let r = c.loop-request.invariant.room in let e = c.push_reserved.ensures.capacity in omega (arith, r, e));
   desks = c.apply-answer.ensures.desks ∙ c.loop-request.invariant.desks;
+  parts = c.apply-answer.ensures.parts ∙ c.loop-request.invariant.parts;
 }
 
 pub returns-clause-runs : goal.returns-clause-runs

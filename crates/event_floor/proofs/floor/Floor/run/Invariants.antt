@@ -11,4 +11,5 @@ invariant-loop-request l = record {
   count : vec_len l.answers ≡ l.request-index;
   room : length l.requests ≤ vec_capacity l.answers;
   desks : desk_count l.self ≡ desk_count l.fn.self;
+  parts : l.self.parts ≡ l.fn.self.parts;
 }

@@ -15,9 +15,9 @@ invariant_of-self-2 c =
     let seat = seated_at c.args.a c.in-Held.desk f there held in
     let few = c.in-Some.ensures in
     let drew = c.in-Some-draw.ensures in
-    rw (ap (λ (z : ChunksSeen). z.count) drew.2)
+    rw (ap (λ (z : ChunksSeen). z.parts) drew.4)
     (floor_settled (floor_seat c.args.a _ f there
-    (claim_seated _ _ _ _ _ _ _ _ _ seat (few_classes c.self.inside.digits _ (rw (sym few.0) at few.1)) (rw (sym drew.0) at drew.1) c.in-Ok.ensures)))
+    (claim_seated _ _ _ _ _ _ _ _ _ seat (few_classes c.self.inside.digits _ (rw (sym few.0) at few.1)) (rw (sym drew.0) at drew.2) c.in-Ok.ensures)))
 
 pub returns-clause-does : goal.returns-clause-does
 returns-clause-does c =
@@ -28,7 +28,7 @@ returns-clause-does c =
     let few = c.in-Some.ensures in
     let drew = c.in-Some-draw.ensures in
     rw (← c.self.view_is)
-    (draws_chunk _ _ _ _ _ _ _ _ c.self.inside.chunks c.draw.new.self (there, held) few.0 few.1 refl refl drew.0 drew.1 drew.2 c.in-Ok.ensures c.chunk-chunk.ensures)
+    (draws_chunk _ _ _ _ _ _ _ _ c.self.inside.chunks c.draw.new.self (there, held) few.0 few.1 refl refl refl drew.0 drew.1 drew.2 refl drew.3 drew.4 c.in-Ok.ensures c.chunk-chunk.ensures)
 
 pub claim-requires : goal.claim-requires
 claim-requires c =

@@ -15,7 +15,7 @@ invariant_of-self-2 c =
     let seat = seated_at c.args.a c.in-Held.desk f there held in
     let took = c.in-Some.ensures in
     let index : c.in-Some.buf.slot.index < 256 = subst (λ (z : Slot). z.index < 256) (sym took.1) took.2 in
-    let known : IsKnown (length c.self.inside.desks.items) c.self.inside.chunks.count c.in-Some.buf =
+    let known : IsKnown (length c.self.inside.desks.items) (length c.self.inside.chunks.parts) c.in-Some.buf =
     record { owner = lent_owned _ _ _ _ c.in-Some.buf f.owned took.0; chunk = chunk_within _ _ _ _ took.3 f.table; index = index } in
     floor_settled (floor_seat c.args.a _
     (floor_lent _ f (ap length took.4 ∙ length-set _ _ _) (subst (λ z. AreOwned (length c.self.inside.desks.items) z) (sym took.4) (owned_set _ _ _ _ f.owned took.3 tt))) there

@@ -1,0 +1,14 @@
+use Rattle.std.proofs.Common.{◌≡◌, ◌++◌, length, map, flat_map, IsPermutation}
+use Rattle.slot_chain.specs.Buffer.{ended_of}
+use Rattle.event_floor.specs.headline.Known.{buffers_with}
+use Rattle.event_floor.specs.headline.Names.{chunks_of}
+use Rattle.event_floor.proofs.ending.end_seats.Given as goal
+
+abbrev pub invariant-loop-seat : goal.invariant-loop-seat
+invariant-loop-seat l = record {
+  chunks : flat_map chunks_of l.desks.items ++ l.endings.chunks ≡ flat_map chunks_of l.initial.desks.items ++ l.initial.endings.chunks;
+  known : IsPermutation (map ended_of (flat_map buffers_with l.initial.desks.items) ++ l.initial.endings.known) (map ended_of (flat_map buffers_with l.desks.items) ++ l.endings.known);
+}
+
+abbrev pub decreases-loop-seat : goal.decreases-loop-seat
+decreases-loop-seat l = length l.desks.items

@@ -1,0 +1,242 @@
+-- What is known once all buffers of a floor, and all parts that aren't drawn, were let go.
+use Rattle.std.proofs.Common.{◌≡◌, ℕ, ◌+◌, ◌*◌, ◌-◌, ◌<◌, ◌≤◌, ◌==◌, List, [], ◌∷◌, ◌++◌, map, flat_map, length, get_or, All, Option, Some, None, is_some, refl, sym, ap, ap₂, ◌∙◌, subst, arith, ⊎_elim, IsPermutation}
+use Rattle.std.specs.Prelude.{count_by, option_map}
+use Rattle.std.specs.Borrow.{GName}
+use Rattle.std.specs.List.{slice_get}
+use Rattle.std.proofs.Math.Nat.{suc-mul}
+use Rattle.std.proofs.lemmas.Bool.{true≢false, cases_lt}
+use Rattle.std.proofs.lemmas.Option.{slice_get-get_or, get_or_from_slice_get}
+use Rattle.std.proofs.lemmas.List.{length-map, length-append, length-drop, get_or-map, get_or-drop}
+use Rattle.std.proofs.lemmas.List.Elements.{All-nil, All-cons, All-head, All-tail}
+use Rattle.std.proofs.lemmas.List.Sorted.{All-permutation, IsPermutation-sym, IsPermutation-refl}
+use Rattle.region_cut.specs.declared.TheConstants.{CHUNK}
+use Rattle.region_cut.specs.declared.slot.Slot.{Slot}
+use Rattle.region_cut.specs.Carved.{Carved}
+use Rattle.region_cut.specs.Classes.{size_of}
+use Rattle.region_cut.specs.Ended.{Ended, name_at, Agrees, IsKnown, HasKnownSlots, KnownEndsStay, end_in, ended_chunk}
+use Rattle.region_cut.specs.Endings.{StandsAt, BeginsWith, SlotsLieAtTheirRanges}
+use Rattle.region_cut.specs.Ranges.{start_of}
+use Rattle.slot_chain.specs.Buffer.{Buffer, ended_of}
+use Rattle.event_floor.specs.declared.chunks.Drawn.{Drawn}
+use Rattle.event_floor.specs.Chunks.{ended_parts}
+use Rattle.event_floor.specs.Floors.{FloorSeen, desk_at, desk_count}
+use Rattle.event_floor.specs.machine.Slots.{one_if}
+use Rattle.event_floor.specs.machine.State.{State}
+use Rattle.event_floor.specs.machine.Listing.{Shown}
+use Rattle.event_floor.specs.headline.Known.{buffers_of, undrawn_parts, EndsKnown}
+use Rattle.event_floor.specs.headline.Listing.{desk_of, listing_of}
+use Rattle.event_floor.specs.headline.Headline.{Shows}
+use Rattle.event_floor.specs.headline.Names.{HasName, AreNames, IsNamed, chunks_of, is_drawn_for}
+use Rattle.event_floor.specs.headline.Whole.{IsStocked, IsWhole}
+use Rattle.event_floor.proofs.headline.Found.{All-flat, All-parts, found, seat_each, buffers_named, taken_buffer}
+use Rattle.event_floor.proofs.headline.Counts.{some_at}
+use Rattle.event_floor.proofs.headline.Handed.{All-to-both}
+use Rattle.event_floor.proofs.headline.Named.{All-first, All-second}
+use Rattle.event_floor.proofs.headline.Taken.{All-to, some_is, same_eqb, eqb_is}
+
+-- ---- lists
+
+flat_same : {X Y : Type 0} (f g : X → List Y) (xs : List X) → All (λ x. f x ≡ g x) xs → flat_map f xs ≡ flat_map g xs
+flat_same f g [] h = refl
+flat_same f g (x ∷ xs) h = ap₂ ◌++◌ (All-head (λ y. f y ≡ g y) x xs h) (flat_same f g xs (All-tail (λ y. f y ≡ g y) x xs h))
+
+length_flat : {X Y : Type 0} (f : X → List Y) (z : ℕ) (xs : List X) → All (λ x. length (f x) ≡ z) xs → length (flat_map f xs) ≡ length xs * z
+length_flat f z [] h = omega arith
+length_flat f z (x ∷ xs) h =
+    let one = All-head (λ y. length (f y) ≡ z) x xs h in
+    let more = length_flat f z xs (All-tail (λ y. length (f y) ≡ z) x xs h) in
+    let both = length-append (f x) (flat_map f xs) in
+    omega (arith, one, more, both, suc-mul (length xs) z)
+
+unmap : {X Y : Type 0} (P : Y → Type 0) (f : X → Y) (xs : List X) → All P (map f xs) → All (λ x. P (f x)) xs
+unmap P f [] h = All-nil (λ x. P (f x))
+unmap P f (x ∷ xs) h = All-cons (λ y. P (f y)) x xs (All-head P (f x) (map f xs) h) (unmap P f xs (All-tail P (f x) (map f xs) h))
+
+-- ---- what is noted
+
+-- the slice ends so
+abbrev pub EndsSo : List Ended → Ended → Type 0
+EndsSo known e = IsKnown known e.name × (end_in known e.name ≡ e.bytes)
+
+pub noted : (known : List Ended) → Agrees known → All (EndsSo known) known
+noted known h = λ k d l. (
+  (k, subst (λ n. k < n) (sym (length-map known name_at)) l, get_or-map name_at known k d (get_or known k d).name l),
+  h k d l,
+)
+
+parts_end : (known : List Ended) (xs : List GName) (bs : List (List ℕ)) → length xs ≡ length bs → All (EndsSo known) (ended_parts xs bs)
+    → All (IsKnown known) xs × (map (end_in known) xs ≡ bs)
+parts_end known [] [] e h = (All-nil (IsKnown known), refl)
+parts_end known [] (b ∷ bs) e h = absurd (omega (arith, e))
+parts_end known (x ∷ xs) [] e h = absurd (omega (arith, e))
+parts_end known (x ∷ xs) (b ∷ bs) e h =
+    let here = All-head (EndsSo known) (record { name = x; bytes = b }) (ended_parts xs bs) h in
+    let more = parts_end known xs bs (omega (arith, e)) (All-tail (EndsSo known) (record { name = x; bytes = b }) (ended_parts xs bs) h) in
+    (All-cons (IsKnown known) x xs here.0 more.0, ap₂ ◌∷◌ here.1 more.1)
+
+-- ---- the floor's chunks
+
+owner_at : (o : Option Drawn) (class : ℕ) → option_map (λ (d : Drawn). d.class) o ≡ Some class → (d : Drawn) × (o ≡ Some d)
+owner_at None class e = absurd (true≢false (sym (ap is_some e)))
+owner_at (Some d) class e = (d, refl)
+
+module _ (v : FloorSeen) (names : List Carved) (n : AreNames names v) (st : State) (count : Slot → ℕ) (h : Shown (listing_of v) st count) where
+  -- what holds of each chunk that a desk knows holds of each drawn chunk
+  of_chunk : (P : Carved → Type 0) → All P (flat_map chunks_of v.desks) → (k : ℕ) (c : Carved) → slice_get names k ≡ Some c → P c
+  of_chunk P all k c e =
+      let o = owner_at (slice_get v.drawn k) c.class (n.chunks k c e).class in
+      let a = o.0.owner in
+      let low : a < desk_count v =
+      subst (λ m. a < m) (sym (sym (length-map v.desks desk_of) ∙ h.frame.desks)) (h.sound.chunks_fit k o.0 (sym (h.frame.drawn k) ∙ o.1)).1 in
+      let desk = n.desks a low in
+      let here : All P (chunks_of (desk_at v a)) = All-parts P chunks_of v.desks all a _ low in
+      let once : count_by (λ (d : Carved). d.chunk == k) (chunks_of (desk_at v a)) ≡ 1 =
+      desk.once k ∙ ap one_if (ap (is_drawn_for a) o.1 ∙ same_eqb a a refl) in
+      let f = found (λ (d : Carved). (slice_get names d.chunk ≡ Some d) × P d) (λ (d : Carved). d.chunk == k) (chunks_of (desk_at v a)) (λ i d l. (desk.same i d l, here i d l)) (omega (arith, once)) in
+      subst P (some_is f.0 c (sym f.2.0 ∙ (ap (slice_get names) (eqb_is f.0.chunk k f.1) ∙ e))) f.2.1
+
+  -- ---- all buffers were let go
+
+  module _ (first : List Ended) (agree : Agrees first) (held : All (EndsSo first) (map ended_of (buffers_of v))) where
+    abbrev IsLetGo : Buffer → Type 0
+    IsLetGo b = EndsSo first (ended_of b)
+
+    all_let_go : All IsLetGo (buffers_of v)
+    all_let_go = unmap (EndsSo first) ended_of (buffers_of v) held
+
+    -- the slice is known, and has as many bytes as a slot of the chunk
+    abbrev IsSlot : Carved → GName → Type 0
+    IsSlot c x = IsKnown first x × (length (end_in first x) ≡ size_of c.class)
+
+    -- the slice at a place of a chunk, as a buffer of the floor has it
+    slice_let_go : (k : ℕ) (c : Carved) → slice_get names k ≡ Some c → All (IsSlot c) c.taken
+    slice_let_go k c e = λ i d l.
+        (let x = get_or c.taken i d in
+        let f = taken_buffer v names n st count h IsLetGo all_let_go k i c x e (slice_get-get_or c.taken i d l) in
+        let is : f.0.bytes.ghost_name ≡ x = f.1 in (
+          subst (IsKnown first) is f.4.0,
+          ap (λ y. length (end_in first y)) (sym is) ∙ (ap length f.4.1 ∙ (f.3.size ∙ ap size_of f.2)),
+        ))
+
+    pub slots_known : (chunks : List Carved) → IsPermutation (flat_map chunks_of v.desks) chunks → All (HasKnownSlots first) chunks
+    slots_known chunks p =
+        All-permutation (HasKnownSlots first) _ _ p
+        (All-flat (HasKnownSlots first) chunks_of v.desks (seat_each (λ s. All (HasKnownSlots first) (chunks_of s)) v
+        (λ a l. All-to (λ (c : Carved). slice_get names c.chunk ≡ Some c) (HasKnownSlots first) (chunks_of (desk_at v a))
+        (λ c e. All-to (IsSlot c) (IsKnown first) c.taken (λ x y. y.0) (slice_let_go c.chunk c e)) (n.desks a l).same)))
+
+    -- ---- all chunks were closed
+
+    module _ (chunks : List Carved) (p : IsPermutation (flat_map chunks_of v.desks) chunks) (agree' : Agrees (map (ended_chunk first) chunks ++ first)) (stay : KnownEndsStay) where
+      abbrev second : List Ended
+      second = map (ended_chunk first) chunks ++ first
+
+      stays : (x : GName) → IsKnown first x → IsKnown second x × (end_in second x ≡ end_in first x)
+      stays x k = stay (map (ended_chunk first) chunks) first agree agree' x k
+
+      chunk_ends : (k : ℕ) (c : Carved) → slice_get names k ≡ Some c → EndsSo second (ended_chunk first c)
+      chunk_ends k c e =
+          of_chunk (λ d. EndsSo second (ended_chunk first d))
+          (All-permutation (λ d. EndsSo second (ended_chunk first d)) _ _ (IsPermutation-sym _ _ p)
+          (unmap (EndsSo second) (ended_chunk first) chunks (All-first (EndsSo second) (map (ended_chunk first) chunks) first (noted second agree')))) k c e
+
+      slices_stay : (k : ℕ) (c : Carved) → slice_get names k ≡ Some c → All (λ x. end_in first x ≡ end_in second x) c.taken
+      slices_stay k c e = All-to (IsSlot c) (λ x. end_in first x ≡ end_in second x) c.taken (λ x y. sym (stays x y.0).1) (slice_let_go k c e)
+
+      chunk_begins : (k : ℕ) (c : Carved) → slice_get names k ≡ Some c → BeginsWith (end_in second) c.taken (size_of c.class) (end_in second c.whole)
+      chunk_begins k c e = record {
+        sizes = All-to (IsSlot c) (λ x. length (end_in second x) ≡ size_of c.class) c.taken (λ x y. ap length (stays x y.0).1 ∙ y.1) (slice_let_go k c e);
+        rest = c.rest;
+        joined = (chunk_ends k c e).1 ∙ ap (λ bs. bs ++ c.rest) (flat_same (end_in first) (end_in second) c.taken (slices_stay k c e));
+      }
+
+      chunk_whole : (k : ℕ) (c : Carved) → slice_get names k ≡ Some c → length (end_in second c.whole) ≡ CHUNK
+      chunk_whole k c e =
+          let z = size_of c.class in
+          let all : length (end_in second c.whole) ≡ length (flat_map (end_in first) c.taken) + length c.rest = ap length (chunk_ends k c e).1 ∙ length-append (flat_map (end_in first) c.taken) c.rest in
+          let slots : length (flat_map (end_in first) c.taken) ≡ length c.taken * z =
+          length_flat (end_in first) z c.taken (All-to (IsSlot c) (λ x. length (end_in first x) ≡ z) c.taken (λ x y. y.1) (slice_let_go k c e)) in
+          let w = (n.chunks k c e).whole in
+          omega (arith, all, slots, w)
+
+      -- ---- the parts
+
+      module _ (stocked : IsStocked v) (left : All (EndsSo first) (ended_parts (undrawn_parts v) v.undrawn)) where
+        as_many : length (undrawn_parts v) ≡ length v.undrawn
+        as_many = let e = stocked.0 in let l = length-drop (length v.drawn) v.parts in omega (arith, e, l)
+
+        parts_left : All (IsKnown first) (undrawn_parts v) × (map (end_in first) (undrawn_parts v) ≡ v.undrawn)
+        parts_left = parts_end first (undrawn_parts v) v.undrawn as_many left
+
+        abbrev HasStayed : GName → Type 0
+        HasStayed x = IsKnown second x × (end_in first x ≡ end_in second x)
+
+        left_stays : All HasStayed (undrawn_parts v)
+        left_stays = All-to (IsKnown first) HasStayed (undrawn_parts v) (λ x k. ((stays x k).0, sym (stays x k).1)) parts_left.0
+
+        map_same : (f g : GName → List ℕ) (xs : List GName) → All (λ x. f x ≡ g x) xs → map f xs ≡ map g xs
+        map_same f g [] a = refl
+        map_same f g (x ∷ xs) a = ap₂ ◌∷◌ (All-head (λ y. f y ≡ g y) x xs a) (map_same f g xs (All-tail (λ y. f y ≡ g y) x xs a))
+
+        left_ends : map (end_in second) (undrawn_parts v) ≡ v.undrawn
+        left_ends =
+            sym (map_same (end_in first) (end_in second) (undrawn_parts v) (All-to HasStayed (λ x. end_in first x ≡ end_in second x) (undrawn_parts v) (λ x y. y.1) left_stays)) ∙ parts_left.1
+
+        left_whole : All (λ x. length (end_in second x) ≡ CHUNK) (undrawn_parts v)
+        left_whole = unmap (λ (bs : List ℕ). length bs ≡ CHUNK) (end_in second) (undrawn_parts v) (subst (λ bs. All (λ (b : List ℕ). length b ≡ CHUNK) bs) (sym left_ends) stocked.1)
+
+        -- what holds of the part of each drawn chunk, and of each other part
+        each_part : (P : GName → Type 0) → ((k : ℕ) (c : Carved) → slice_get names k ≡ Some c → P c.whole) → All P (undrawn_parts v) → All P v.parts
+        each_part P f g = λ k d l. ⊎_elim
+            (λ (low : k < length v.drawn).
+            let m : k < length names = (let e = n.count in omega (arith, low, e)) in
+            let o = some_at names k m in
+            subst P (sym (get_or_from_slice_get v.parts k o.0.whole d (n.chunks k o.0 o.1).part)) (f k o.0 o.1))
+            (λ (high : length v.drawn ≤ k).
+            let j = k - length v.drawn in
+            let back : length v.drawn + j ≡ k = omega (arith, high) in
+            let m : j < length (undrawn_parts v) = (let e = length-drop (length v.drawn) v.parts in omega (arith, high, l, e)) in
+            subst P (get_or-drop (length v.drawn) v.parts j d ∙ ap (λ i. get_or v.parts i d) back) (g j d m)) (cases_lt k (length v.drawn))
+
+        pub all_ends_known : SlotsLieAtTheirRanges → EndsKnown v second
+        all_ends_known lie = record {
+          parts = each_part (IsKnown second) (λ k c e. (chunk_ends k c e).0) (All-to HasStayed (IsKnown second) (undrawn_parts v) (λ x y. y.0) left_stays);
+          whole = whole;
+          buffers = λ tail. All-to-both (HasName names) IsLetGo (λ b. StandsAt b.bytes.now (start_of b.slot b.class) (flat_map (end_in second) v.parts ++ tail)) (buffers_of v) (lies tail) (buffers_named v names n) all_let_go;
+          undrawn = left_ends;
+        }
+          where
+            whole : All (λ x. length (end_in second x) ≡ CHUNK) v.parts
+            whole = each_part (λ x. length (end_in second x) ≡ CHUNK) chunk_whole left_whole
+
+            lies : (tail : List ℕ) (b : Buffer) → HasName names b → IsLetGo b → StandsAt b.bytes.now (start_of b.slot b.class) (flat_map (end_in second) v.parts ++ tail)
+            lies tail b q r =
+                subst (λ bs. StandsAt bs (start_of b.slot b.class) (flat_map (end_in second) v.parts ++ tail)) ((stays b.bytes.ghost_name r.0).1 ∙ r.1)
+                (lie (end_in second) b.slot b.class (flat_map (end_in second) v.parts ++ tail) v.parts (record { sizes = whole; rest = tail; joined = refl })
+                q.chunk.whole (n.chunks b.slot.chunk q.chunk q.is_chunk).part q.chunk.taken
+                (subst (λ z. BeginsWith (end_in second) q.chunk.taken (size_of z) (end_in second q.chunk.whole)) q.class (chunk_begins b.slot.chunk q.chunk q.is_chunk)) b.bytes.ghost_name q.name)
+
+-- ---- a floor
+
+module _ (v : FloorSeen) (whole : IsWhole v) (shows : Shows v) (named : IsNamed v) (first : List Ended) (chunks : List Carved) (agree : Agrees first) (are : chunks ≡ flat_map chunks_of v.desks)
+    (p : IsPermutation (map ended_of (buffers_of v) ++ ended_parts (undrawn_parts v) v.undrawn) first) where
+  all_noted : All (EndsSo first) (map ended_of (buffers_of v) ++ ended_parts (undrawn_parts v) v.undrawn)
+  all_noted = All-permutation (EndsSo first) _ _ (IsPermutation-sym _ _ p) (noted first agree)
+
+  held : All (EndsSo first) (map ended_of (buffers_of v))
+  held = All-first (EndsSo first) (map ended_of (buffers_of v)) (ended_parts (undrawn_parts v) v.undrawn) all_noted
+
+  left : All (EndsSo first) (ended_parts (undrawn_parts v) v.undrawn)
+  left = All-second (EndsSo first) (map ended_of (buffers_of v)) (ended_parts (undrawn_parts v) v.undrawn) all_noted
+
+  same : IsPermutation (flat_map chunks_of v.desks) chunks
+  same = subst (IsPermutation (flat_map chunks_of v.desks)) (sym are) (IsPermutation-refl (flat_map chunks_of v.desks))
+
+  pub floor_slots : All (HasKnownSlots first) chunks
+  unfolding Shows IsNamed
+  floor_slots = slots_known v named.0 named.1 shows.0 shows.1 shows.2 first agree held chunks same
+
+  pub floor_ends : (last : List Ended) → last ≡ map (ended_chunk first) chunks ++ first → Agrees last → KnownEndsStay → SlotsLieAtTheirRanges → EndsKnown v last
+  unfolding Shows IsNamed
+  floor_ends last is agree' stay lie =
+      subst (EndsKnown v) (sym is) (all_ends_known v named.0 named.1 shows.0 shows.1 shows.2 first agree held chunks same (subst Agrees is agree') stay whole.stocked left lie)

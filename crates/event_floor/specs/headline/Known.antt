@@ -1,0 +1,34 @@
+-- What is known of a region once a floor over it is ended.
+use Rattle.std.specs.Prelude.{ℕ, ◌≡◌, List, ◌++◌, length, map, drop, flat_map, All}
+use Rattle.std.specs.Borrow.{GName}
+use Rattle.region_cut.specs.declared.TheConstants.{CHUNK}
+use Rattle.region_cut.specs.Ended.{Ended, IsKnown, end_in}
+use Rattle.region_cut.specs.Endings.{StandsAt}
+use Rattle.region_cut.specs.Ranges.{start_of}
+use Rattle.slot_chain.specs.Buffer.{Buffer}
+use Rattle.pool_desk.specs.Homes.{kept_in}
+use Rattle.event_floor.specs.declared.seat.Seat.{Seat}
+use Rattle.event_floor.specs.Lent.{buffers_lent}
+use Rattle.event_floor.specs.Posted.{buffers_in}
+use Rattle.event_floor.specs.Seats.{home_of, cached_of}
+use Rattle.event_floor.specs.Floors.{FloorSeen}
+
+-- the buffers at home with a desk, and those in its cache
+abbrev pub buffers_with : Seat → List Buffer
+buffers_with s = kept_in (home_of s) ++ cached_of s
+
+-- all buffers of a floor: with its desks, lent, and in batches
+abbrev pub buffers_of : FloorSeen → List Buffer
+buffers_of v = flat_map buffers_with v.desks ++ (buffers_lent v.lent ++ flat_map buffers_in v.inboxes)
+
+-- the names of the parts that aren't drawn
+abbrev pub undrawn_parts : FloorSeen → List GName
+undrawn_parts v = drop (length v.drawn) v.parts
+
+-- It is known what each part of the floor ends as, a whole chunk. Where a region begins with what they end as, in order, each buffer of
+-- the floor stands at the range of its slot of the region, with the bytes that it has now. A part that isn't drawn ends as it is.
+pub record EndsKnown (v : FloorSeen) (known : List Ended) : Type 0 where
+  pub parts : All (IsKnown known) v.parts
+  pub whole : All (λ x. length (end_in known x) ≡ CHUNK) v.parts
+  pub buffers : (tail : List ℕ) → All (λ (b : Buffer). StandsAt b.bytes.now (start_of b.slot b.class) (flat_map (end_in known) v.parts ++ tail)) (buffers_of v)
+  pub undrawn : map (end_in known) (undrawn_parts v) ≡ v.undrawn
