@@ -148,13 +148,22 @@ module _ (v : FloorSeen) (st : State) (c : Slot → ℕ) (h : Shown (listing_of 
   with_desks : times s (flat_map (slots_with v) places) ≡ sum_by at_home places + (sum_by in_cache places + sum_by in_inbox places)
   with_desks = times_flat s (slots_with v) places ∙ sum_three (λ a. times s (slots_with v a)) at_home in_cache in_inbox places with_desk
 
-  homes : sum_by at_home places ≡ times s (flat_map (λ (d : DeskListing). slots_seen d.home) (listing_of v).desks)
+  abbrev home_slots : List Slot
+  home_slots = flat_map (λ (d : DeskListing). slots_seen d.home) (listing_of v).desks
+
+  abbrev cache_slots : List Slot
+  cache_slots = flat_map (λ (d : DeskListing). slots_seen d.cache) (listing_of v).desks
+
+  abbrev inbox_slots : List Slot
+  inbox_slots = flat_map (λ ws. flat_map (λ (w : BatchListing). slots_seen w.buffers) ws) (listing_of v).inboxes
+
+  homes : sum_by at_home places ≡ times s home_slots
   homes =
       sum_places at_home (λ x. times s (slots_seen (desk_of x).home)) v.desks no_desk 0
       (λ i. ap at_home (let z : 0 + i ≡ i = omega arith in z) ∙ ap (times s) (sym (seat_home (get_or v.desks i no_desk))))
       ∙ sym (times_flat s (λ (d : DeskListing). slots_seen d.home) (map desk_of v.desks) ∙ sum_map (λ (d : DeskListing). times s (slots_seen d.home)) desk_of v.desks)
 
-  caches : sum_by in_cache places ≡ times s (flat_map (λ (d : DeskListing). slots_seen d.cache) (listing_of v).desks)
+  caches : sum_by in_cache places ≡ times s cache_slots
   caches =
       sum_places in_cache (λ x. times s (slots_seen (desk_of x).cache)) v.desks no_desk 0
       (λ i. ap in_cache (let z : 0 + i ≡ i = omega arith in z) ∙ ap (times s) (sym (seat_cache (get_or v.desks i no_desk))))
@@ -163,7 +172,7 @@ module _ (v : FloorSeen) (st : State) (c : Slot → ℕ) (h : Shown (listing_of 
   as_many : length v.inboxes ≡ desk_count v
   as_many = sym (length-map v.inboxes (map batch_of)) ∙ (h.frame.posts ∙ (sym h.frame.desks ∙ length-map v.desks desk_of))
 
-  inboxes : sum_by in_inbox places ≡ times s (flat_map (λ ws. flat_map (λ (w : BatchListing). slots_seen w.buffers) ws) (listing_of v).inboxes)
+  inboxes : sum_by in_inbox places ≡ times s inbox_slots
   inboxes =
       ap (λ n. sum_by in_inbox (range_with_len 0 n)) (sym as_many)
       ∙ (sum_places in_inbox (λ ps. times s (flat_map (λ (w : BatchListing). slots_seen w.buffers) (map batch_of ps))) v.inboxes [] 0
@@ -176,9 +185,9 @@ module _ (v : FloorSeen) (st : State) (c : Slot → ℕ) (h : Shown (listing_of 
   on_floor =
       let a = times_append s (map slot_of (buffers_lent v.lent)) (flat_map (slots_with v) places) in
       let l = ap (times s) (seen_buffers (buffers_lent v.lent)) in
-      let x = times_append s (flat_map (λ (d : DeskListing). slots_seen d.home) (listing_of v).desks) (slots_seen (listing_of v).lent ++ (flat_map (λ (d : DeskListing). slots_seen d.cache) (listing_of v).desks ++ flat_map (λ ws. flat_map (λ (w : BatchListing). slots_seen w.buffers) ws) (listing_of v).inboxes)) in
-      let y = times_append s (slots_seen (listing_of v).lent) (flat_map (λ (d : DeskListing). slots_seen d.cache) (listing_of v).desks ++ flat_map (λ ws. flat_map (λ (w : BatchListing). slots_seen w.buffers) ws) (listing_of v).inboxes) in
-      let z = times_append s (flat_map (λ (d : DeskListing). slots_seen d.cache) (listing_of v).desks) (flat_map (λ ws. flat_map (λ (w : BatchListing). slots_seen w.buffers) ws) (listing_of v).inboxes) in
+      let x = times_append s home_slots (slots_seen (listing_of v).lent ++ (cache_slots ++ inbox_slots)) in
+      let y = times_append s (slots_seen (listing_of v).lent) (cache_slots ++ inbox_slots) in
+      let z = times_append s cache_slots inbox_slots in
       let d = with_desks in
       let e = homes in
       let f = caches in
@@ -201,7 +210,8 @@ has_no_slot : (i : ℕ) (o : Option Drawn) → (i < slots_for (class_if o) → �
 has_no_slot i None l = refl
 has_no_slot i (Some d) l = ⊎_elim (λ (m : i < slots_of d.class). absurd (l m)) (λ (m : slots_of d.class ≤ i). le-ltb i (slots_of d.class) m) (cases_lt i (slots_of d.class))
 
-module _ (v : FloorSeen) (drawn : List (Option ℕ)) (p : ShowsPool v) (is : (k : ℕ) → k < 1024 → class_at drawn k ≡ class_drawn v.drawn k) (none : (k : ℕ) → 1024 ≤ k → class_at drawn k ≡ None) where
+module _ (v : FloorSeen) (drawn : List (Option ℕ)) (p : ShowsPool v) (is : (k : ℕ) → k < 1024 → class_at drawn k ≡ class_drawn v.drawn k)
+    (none : (k : ℕ) → 1024 ≤ k → class_at drawn k ≡ None) where
   -- no chunk beyond the last is drawn
   past : (k : ℕ) → 1024 ≤ k → (o : Option Drawn) → p.state.drawn k ≡ o → None ≡ class_if o
   past k l None e = refl
