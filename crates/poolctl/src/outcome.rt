@@ -1,8 +1,8 @@
 //! How a command ends.
 ghost use Rattle.std.specs.Prelude.{◌≡◌};
-ghost use Rattle.poolctl.specs.Outcomes.{outcome_of};
+ghost use Rattle.poolctl.specs.Outcomes.{audited_outcome_of, outcome_of};
 
-use trace_audit::{End, ReplayError};
+use trace_audit::{End, Fault, ReplayError};
 
 /// How a command ended: one variant for each exit status and its words.
 #[derive(Debug, PartialEq, Eq, Drop)]
@@ -12,6 +12,9 @@ pub enum Outcome {
     /// The trace has a bad line, or there is no room for its region or floor; the report says so.
     /// Status 1.
     Stopped,
+    /// The audit behind the report doesn't say yes; its line says what it found, or that there was no memory for it.
+    /// Status 1.
+    AuditFailed,
     /// Want of memory outside a report. Status 1.
     NoMemory,
     /// The words of the command line were refused, or ask for help, and this is the text. Status 2.
@@ -27,7 +30,7 @@ impl Outcome {
     pub fn status(&self) -> u8 {
         match self {
             Outcome::Done => 0,
-            Outcome::Stopped | Outcome::NoMemory => 1,
+            Outcome::Stopped | Outcome::AuditFailed | Outcome::NoMemory => 1,
             Outcome::Refused(_) => 2,
             Outcome::ReadFailed | Outcome::WriteFailed => 3,
         }
@@ -36,7 +39,7 @@ impl Outcome {
     /// What goes to standard error, with its line feed; empty where there is nothing to say.
     pub fn words(&self) -> &str {
         match self {
-            Outcome::Done | Outcome::Stopped => "",
+            Outcome::Done | Outcome::Stopped | Outcome::AuditFailed => "",
             Outcome::NoMemory => "poolctl: no memory\n",
             Outcome::Refused(text) => text.as_str(),
             Outcome::ReadFailed => "poolctl: read failed\n",
@@ -54,5 +57,16 @@ pub fn replayed(ended: Result<End, ReplayError>) -> Outcome
         Ok(End::BadLine(_)) | Ok(End::NoRoom) => Outcome::Stopped,
         Err(ReplayError::Read) => Outcome::ReadFailed,
         Err(ReplayError::Write) => Outcome::WriteFailed,
+    }
+}
+
+/// How `replay --audit` ends.
+pub fn audited(ended: Result<(End, Option<Result<(), Fault>>), ReplayError>) -> Outcome
+    ensures { result ≡ audited_outcome_of ended }
+{
+    match ended {
+        Ok((_, Some(Err(_)))) => Outcome::AuditFailed,
+        Ok((end, _)) => replayed(Ok(end)),
+        Err(error) => replayed(Err(error)),
     }
 }

@@ -15,6 +15,8 @@ pub enum Asked {
     Route(Route),
     /// The report of a trace.
     Replay,
+    /// The report of a trace, with an audit behind it.
+    AuditedReplay,
 }
 
 /// Why nothing is asked for.
@@ -64,10 +66,23 @@ fn route_command<'a>(
         ))
 }
 
+/// The flag that asks for an audit.
+const AUDIT: &str = "audit";
+
+fn replay_command<'a>(alloc: Global) -> Result<Command<'a>, AllocError> {
+    Command::new(alloc, "replay")
+        .about("Replay a trace from standard input and print the report")
+        .arg(
+            Arg::new(alloc, AUDIT)
+                .long(AUDIT)
+                .action(ArgAction::SetTrue)
+                .help(
+                    "Audit the pool at the end: whether each slot of each drawn chunk is there once",
+                ),
+        )
+}
+
 fn commands<'a>(alloc: Global) -> Result<Command<'a>, AllocError> {
-    let replay = Command::new(alloc, "replay").about(
-        "Replay a trace from standard input and print the report",
-    );
     Command::new(alloc, "poolctl")
         .about("A message-passing buffer pool after snmalloc, driven from the command line")
         .subcommand_required(true)
@@ -84,7 +99,7 @@ fn commands<'a>(alloc: Global) -> Result<Command<'a>, AllocError> {
             63,
         )?)?
         .subcommand(route_command(alloc, "route2", "The same for two of 4,096 desks", 4095)?)?
-        .subcommand(replay)
+        .subcommand(replay_command(alloc)?)
 }
 
 fn number_of(matches: &ArgMatches<'_>, name: &str) -> Option<u32> {
@@ -104,6 +119,14 @@ fn route_of(matches: &ArgMatches<'_>, profile: Profile) -> Option<Asked> {
     }))
 }
 
+fn replay_of(matches: &ArgMatches<'_>) -> Asked {
+    if matches.get_flag(AUDIT) {
+        Asked::AuditedReplay
+    } else {
+        Asked::Replay
+    }
+}
+
 fn asked_of(matches: &ArgMatches<'_>) -> Option<Asked> {
     let (name, words) = matches.subcommand()?;
     match name {
@@ -111,7 +134,7 @@ fn asked_of(matches: &ArgMatches<'_>) -> Option<Asked> {
         "classes2" => Some(Asked::Classes(Profile::Pool2)),
         "route" => route_of(words, Profile::Pool),
         "route2" => route_of(words, Profile::Pool2),
-        "replay" => Some(Asked::Replay),
+        "replay" => Some(replay_of(words)),
         _ => None,
     }
 }

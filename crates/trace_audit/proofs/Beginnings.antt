@@ -1,17 +1,16 @@
 -- What was written before the writer failed is a beginning of the report of all of the reader's bytes.
-use Rattle.std.proofs.Common.{◌≡◌, inl, inr, ℕ, ◌+◌, ◌≤◌, List, [], ◌∷◌, ◌++◌, length, Option, Some, None, Result, Ok, Err, IfErr, refl, sym, ◌∙◌, ap, ap₂, subst, arith, append_assoc, append-nil, length-append}
+use Rattle.std.proofs.Common.{◌≡◌, inl, inr, ℕ, ◌+◌, ◌≤◌, List, [], ◌∷◌, ◌++◌, length, Option, Some, None, refl, sym, ◌∙◌, ap, subst, arith, append_assoc, append-nil, length-append}
 use Rattle.std.specs.List.{flat_map, AllByRecursion}
 use Rattle.std.proofs.lemmas.Grind.{flat_map-append}
-use Rattle.std.specs.Io.KnownBytes.{Consumes}
 use Rattle.event_floor.specs.declared.request.Request.{Request}
 use Rattle.event_floor.specs.machine.Laws.{RequestsAreAnswered}
 use Rattle.event_floor.specs.machine.State.{State}
-use Rattle.event_floor.specs.machine.Steps.{Answers, Run, after}
-use Rattle.trace_audit.specs.Grammar.{IsRequest, IsHeader}
+use Rattle.event_floor.specs.machine.Steps.{Run, after}
+use Rattle.trace_audit.specs.Grammar.{IsRequest}
 use Rattle.trace_audit.specs.Laws.{TextsAreTraces}
 use Rattle.trace_audit.specs.Machine.{Answer, told_of}
 use Rattle.trace_audit.specs.Report.{answer_line}
-use Rattle.trace_audit.specs.Trace.{request_line, header_line, EndsTrace, IsTrace}
+use Rattle.trace_audit.specs.Trace.{request_line, header_line, EndsTrace}
 use Rattle.trace_audit.specs.Replay.{Traced, ReportsLines, ReportsTrace, Fails, IsBegun, tail_text}
 use Rattle.trace_audit.specs.Wire.{Begins}
 use Rattle.trace_audit.specs.declared.grammar.header.Header.{Header}
@@ -19,7 +18,8 @@ use Rattle.trace_audit.specs.declared.replaying.ending.End.{End}
 use Rattle.trace_audit.specs.declared.replaying.ending.End.TheVariants.{Whole, BadLine, NoRoom}
 use Rattle.trace_audit.specs.declared.replaying.ending.ReplayError.{ReplayError}
 use Rattle.trace_audit.specs.declared.replaying.ending.ReplayError.TheVariants.{Read, Write}
-use Rattle.trace_audit.proofs.Goings.{GoesOn, goes_on}
+use Rattle.trace_audit.proofs.Closings.{begins_longer}
+use Rattle.trace_audit.proofs.Goings.{goes_on}
 use Rattle.trace_audit.proofs.Known.{left_of, reports}
 
 -- ---- texts
@@ -61,9 +61,6 @@ all_both : (rs qs : List Request) → AllByRecursion IsRequest rs → AllByRecur
 all_both [] qs h k = k
 all_both (r ∷ rs) qs h k = (h.0, all_both rs qs h.1 k)
 
-begins_longer : (out0 out : Option (List ℕ)) (text more : List ℕ) → Begins out0 out text → Begins out0 out (text ++ more)
-begins_longer out0 out text more (front, back, e, a) = (front, back ++ more, ap (λ w. w ++ more) e ∙ append_assoc front back more, a)
-
 longer_text : (xs ys : List Answer) (tail : List ℕ) → (flat_map answer_line xs ++ []) ++ (flat_map answer_line ys ++ tail) ≡ flat_map answer_line (xs ++ ys) ++ tail
 longer_text xs ys tail =
     ap (λ w. w ++ (flat_map answer_line ys ++ tail)) (append-nil (flat_map answer_line xs))
@@ -75,7 +72,7 @@ as_report bytes P n rest (BadLine k) e r = inl r
 as_report bytes P n rest NoRoom e r = absurd e
 
 -- what was answered so far, and what would be answered to the rest
-report_begun : RequestsAreAnswered → (bytes : List ℕ) (left : Option (List ℕ)) (h : Header) (rest : List ℕ) (now : State) (n : ℕ) (out0 out : Option (List ℕ))
+pub report_begun : RequestsAreAnswered → (bytes : List ℕ) (left : Option (List ℕ)) (h : Header) (rest : List ℕ) (now : State) (n : ℕ) (out0 out : Option (List ℕ))
     → Traced (Some bytes) left h rest now n [] (Begins out0 out) → n ≤ 999999 → (end : End) × ReportsTrace bytes (Begins out0 out) end
 report_begun law bytes left h rest now n out0 out t low =
     let l = left_of bytes left t.given t.read in
@@ -106,13 +103,9 @@ report_begun law bytes left h rest now n out0 out t low =
       }),
     )
 
-fails_begun : RequestsAreAnswered → (left0 left out0 out : Option (List ℕ)) (e : ReplayError) → Fails left0 left out0 out e → IsBegun left0 out0 out e
+pub fails_begun : RequestsAreAnswered → (left0 left out0 out : Option (List ℕ)) (e : ReplayError) → Fails left0 left out0 out e → IsBegun left0 out0 out e
 fails_begun law None left out0 out Read f = tt
 fails_begun law None left out0 out Write f = tt
 fails_begun law (Some bytes) left out0 out Read f = tt
 fails_begun law (Some bytes) left out0 out Write (inl (h, now, n, rest, t, low)) = report_begun law bytes left h rest now n out0 out t low
 fails_begun law (Some bytes) left out0 out Write (inr (end, r)) = (end, reports bytes left (Begins out0 out) end r)
-
-pub begun : RequestsAreAnswered → (left0 left out0 out : Option (List ℕ)) (r : Result End ReplayError) → IfErr r (λ e. Fails left0 left out0 out e) → IfErr r (λ e. IsBegun left0 out0 out e)
-begun law left0 left out0 out (Ok x) f = tt
-begun law left0 left out0 out (Err e) f = fails_begun law left0 left out0 out e f

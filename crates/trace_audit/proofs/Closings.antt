@@ -11,8 +11,11 @@ use Rattle.event_floor.specs.Floors.{FloorSeen, desk_count}
 use Rattle.std.specs.Io.KnownBytes.{Appends}
 use Rattle.std.proofs.KnownBytes.{Appends-trans}
 use Rattle.trace_audit.specs.Machine.{Tally, counts_at, told}
-use Rattle.trace_audit.specs.Report.{closing, desk_line, desk_lines, end_line, plus, total}
+use Rattle.trace_audit.specs.Replay.{tail_text}
+use Rattle.trace_audit.specs.Report.{bad_line, closing, desk_line, desk_lines, end_line, plus, total}
 use Rattle.trace_audit.specs.Wire.{Begins, Writes}
+use Rattle.trace_audit.specs.declared.replaying.ending.End.{End}
+use Rattle.trace_audit.specs.declared.replaying.ending.End.TheVariants.{BadLine}
 use Rattle.trace_audit.specs.declared.report.closing.Counts.{Counts}
 
 desk_lines-append : (a : ℕ) (xs ys : List Counts) → desk_lines a (xs ++ ys) ≡ desk_lines a xs ++ desk_lines (a + length xs) ys
@@ -47,6 +50,18 @@ pub writes_behind : {E : Type 0} → (old mid new : Option (List ℕ)) (failed :
 writes_behind old mid new failed x y (Ok u) h p = (Appends-trans old mid new x y h p.0, p.1)
 writes_behind old mid new failed x y (Err e) h ((front, back, cut, wrote), up) =
     ((x ++ front, back, ap (λ w. x ++ w) cut ∙ sym (append_assoc x front back), Appends-trans old mid new x front h wrote), up)
+
+-- what stands first was not all written
+pub begins_longer : (old new : Option (List ℕ)) (x y : List ℕ) → Begins old new x → Begins old new (x ++ y)
+begins_longer old new x y (front, back, cut, h) = (front, back ++ y, ap (λ w. w ++ y) cut ∙ append_assoc front back y, h)
+
+-- the line of a bad line was written, and what stands behind it or a beginning
+pub bad_closed : {E : Type 0} → (old mid new : Option (List ℕ)) (failed : Bool) (t : Tally) (end : End) (n : ℕ) (text : List ℕ) (r : Result (Unit {0}) E) → end ≡ BadLine n → text ≡ bad_line n
+    → Appends old mid text → Writes mid new failed (closing t) r → Writes old new failed (tail_text t end) r
+bad_closed old mid new failed t end n text r e is h p = rw e (writes_behind old mid new failed (bad_line n) (closing t) r (subst (λ (w : List ℕ). Appends old mid w) is h) p)
+
+pub bad_broken : (old new : Option (List ℕ)) (t : Tally) (end : End) (n : ℕ) (text : List ℕ) → end ≡ BadLine n → text ≡ bad_line n → Begins old new text → Begins old new (tail_text t end)
+bad_broken old new t end n text e is h = rw e (begins_longer old new (bad_line n) (closing t) (subst (λ (w : List ℕ). Begins old new w) is h))
 
 -- the last line was written, or a beginning of it
 pub closed : {E : Type 0} → (old mid new : Option (List ℕ)) (failed : Bool) (t : Tally) (xs : List Counts) (i : ℕ) (text : List ℕ) (r : Result (Unit {0}) E) → xs ≡ t.desks → length xs ≤ i → text ≡ end_line t

@@ -1,5 +1,5 @@
 -- The header line, and what follows it.
-use Rattle.std.proofs.Common.{◌≡◌, ◌⊎◌, inl, inr, ℕ, ◌≤◌, ◌<◌, List, [], ◌∷◌, ◌++◌, length, get_or, Option, Result, Ok, Err, IfOk, IfErr, refl, sym, ◌∙◌, ap, subst, arith, append_assoc, codes}
+use Rattle.std.proofs.Common.{◌≡◌, ◌⊎◌, inl, inr, ℕ, ◌≤◌, ◌<◌, List, [], ◌∷◌, ◌++◌, length, get_or, Option, None, Result, Ok, Err, IfOk, IfErr, Bool, true, false, refl, sym, ◌∙◌, ap, subst, arith, append_assoc, append-nil, codes}
 use Rattle.std.proofs.Math.Seq.{get_or-append_seam}
 use Rattle.std.proofs.Math.ListN.{get_or-append}
 use Rattle.std.specs.Io.KnownBytes.{Appends, Consumes}
@@ -9,14 +9,14 @@ use Rattle.event_floor.specs.Floors.{FloorSeen}
 use Rattle.trace_audit.specs.Grammar.{Lacks, header_text, IsHeader}
 use Rattle.trace_audit.specs.Machine.{Tally, Opens, opening_of, told}
 use Rattle.trace_audit.proofs.Tallies.{MachineLaws, reached, told_is}
-use Rattle.trace_audit.specs.Report.{bad_line, no_memory_line}
+use Rattle.trace_audit.specs.Report.{Verdict, bad_line, no_memory_line}
 use Rattle.trace_audit.specs.Trace.{header_line}
-use Rattle.trace_audit.specs.Replay.{Traced, EndsEarly, Reports, Fails, tail_text, IsBadHeader}
-use Rattle.trace_audit.specs.Steps.{Played, Stopped, Houses, FailsHousing}
+use Rattle.trace_audit.specs.Replay.{Traced, EndsEarly, Reports, FailsWith, tail_text, with_audit, IsBadHeader}
+use Rattle.trace_audit.specs.Steps.{Played, Stopped, IsAsked, Houses, FailsHousing}
 use Rattle.trace_audit.specs.Wire.{Begins}
 use Rattle.trace_audit.specs.declared.grammar.header.Header.{Header}
 use Rattle.trace_audit.specs.declared.replaying.ending.End.{End}
-use Rattle.trace_audit.specs.declared.replaying.ending.End.TheVariants.{NoRoom}
+use Rattle.trace_audit.specs.declared.replaying.ending.End.TheVariants.{BadLine, NoRoom}
 use Rattle.trace_audit.specs.declared.replaying.ending.ReplayError.{ReplayError}
 use Rattle.trace_audit.specs.declared.replaying.ending.ReplayError.TheVariants.{Read, Write}
 use Rattle.trace_audit.proofs.Cuts.{cut_once, marked}
@@ -82,70 +82,62 @@ no_room : (left0 left left' : Option (List ℕ)) (h : Header) (held : List ℕ) 
 no_room left0 left left' h held P fits first read is same p = (h, first, held, fits, subst (λ (w : Option (List ℕ)). Consumes left0 w first) (sym same) read, is, p)
 
 -- a floor was driven behind the header, or there was no room for one
-pub reports_housed : MachineLaws → (left0 left left' out0 out : Option (List ℕ)) (h : Header) (held : List ℕ) (end : End)
-    → IsHeader h → (first : List ℕ) → Consumes left0 left first → first ≡ header_line h ++ held → Houses left left' held h out0 out end → Reports left0 left' (Appends out0 out) end
-reports_housed laws left0 left left' out0 out h held end fits first read is (inl (start, opens, (now, n, rest, p, ends))) =
+pub reports_housed : MachineLaws → (left0 left left' : Option (List ℕ)) (P : List ℕ → Type 0) (h : Header) (held : List ℕ) (end : End)
+    → IsHeader h → (first : List ℕ) → Consumes left0 left first → first ≡ header_line h ++ held → Houses left left' held h P end → Reports left0 left' P end
+reports_housed laws left0 left left' P h held end fits first read is (inl (start, now, n, rest, opens, p, ends)) =
     inl (
       h,
       reached h start now p.requests p.answers opens p.run,
       n,
       rest,
-      subst (λ (t : Tally). Traced left0 left' h rest (reached h start now p.requests p.answers opens p.run) n (tail_text t end) (Appends out0 out))
+      subst (λ (t : Tally). Traced left0 left' h rest (reached h start now p.requests p.answers opens p.run) n (tail_text t end) P)
           (told_is laws h start now p.requests p.answers fits opens p.run)
-          (traced left0 left left' h held rest start now n (tail_text (told now) end) (Appends out0 out) fits opens first read is p),
+          (traced left0 left left' h held rest start now n (tail_text (told now) end) P fits opens first read is p),
       ends,
     )
-reports_housed laws left0 left left' out0 out h held end fits first read is (inr (none, same, wrote)) =
-    subst (λ (w : End). Reports left0 left' (Appends out0 out) w) (sym none) (inr (no_room left0 left left' h held (Appends out0 out) fits first read is same wrote))
+reports_housed laws left0 left left' P h held end fits first read is (inr (none, same, wrote)) =
+    subst (λ (w : End). Reports left0 left' P w) (sym none) (inr (no_room left0 left left' h held P fits first read is same wrote))
 
-fails_driven : MachineLaws → (left0 left left' out0 out : Option (List ℕ)) (h : Header) (held : List ℕ) (start : FloorSeen) (e : ReplayError)
-    → IsHeader h → Opens h start → (first : List ℕ) → Consumes left0 left first → first ≡ header_line h ++ held → Stopped left left' held start out0 out e → Fails left0 left' out0 out e
-fails_driven laws left0 left left' out0 out h held start Read fits opens first read is (now, n, rest, p, low, partial, full) =
+fails_driven : (IsAllowed : End → Option Verdict → Type 0) (left0 left left' out0 out : Option (List ℕ)) (h : Header) (held : List ℕ) (start : FloorSeen) (e : ReplayError)
+    → IsHeader h → Opens h start → (first : List ℕ) → Consumes left0 left first → first ≡ header_line h ++ held → Stopped left left' held start out0 out e → FailsWith IsAllowed left0 left' out0 out e
+fails_driven IsAllowed left0 left left' out0 out h held start Read fits opens first read is (now, n, rest, p, low, partial, full) =
     inl (h, reached h start now p.requests p.answers opens p.run, n, rest, traced left0 left left' h held rest start now n [] (Appends out0 out) fits opens first read is p, low, partial, full)
-fails_driven laws left0 left left' out0 out h held start Write fits opens first read is (now, n, rest, tail, p, low, inl none) =
-    let q : Played left left' held rest start now n [] (Begins out0 out) = subst (λ (w : List ℕ). Played left left' held rest start now n w (Begins out0 out)) none p in
-    inl (
-      h,
-      reached h start now q.requests q.answers opens q.run,
-      n,
-      rest,
-      traced left0 left left' h held rest start now n [] (Begins out0 out) fits opens first read is q,
-      low,
-    )
-fails_driven laws left0 left left' out0 out h held start Write fits opens first read is (now, n, rest, tail, p, low, inr (end, ends, tails)) =
-    let q : Played left left' held rest start now n (tail_text (told now) end) (Begins out0 out) = subst (λ (w : List ℕ). Played left left' held rest start now n w (Begins out0 out)) tails p in
-    inr (
-      end,
-      inl (
-        h,
-        reached h start now q.requests q.answers opens q.run,
-        n,
-        rest,
-        subst (λ (t : Tally). Traced left0 left' h rest (reached h start now q.requests q.answers opens q.run) n (tail_text t end) (Begins out0 out))
-            (told_is laws h start now q.requests q.answers fits opens q.run)
-            (traced left0 left left' h held rest start now n (tail_text (told now) end) (Begins out0 out) fits opens first read is q),
-        ends,
-      ),
-    )
+fails_driven IsAllowed left0 left left' out0 out h held start Write fits opens first read is (now, n, rest, p, low) =
+    inl (h, reached h start now p.requests p.answers opens p.run, n, rest, traced left0 left left' h held rest start now n [] (Begins out0 out) fits opens first read is p, low)
 
-pub fails_housed : MachineLaws → (left0 left left' out0 out : Option (List ℕ)) (h : Header) (held : List ℕ) (e : ReplayError)
-    → IsHeader h → (first : List ℕ) → Consumes left0 left first → first ≡ header_line h ++ held → FailsHousing left left' held h out0 out e → Fails left0 left' out0 out e
-fails_housed laws left0 left left' out0 out h held e fits first read is (inl (start, opens, stopped)) = fails_driven laws left0 left left' out0 out h held start e fits opens first read is stopped
-fails_housed laws left0 left left' out0 out h held e fits first read is (inr (write, same, begins)) =
-    subst (λ (w : ReplayError). Fails left0 left' out0 out w) (sym write) (inr (NoRoom, inr (no_room left0 left left' h held (Begins out0 out) fits first read is same begins)))
+pub fails_housed : MachineLaws → (audits : Bool) (left0 left left' out0 out : Option (List ℕ)) (h : Header) (held : List ℕ) (e : ReplayError)
+    → IsHeader h → (first : List ℕ) → Consumes left0 left first → first ≡ header_line h ++ held → FailsHousing audits left left' held h out0 out e → FailsWith (IsAsked audits) left0 left' out0 out e
+fails_housed laws audits left0 left left' out0 out h held e fits first read is (inl (start, opens, stopped)) =
+    fails_driven (IsAsked audits) left0 left left' out0 out h held start e fits opens first read is stopped
+fails_housed laws audits left0 left left' out0 out h held e fits first read is (inr (write, end, audit, allowed, houses)) =
+    subst (λ (w : ReplayError). FailsWith (IsAsked audits) left0 left' out0 out w) (sym write)
+    (inr (end, audit, allowed, reports_housed laws left0 left left' (with_audit audit (Begins out0 out)) h held end fits first read is houses))
 
--- one line was written, and no other
-pub only_ok : (left0 left out0 out : Option (List ℕ)) (flag : Type 0) (text text' : List ℕ) (end : End) (r : Result End ReplayError)
-    → text' ≡ text → ((P : List ℕ → Type 0) → P text → EndsEarly left0 left P end) → IfOk r (λ e. (e ≡ end) × Appends out0 out text' × flag) → IfOk r (λ e. Reports left0 left (Appends out0 out) e)
-only_ok left0 left out0 out flag text text' end (Ok e) same early h =
-    subst (λ (w : End). Reports left0 left (Appends out0 out) w) (sym h.0) (inr (early (Appends out0 out) (subst (λ (w : List ℕ). Appends out0 out w) same h.1)))
-only_ok left0 left out0 out flag text text' end (Err e) same early h = tt
+-- one line was written, and no other; there is no audit
+none_asked : (audits : Bool) → IsAsked audits (BadLine 1) None
+none_asked true = inl (refl, refl)
+none_asked false = refl
 
-pub only_err : (left0 left out0 out : Option (List ℕ)) (flag : Type 0) (text text' : List ℕ) (end : End) (r : Result End ReplayError)
-    → text' ≡ text → ((P : List ℕ → Type 0) → P text → EndsEarly left0 left P end) → IfErr r (λ e. (e ≡ Write) × Begins out0 out text' × flag) → IfErr r (λ e. Fails left0 left out0 out e)
-only_err left0 left out0 out flag text text' end (Ok e) same early h = tt
-only_err left0 left out0 out flag text text' end (Err e) same early h =
-    subst (λ (w : ReplayError). Fails left0 left out0 out w) (sym h.0) (inr (end, inr (early (Begins out0 out) (subst (λ (w : List ℕ). Begins out0 out w) same h.1))))
+pub only_ok : (left0 left out0 out : Option (List ℕ)) (flag : Type 0) (text text' : List ℕ) (r : Result (End × Option Verdict) ReplayError)
+    → text' ≡ text → ((P : List ℕ → Type 0) → P text → EndsEarly left0 left P (BadLine 1)) → IfOk r (λ x. (x.0 ≡ BadLine 1) × (x.1 ≡ None) × Appends out0 out text' × flag)
+    → IfOk r (λ x. Reports left0 left (with_audit x.1 (Appends out0 out)) x.0)
+only_ok left0 left out0 out flag text text' (Ok x) same early h =
+    subst (λ (w : End). Reports left0 left (with_audit x.1 (Appends out0 out)) w) (sym h.0)
+    (subst (λ (w : Option Verdict). Reports left0 left (with_audit w (Appends out0 out)) (BadLine 1)) (sym h.1)
+    (inr (early (with_audit None (Appends out0 out)) (subst (λ (w : List ℕ). Appends out0 out w) (same ∙ sym (append-nil text)) h.2))))
+only_ok left0 left out0 out flag text text' (Err e) same early h = tt
+
+pub only_asked : (audits : Bool) (wrote flag : Type 0) (r : Result (End × Option Verdict) ReplayError)
+    → IfOk r (λ x. (x.0 ≡ BadLine 1) × (x.1 ≡ None) × wrote × flag) → IfOk r (λ x. IsAsked audits x.0 x.1)
+only_asked audits wrote flag (Ok x) h = subst (λ (w : End). IsAsked audits w x.1) (sym h.0) (subst (λ (w : Option Verdict). IsAsked audits (BadLine 1) w) (sym h.1) (none_asked audits))
+only_asked audits wrote flag (Err e) h = tt
+
+pub only_err : (audits : Bool) (left0 left out0 out : Option (List ℕ)) (flag : Type 0) (text text' : List ℕ) (r : Result (End × Option Verdict) ReplayError)
+    → text' ≡ text → ((P : List ℕ → Type 0) → P text → EndsEarly left0 left P (BadLine 1)) → IfErr r (λ e. (e ≡ Write) × Begins out0 out text' × flag) → IfErr r (λ e. FailsWith (IsAsked audits) left0 left out0 out e)
+only_err audits left0 left out0 out flag text text' (Ok x) same early h = tt
+only_err audits left0 left out0 out flag text text' (Err e) same early h =
+    subst (λ (w : ReplayError). FailsWith (IsAsked audits) left0 left out0 out w) (sym h.0)
+    (inr (BadLine 1, None, none_asked audits, inr (early (with_audit None (Begins out0 out)) (subst (λ (w : List ℕ). Begins out0 out w) (same ∙ sym (append-nil text)) h.1))))
 
 -- the header line, from the line that was taken
 pub header_taken : (bytes text line held : List ℕ) (h : Header) → bytes ≡ text ++ 10 ∷ held → line ≡ text → line ≡ header_text h → bytes ≡ header_line h ++ held

@@ -1,5 +1,5 @@
 -- From what a reader gave to all of its bytes, where they are known.
-use Rattle.std.proofs.Common.{◌≡◌, inl, inr, ℕ, ◌≤◌, List, [], ◌∷◌, ◌++◌, Option, Some, None, Result, Ok, Err, IfOk, refl, sym, ◌∙◌, ap, subst, append_assoc, append-nil}
+use Rattle.std.proofs.Common.{◌≡◌, inl, inr, ℕ, ◌≤◌, List, [], ◌∷◌, ◌++◌, Option, Some, None, refl, sym, ◌∙◌, ap, subst, append_assoc, append-nil}
 use Rattle.std.specs.Prelude.{IfSome}
 use Rattle.std.specs.List.{flat_map}
 use Rattle.std.specs.Io.KnownBytes.{Consumes, IsAtEnd}
@@ -83,7 +83,6 @@ reports bytes left P NoRoom (inr (h, given, rest, fits, read, lines, wrote)) =
     ((h, rest ++ l.0, fits, l.2 ∙ ap (λ w. w ++ l.0) lines ∙ append_assoc (header_line h) rest l.0 ∙ append_assoc (header_text h) (10 ∷ []) (rest ++ l.0)), wrote)
 
 -- where the reader's bytes are known
-pub known : {E : Type 0} → (old left : Option (List ℕ)) (P : List ℕ → Type 0) (r : Result End E) → IfOk r (λ end. Reports old left P end) → IfOk r (λ end. IfSome old (λ bytes. ReportsTrace bytes P end))
-known None left P (Ok end) h = tt
-known (Some bytes) left P (Ok end) h = reports bytes left P end h
-known old left P (Err e) h = tt
+pub known : (old left : Option (List ℕ)) (P : List ℕ → Type 0) (end : End) → Reports old left P end → IfSome old (λ bytes. ReportsTrace bytes P end)
+known None left P end h = tt
+known (Some bytes) left P end h = reports bytes left P end h

@@ -5,10 +5,13 @@ mod Cuts
 mod Fronts
 mod Openings
 mod Plays
+mod Finishes
 mod Headers
 mod Readings
-pub mod Known
+mod Known
 mod Tallies
 mod Goings
 mod Beginnings
+mod Audited
 mod Undrawn
+mod Found

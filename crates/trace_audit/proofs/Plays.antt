@@ -1,5 +1,5 @@
 -- What one line adds to what was played, and how it ends.
-use Rattle.std.proofs.Common.{◌≡◌, inl, inr, ℕ, ◌+◌, ◌≤◌, ◌<◌, List, [], ◌∷◌, ◌++◌, Option, Result, Ok, Err, IfOk, IfErr, refl, sym, ◌∙◌, ap, subst, arith, Bool, length-append, append_assoc, append-nil}
+use Rattle.std.proofs.Common.{◌≡◌, ℕ, ◌+◌, ◌≤◌, ◌<◌, List, [], ◌∷◌, ◌++◌, Option, refl, sym, ◌∙◌, ap, subst, arith, length-append, append_assoc, append-nil}
 use Rattle.std.specs.List.{flat_map, AllByRecursion}
 use Rattle.std.proofs.lemmas.List.{flat_map_more}
 use Rattle.std.specs.Io.KnownBytes.{Appends, Consumes, Keeps, IsAtEnd}
@@ -10,14 +10,13 @@ use Rattle.trace_audit.specs.Grammar.{IsRequest}
 use Rattle.event_floor.specs.headline.Headline.{Applies}
 use Rattle.event_floor.specs.machine.State.{State}
 use Rattle.event_floor.specs.machine.Steps.{Answers, Run, after}
-use Rattle.trace_audit.specs.Machine.{Answer, Tally, told}
-use Rattle.trace_audit.specs.Report.{answer_line, bad_line, closing}
+use Rattle.trace_audit.specs.Machine.{Answer}
+use Rattle.trace_audit.specs.Report.{answer_line}
 use Rattle.trace_audit.specs.Trace.{request_line}
-use Rattle.trace_audit.specs.Replay.{EndsSo, tail_text}
-use Rattle.trace_audit.specs.Steps.{Follows, Played, Broke, Ended, Stopped, Finishes}
+use Rattle.trace_audit.specs.Replay.{EndsSo}
+use Rattle.trace_audit.specs.Steps.{Follows, Played, Broke, Driven, Stopped}
 use Rattle.trace_audit.specs.Wire.{Begins}
 use Rattle.trace_audit.specs.declared.replaying.ending.End.{End}
-use Rattle.trace_audit.specs.declared.replaying.ending.End.TheVariants.{Whole, BadLine, NoRoom}
 use Rattle.trace_audit.specs.declared.replaying.ending.ReplayError.{ReplayError}
 use Rattle.trace_audit.specs.declared.replaying.ending.ReplayError.TheVariants.{Read, Write}
 use Rattle.trace_audit.proofs.Bytes.{consumes_kept}
@@ -98,44 +97,20 @@ played_tail left0 left left' held0 held rest start now new n tail P P' p more re
   wrote = subst (λ (w : List ℕ). P' (w ++ tail)) (append-nil (flat_map answer_line p.answers)) (wrote (flat_map answer_line p.answers ++ []) p.wrote);
 }
 
-begins_more : (out0 out out' : Option (List ℕ)) (text tail : List ℕ) → Appends out0 out text → Begins out out' tail → Begins out0 out' (text ++ tail)
+pub begins_more : (out0 out out' : Option (List ℕ)) (text tail : List ℕ) → Appends out0 out text → Begins out out' tail → Begins out0 out' (text ++ tail)
 begins_more out0 out out' text tail h (front, back, e, k) = (text ++ front, back, ap (λ w. text ++ w) e ∙ sym (append_assoc text front back), Appends-trans out0 out out' text front h k)
 
-few : (n : ℕ) (rest : List ℕ) (at_end : Type 0) (end : End) → EndsSo n rest at_end end → n ≤ 999999
-few n rest at_end Whole h = h.0
-few n rest at_end (BadLine k) h = h.0
-few n rest at_end NoRoom h = absurd h
-
--- the end of a trace was found, and its tail was written
-pub end_ok : (left0 left left' out0 out out1 out' : Option (List ℕ)) (held0 held rest : List ℕ) (start now new : FloorSeen) (n : ℕ) (failed : Bool) (end : End) (r : Result End ReplayError)
-    → Played left0 left held0 held start now n [] (Appends out0 out) → (more : List ℕ) → Consumes left left' more → held ++ more ≡ rest → new ≡ now → out1 ≡ out
-    → EndsSo n rest (IsAtEnd left') end → Finishes new end out1 out' failed r → IfOk r (λ e. Ended left0 left' held0 start out0 out' e)
-end_ok left0 left left' out0 out out1 out' held0 held rest start now new n failed end (Ok e) p more read lines same kept ends (is, down, wrote) =
-    subst (λ (w : End). Ended left0 left' held0 start out0 out' w) (sym is) (
-      new,
-      n,
-      rest,
-      played_tail left0 left left' held0 held rest start now new n (tail_text (told new) end) (Appends out0 out) (Appends out0 out') p more read lines same
-          (λ text h. Appends-trans out0 out out' text (tail_text (told new) end) h (subst (λ (w : Option (List ℕ)). Appends w out' (tail_text (told new) end)) kept wrote)),
-      ends,
-    )
-end_ok left0 left left' out0 out out1 out' held0 held rest start now new n failed end (Err e) p more read lines same kept ends f = tt
-
-pub end_err : (left0 left left' out0 out out1 out' : Option (List ℕ)) (held0 held rest : List ℕ) (start now new : FloorSeen) (n : ℕ) (failed : Bool) (end : End) (r : Result End ReplayError)
-    → Played left0 left held0 held start now n [] (Appends out0 out) → (more : List ℕ) → Consumes left left' more → held ++ more ≡ rest → new ≡ now → out1 ≡ out
-    → EndsSo n rest (IsAtEnd left') end → Finishes new end out1 out' failed r → IfErr r (λ e. Stopped left0 left' held0 start out0 out' e)
-end_err left0 left left' out0 out out1 out' held0 held rest start now new n failed end (Ok e) p more read lines same kept ends f = tt
-end_err left0 left left' out0 out out1 out' held0 held rest start now new n failed end (Err e) p more read lines same kept ends (is, up, wrote) =
-    subst (λ (w : ReplayError). Stopped left0 left' held0 start out0 out' w) (sym is) (
-      new,
-      n,
-      rest,
-      tail_text (told new) end,
-      played_tail left0 left left' held0 held rest start now new n (tail_text (told new) end) (Appends out0 out) (Begins out0 out') p more read lines same
-          (λ text h. begins_more out0 out out' text (tail_text (told new) end) h (subst (λ (w : Option (List ℕ)). Begins w out' (tail_text (told new) end)) kept wrote)),
-      few n rest (IsAtEnd left') end ends,
-      inr (end, ends, refl),
-    )
+-- the end of the request lines was found
+pub driven_end : (left0 left left' out0 out out' : Option (List ℕ)) (held0 held rest : List ℕ) (start now new : FloorSeen) (n : ℕ) (end : End)
+    → Played left0 left held0 held start now n [] (Appends out0 out) → (more : List ℕ) → Consumes left left' more → held ++ more ≡ rest → new ≡ now → out' ≡ out
+    → EndsSo n rest (IsAtEnd left') end → Driven left0 left' held0 start new out0 out' end
+driven_end left0 left left' out0 out out' held0 held rest start now new n end p more read lines same kept ends = (
+  n,
+  rest,
+  played_tail left0 left left' held0 held rest start now new n [] (Appends out0 out) (Appends out0 out') p more read lines same
+      (λ text h. subst (λ (w : Option (List ℕ)). Appends out0 w (text ++ [])) (sym kept) (subst (λ (w : List ℕ). Appends out0 out w) (sym (append-nil text)) h)),
+  ends,
+)
 
 -- the reader or the writer failed within a line
 pub stopped_by : (left0 left left' out0 out out' : Option (List ℕ)) (held0 held held' : List ℕ) (start now new : FloorSeen) (n : ℕ) (e : ReplayError)
@@ -155,11 +130,9 @@ stopped_by left0 left left' out0 out out' held0 held held' start now new n Write
   new,
   n + 1,
   held',
-  [],
   played_more left0 left left' held0 held held' start now new n (n + 1) (Appends out0 out) (Begins out0 out') p refl more r x read lines fits step
       (λ text h. begins_more out0 out out' text (answer_line x) h wrote),
   omega arith,
-  inl refl,
 )
 
 -- the reader failed behind the last line that a trace may have
@@ -175,13 +148,3 @@ stopped_last left0 left left' out0 out held0 held start now n p low kept none = 
   (λ k h. absurd (omega arith), omega arith),
   λ full. refl,
 )
-
--- the tail of a bad line: its own line, and the closing lines
-pub bad_ok : (old mid new : Option (List ℕ)) (t : Tally) (end : End) (n : ℕ) (text : List ℕ) → end ≡ BadLine n → text ≡ bad_line n → Appends old mid text → Appends mid new (closing t) → Appends old new (tail_text t end)
-bad_ok old mid new t end n text e is h k = rw e (Appends-trans old mid new (bad_line n) (closing t) (subst (λ (w : List ℕ). Appends old mid w) is h) k)
-
-pub bad_close : (old mid new : Option (List ℕ)) (t : Tally) (end : End) (n : ℕ) (text : List ℕ) → end ≡ BadLine n → text ≡ bad_line n → Appends old mid text → Begins mid new (closing t) → Begins old new (tail_text t end)
-bad_close old mid new t end n text e is h k = rw e (begins_more old mid new (bad_line n) (closing t) (subst (λ (w : List ℕ). Appends old mid w) is h) k)
-
-pub bad_put : (old new : Option (List ℕ)) (t : Tally) (end : End) (n : ℕ) (text : List ℕ) → end ≡ BadLine n → text ≡ bad_line n → Begins old new text → Begins old new (tail_text t end)
-bad_put old new t end n text e is (front, back, cut, h) = rw e (front, back ++ closing t, ap (λ w. w ++ closing t) (sym is ∙ cut) ∙ append_assoc front back (closing t), h)

@@ -1,8 +1,9 @@
 -- What an audit looks for: each slot of a drawn chunk once, and no other.
-use Rattle.std.specs.Prelude.{ℕ, ◌≡◌, ◌<◌, ◌==◌, ◌&&◌, Bool, List, count_by, slice_index_or, Option, Some, None}
+use Rattle.std.specs.Prelude.{ℕ, ◌≡◌, ◌<◌, List, slice_index_or, Option, Some, None}
 use Rattle.region_cut.specs.Classes.{slots_of}
 use Rattle.region_cut.specs.Slots.{IsBefore}
 use Rattle.region_cut.specs.declared.slot.Slot.{Slot}
+use Rattle.event_floor.specs.machine.Slots.{times}
 use Rattle.trace_audit.specs.declared.auditing.fault.Fault.{Fault}
 use Rattle.trace_audit.specs.declared.auditing.fault.Fault.TheVariants.{Stranger, Doubled, Missing, NoMemory}
 
@@ -22,13 +23,6 @@ slots_in drawn chunk = slots_for (class_at drawn chunk)
 -- the slot is one of a drawn chunk
 abbrev pub IsDrawnSlot : List (Option ℕ) → Slot → Type 0
 IsDrawnSlot drawn s = s.index < slots_in drawn s.chunk
-
-abbrev pub same : Slot → Slot → Bool
-same s t = (s.chunk == t.chunk) && (s.index == t.index)
-
--- how often the slot occurs
-abbrev pub times : Slot → List Slot → ℕ
-times s found = count_by (same s) found
 
 -- each slot of a drawn chunk occurs once, and no other occurs
 pub record ExactlyOnce (drawn : List (Option ℕ)) (found : List Slot) : Type 0 where

@@ -1,5 +1,5 @@
 -- What a replay reads, how it ends, and what it writes.
-use Rattle.std.specs.Prelude.{ℕ, ◌≡◌, ◌≢◌, ◌⊎◌, ◌+◌, ◌≤◌, List, [], ◌++◌, length, Option, Some, Bool, true, false, ⊤}
+use Rattle.std.specs.Prelude.{ℕ, ◌≡◌, ◌≢◌, ◌⊎◌, ◌+◌, ◌<◌, ◌≤◌, List, [], ◌++◌, length, Option, Some, None, Ok, Err, Bool, true, false, ⊤}
 use Rattle.std.specs.List.{flat_map, AllByRecursion}
 use Rattle.std.specs.Io.KnownBytes.{Appends, Consumes, IsAtEnd}
 use Rattle.event_floor.specs.machine.State.{State}
@@ -8,8 +8,9 @@ use Rattle.event_floor.specs.declared.request.Request.{Request}
 use Rattle.trace_audit.specs.Grammar.{Lacks, IsRequest, IsHeader}
 use Rattle.trace_audit.specs.Machine.{Answer, Tally, opening_of, told_of}
 use Rattle.trace_audit.specs.Trace.{header_line, request_line, BeginsWithHeader, BeginsWithRequest, IsTrace}
-use Rattle.trace_audit.specs.Report.{answer_line, bad_line, closing, no_memory_line}
+use Rattle.trace_audit.specs.Report.{answer_line, bad_line, closing, no_memory_line, Verdict, audit_line}
 use Rattle.trace_audit.specs.Wire.{Begins}
+use Rattle.trace_audit.specs.declared.auditing.fault.Fault.TheVariants.{NoMemory}
 use Rattle.trace_audit.specs.declared.grammar.header.Header.{Header}
 use Rattle.trace_audit.specs.declared.replaying.ending.End.{End}
 use Rattle.trace_audit.specs.declared.replaying.ending.End.TheVariants.{Whole, BadLine, NoRoom}
@@ -91,6 +92,10 @@ Reports left0 left P end = ((h : Header) × (now : State) × (n : ℕ) × (rest 
     × Traced left0 left h rest now n (tail_text (told_of now) end) P × EndsSo n rest (IsAtEnd left) end)
     ⊎ EndsEarly left0 left P end
 
+-- the writer failed within the line of an answer
+abbrev pub BreaksOff : Option (List ℕ) → Option (List ℕ) → Option (List ℕ) → Option (List ℕ) → Type 0
+BreaksOff left0 left out0 out = (h : Header) × (now : State) × (n : ℕ) × (rest : List ℕ) × Traced left0 left h rest now n [] (Begins out0 out) × (n ≤ 999999)
+
 -- Read: no bad line was known; the lines of the answers to all whole lines were written, and nothing else; nothing at
 -- all where not even a header line was whole. Write: a beginning of a report was written.
 abbrev pub Fails : Option (List ℕ) → Option (List ℕ) → Option (List ℕ) → Option (List ℕ) → ReplayError → Type 0
@@ -98,9 +103,7 @@ Fails left0 left out0 out Read =
     ((h : Header) × (now : State) × (n : ℕ) × (rest : List ℕ)
     × Traced left0 left h rest now n [] (Appends out0 out) × (n ≤ 999999) × IsPartial rest × (n ≡ 999999 → rest ≡ []))
     ⊎ ((given : List ℕ) × Consumes left0 left given × IsPartial given × (out ≡ out0))
-Fails left0 left out0 out Write =
-    ((h : Header) × (now : State) × (n : ℕ) × (rest : List ℕ) × Traced left0 left h rest now n [] (Begins out0 out) × (n ≤ 999999))
-    ⊎ ((end : End) × Reports left0 left (Begins out0 out) end)
+Fails left0 left out0 out Write = BreaksOff left0 left out0 out ⊎ ((end : End) × Reports left0 left (Begins out0 out) end)
 
 -- Where the reader's bytes are known, what was written before the writer failed is a beginning of the report of all of them.
 abbrev pub IsBegun : Option (List ℕ) → Option (List ℕ) → Option (List ℕ) → ReplayError → Type 0
@@ -111,3 +114,41 @@ IsBegun left0 out0 out e = ⊤
 abbrev pub Failures : Bool → Bool → ReplayError → Type 0
 Failures reader writer Read = (reader ≡ true) × (writer ≡ false)
 Failures reader writer Write = (reader ≡ false) × (writer ≡ true)
+
+-- ---- with the line of an audit
+
+-- the line of the audit, where there is one
+abbrev pub audit_lines : Option Verdict → List ℕ
+audit_lines None = []
+audit_lines (Some verdict) = audit_line verdict
+
+-- P holds of the report with the line of the audit behind it
+abbrev pub with_audit : Option Verdict → (List ℕ → Type 0) → List ℕ → Type 0
+with_audit audit P report = P (report ++ audit_lines audit)
+
+-- there was an audit: it found nothing wrong, or there was no memory for it
+abbrev pub FindsNothing : Option Verdict → Type 0
+FindsNothing None = ⊥
+FindsNothing (Some (Ok u)) = ⊤
+FindsNothing (Some (Err fault)) = fault ≡ NoMemory
+
+-- so it is behind closing lines; behind one line alone there is no audit
+abbrev pub IsAudited : End → Option Verdict → Type 0
+IsAudited Whole audit = FindsNothing audit
+IsAudited (BadLine k) audit = ((k ≡ 1) × (audit ≡ None)) ⊎ ((1 < k) × FindsNothing audit)
+IsAudited NoRoom audit = audit ≡ None
+
+-- The same as `Fails`, where an audit stands behind a report as IsAllowed says: its line may be the one that broke off.
+abbrev pub FailsWith : (End → Option Verdict → Type 0) → Option (List ℕ) → Option (List ℕ) → Option (List ℕ) → Option (List ℕ) → ReplayError → Type 0
+FailsWith IsAllowed left0 left out0 out Read = Fails left0 left out0 out Read
+FailsWith IsAllowed left0 left out0 out Write =
+    BreaksOff left0 left out0 out
+    ⊎ ((end : End) × (audit : Option Verdict) × IsAllowed end audit × Reports left0 left (with_audit audit (Begins out0 out)) end)
+
+abbrev pub FailsAudited : Option (List ℕ) → Option (List ℕ) → Option (List ℕ) → Option (List ℕ) → ReplayError → Type 0
+FailsAudited left0 left out0 out e = FailsWith IsAudited left0 left out0 out e
+
+-- the same as `IsBegun`, of a report with the line of its audit
+abbrev pub IsBegunAudited : Option (List ℕ) → Option (List ℕ) → Option (List ℕ) → ReplayError → Type 0
+IsBegunAudited (Some bytes) out0 out Write = (end : End) × (audit : Option Verdict) × IsAudited end audit × ReportsTrace bytes (with_audit audit (Begins out0 out)) end
+IsBegunAudited left0 out0 out e = ⊤

@@ -1,5 +1,5 @@
 -- What the parts of a replay come to. Only contracts of private functions speak of these.
-use Rattle.std.specs.Prelude.{ℕ, ◌≡◌, ◌≢◌, ◌⊎◌, ◌<◌, ◌≤◌, List, [], ◌∷◌, ◌++◌, length, Option, Result, Ok, Err, Bool, true, false}
+use Rattle.std.specs.Prelude.{ℕ, ◌≡◌, ◌≢◌, ◌⊎◌, ◌<◌, ◌≤◌, List, [], ◌∷◌, ◌++◌, length, Option, None, Result, Ok, Err, Bool, true, false}
 use Rattle.std.specs.List.{flat_map, AllByRecursion}
 use Rattle.std.specs.Io.KnownBytes.{Appends, Consumes, IsAtEnd}
 use Rattle.event_floor.specs.Floors.{FloorSeen}
@@ -12,9 +12,9 @@ use Rattle.event_floor.specs.machine.Steps.{Run}
 use Rattle.event_floor.specs.machine.Listing.{Shown}
 use Rattle.region_cut.specs.declared.slot.Slot.{Slot}
 use Rattle.trace_audit.specs.Machine.{Answer, Opens, told}
-use Rattle.trace_audit.specs.Report.{answer_line, no_memory_line}
+use Rattle.trace_audit.specs.Report.{answer_line, no_memory_line, Verdict}
 use Rattle.trace_audit.specs.Trace.{request_line}
-use Rattle.trace_audit.specs.Replay.{IsBadFront, IsPartial, EndsSo, tail_text}
+use Rattle.trace_audit.specs.Replay.{IsBadFront, IsPartial, EndsSo, tail_text, audit_lines, with_audit, FindsNothing, IsAudited}
 use Rattle.trace_audit.specs.Wire.{Begins}
 use Rattle.trace_audit.specs.declared.grammar.header.Header.{Header}
 use Rattle.trace_audit.specs.declared.lines.Next.{Next}
@@ -61,29 +61,47 @@ pub record Played (left0 left : Option (List ℕ)) (held0 rest : List ℕ) (star
   pub run : Follows start requests answers now
   pub wrote : P (flat_map answer_line answers ++ tail)
 
--- the request lines were read to an end, and the report was written
-abbrev pub Ended : Option (List ℕ) → Option (List ℕ) → List ℕ → FloorSeen → Option (List ℕ) → Option (List ℕ) → End → Type 0
-Ended left0 left held0 start out0 out end = (now : FloorSeen) × (n : ℕ) × (rest : List ℕ)
-    × Played left0 left held0 rest start now n (tail_text (told now) end) (Appends out0 out) × EndsSo n rest (IsAtEnd left) end
+-- all request lines were read and answered, and how they end was found
+abbrev pub Driven : Option (List ℕ) → Option (List ℕ) → List ℕ → FloorSeen → FloorSeen → Option (List ℕ) → Option (List ℕ) → End → Type 0
+Driven left0 left held0 start now out0 out end = (n : ℕ) × (rest : List ℕ) × Played left0 left held0 rest start now n [] (Appends out0 out) × EndsSo n rest (IsAtEnd left) end
 
 -- the reader or the writer failed before
 abbrev pub Stopped : Option (List ℕ) → Option (List ℕ) → List ℕ → FloorSeen → Option (List ℕ) → Option (List ℕ) → ReplayError → Type 0
 Stopped left0 left held0 start out0 out Read = (now : FloorSeen) × (n : ℕ) × (rest : List ℕ)
     × Played left0 left held0 rest start now n [] (Appends out0 out) × (n ≤ 999999) × IsPartial rest × (n ≡ 999999 → rest ≡ [])
-Stopped left0 left held0 start out0 out Write = (now : FloorSeen) × (n : ℕ) × (rest : List ℕ) × (tail : List ℕ)
-    × Played left0 left held0 rest start now n tail (Begins out0 out) × (n ≤ 999999)
-    × ((tail ≡ []) ⊎ ((end : End) × EndsSo n rest (IsAtEnd left) end × (tail ≡ tail_text (told now) end)))
+Stopped left0 left held0 start out0 out Write = (now : FloorSeen) × (n : ℕ) × (rest : List ℕ)
+    × Played left0 left held0 rest start now n [] (Begins out0 out) × (n ≤ 999999)
 
--- the tail of an end was written, or a beginning of it
-abbrev pub Finishes : FloorSeen → End → Option (List ℕ) → Option (List ℕ) → Bool → Result End ReplayError → Type 0
-Finishes floor end old new failed (Ok e) = (e ≡ end) × (failed ≡ false) × Appends old new (tail_text (told floor) end)
-Finishes floor end old new failed (Err e) = (e ≡ Write) × (failed ≡ true) × Begins old new (tail_text (told floor) end)
+-- what is answered of an audit that is asked for; nothing where none is
+abbrev pub IsTold : Bool → Option Verdict → Type 0
+IsTold true audit = FindsNothing audit
+IsTold false audit = audit ≡ None
 
--- a floor of the header was driven to the end, or there is no room for one and the reader was left alone
-abbrev pub Houses : Option (List ℕ) → Option (List ℕ) → List ℕ → Header → Option (List ℕ) → Option (List ℕ) → End → Type 0
-Houses left0 left held0 h out0 out end = ((start : FloorSeen) × Opens h start × Ended left0 left held0 start out0 out end)
-    ⊎ ((end ≡ NoRoom) × (left ≡ left0) × Appends out0 out no_memory_line)
+-- the same, behind each end
+abbrev pub IsAsked : Bool → End → Option Verdict → Type 0
+IsAsked true end audit = IsAudited end audit
+IsAsked false end audit = audit ≡ None
 
-abbrev pub FailsHousing : Option (List ℕ) → Option (List ℕ) → List ℕ → Header → Option (List ℕ) → Option (List ℕ) → ReplayError → Type 0
-FailsHousing left0 left held0 h out0 out e = ((start : FloorSeen) × Opens h start × Stopped left0 left held0 start out0 out e)
-    ⊎ ((e ≡ Write) × (left ≡ left0) × Begins out0 out no_memory_line)
+-- the line of the audit was written where it is asked for, or a beginning of it
+abbrev pub TellsAudit : {E : Type 0} → Bool → Option (List ℕ) → Option (List ℕ) → Bool → Result (Option Verdict) E → Type 0
+TellsAudit audits old new failed (Ok audit) = IsTold audits audit × Appends old new (audit_lines audit) × (failed ≡ false)
+TellsAudit audits old new failed (Err e) = ((audit : Option Verdict) × IsTold audits audit × Begins old new (audit_lines audit)) × (failed ≡ true)
+
+-- what stands behind the answers was written, or a beginning of it
+abbrev pub Finishes : Bool → FloorSeen → End → Option (List ℕ) → Option (List ℕ) → Bool → Result (End × Option Verdict) ReplayError → Type 0
+Finishes audits floor end old new failed (Ok r) = (r.0 ≡ end) × (failed ≡ false) × IsTold audits r.1 × Appends old new (tail_text (told floor) end ++ audit_lines r.1)
+Finishes audits floor end old new failed (Err e) =
+    (e ≡ Write) × (failed ≡ true) × (audit : Option Verdict) × IsTold audits audit × Begins old new (tail_text (told floor) end ++ audit_lines audit)
+
+-- A floor of the header was driven to the end, and P holds of the report; or there is no room for one, and P holds of the one line.
+abbrev pub Houses : Option (List ℕ) → Option (List ℕ) → List ℕ → Header → (List ℕ → Type 0) → End → Type 0
+Houses left0 left held0 h P end =
+    ((start : FloorSeen) × (now : FloorSeen) × (n : ℕ) × (rest : List ℕ)
+    × Opens h start × Played left0 left held0 rest start now n (tail_text (told now) end) P × EndsSo n rest (IsAtEnd left) end)
+    ⊎ ((end ≡ NoRoom) × (left ≡ left0) × P no_memory_line)
+
+-- the reader or the writer failed within the request lines, or the writer behind them
+abbrev pub FailsHousing : Bool → Option (List ℕ) → Option (List ℕ) → List ℕ → Header → Option (List ℕ) → Option (List ℕ) → ReplayError → Type 0
+FailsHousing audits left0 left held0 h out0 out e =
+    ((start : FloorSeen) × Opens h start × Stopped left0 left held0 start out0 out e)
+    ⊎ ((e ≡ Write) × (end : End) × (audit : Option Verdict) × IsAsked audits end audit × Houses left0 left held0 h (with_audit audit (Begins out0 out)) end)

@@ -5,11 +5,13 @@ ghost use Rattle.trace_audit.specs.Tallies.{IsTally};
 
 mod drawn;
 mod fault;
+mod floors;
 mod strangers;
 mod tallies;
 
 pub use drawn::Drawn;
 pub use fault::Fault;
+pub(crate) use floors::audit_floor;
 use region_cut::Slot;
 use std::alloc::Global;
 use strangers::least_stranger;

@@ -1,4 +1,5 @@
-//! Traces of a buffer pool: [`replay`] reads one, drives a floor with it, and writes a report.
+//! Traces of a buffer pool: [`replay`] reads one, drives a floor with it, and writes a report; [`replay_audited`] audits the
+//! floor at its end.
 //!
 //! [`audit`] says whether all slots of the chunks that a pool drew are there, each of them once.
 //!
@@ -19,6 +20,6 @@ mod wire;
 
 pub use auditing::{Drawn, Fault, audit};
 pub use grammar::Header;
-pub use replaying::{End, ReplayError, replay};
+pub use replaying::{End, ReplayError, replay, replay_audited};
 pub use report::{Counts, write_audit};
 pub use wire::{Failed, FromReader, Sink, Source, ToWriter, write_all};

@@ -6,4 +6,4 @@ mod start;
 mod turn;
 
 pub use ending::{End, ReplayError};
-pub use start::replay;
+pub use start::{replay, replay_audited};

@@ -1,9 +1,10 @@
 use super::outcome_of;
+use crate::outcome::audited;
 use crate::{Outcome, command};
 use std::alloc::Global;
 use std::io::{self, ErrorKind, Read, Write};
 use std::test::Fail;
-use trace_audit::{FromReader, ToWriter};
+use trace_audit::{End, Fault, FromReader, ToWriter};
 
 const TRACE: &[u8] = b"pool 1 1 2\nadopt 0 5\nclaim 0 0\nalloc 0 16\nfree 0 0.0\n";
 
@@ -15,6 +16,35 @@ fn a_whole_trace(rt: HostRuntime) -> Result<(), Fail> {
     assert!(rt; outcome == Outcome::Done);
     assert!(rt; written.as_slice() == report.as_bytes());
     Ok(())
+}
+
+#[test]
+fn an_audit_says_yes(rt: HostRuntime) -> Result<(), Fail> {
+    let (outcome, written) = outcome_of(rt.alloc(), ["replay", "--audit"].as_slice(), TRACE)?;
+    let report = "ok\nchunk 0\nslot 0.0\nhome\ndesk 0 home 256 cached 0 queued 0\n\
+        end chunks 1 lent 0 home 256 cached 0 queued 0\naudit yes\n";
+    assert!(rt; outcome == Outcome::Done, "{outcome:?}");
+    assert!(rt; written.as_slice() == report.as_bytes(), "{written:?}");
+    Ok(())
+}
+
+#[test]
+fn no_audit_behind_a_bad_header(rt: HostRuntime) -> Result<(), Fail> {
+    let words = ["replay", "--audit"];
+    let (outcome, written) = outcome_of(rt.alloc(), words.as_slice(), b"pool 0 1 2\n")?;
+    assert!(rt; outcome == Outcome::Stopped, "{outcome:?}");
+    assert!(rt; written.as_slice() == b"R17 BadLine 1\n".as_slice());
+    Ok(())
+}
+
+/// Also where the trace has a bad line: the line of the audit stands behind it.
+#[test]
+fn an_audit_without_memory_gives_status_1(rt: HostRuntime) {
+    for end in [End::Whole, End::BadLine(2)] {
+        let outcome = audited(Ok((end, Some(Err(Fault::NoMemory)))));
+        assert!(rt; outcome == Outcome::AuditFailed);
+        assert!(rt; outcome.status() == 1 && outcome.words() == "");
+    }
 }
 
 #[test]

@@ -60,3 +60,16 @@ fn help_gives_status_2(rt: HostRuntime) -> Result<(), Fail> {
     );
     Ok(())
 }
+
+#[test]
+fn help_tells_of_the_audit(rt: HostRuntime) -> Result<(), Fail> {
+    let (outcome, _) = outcome_of(rt.alloc(), ["replay", "--help"].as_slice(), b"")?;
+    assert!(rt; outcome.status() == 2);
+    let text = outcome.words();
+    assert!(rt; text.contains("Usage: poolctl replay [OPTIONS]"), "{text}");
+    assert!(rt;
+        text.contains("      --audit  Audit the pool at the end"),
+        "{text}"
+    );
+    Ok(())
+}

@@ -1,9 +1,8 @@
 //! All lines behind the header.
 ghost use Rattle.std.specs.Prelude.{◌≡◌, false, IfOk, IfErr};
 ghost use Rattle.trace_audit.specs.Replay.{Failures};
-ghost use Rattle.trace_audit.specs.Steps.{Ended, Stopped};
+ghost use Rattle.trace_audit.specs.Steps.{Driven, Stopped};
 
-use super::ending::finish;
 use super::turn::{Turn, one_line};
 use super::{End, ReplayError};
 use crate::lines::{Held, is_over};
@@ -11,7 +10,7 @@ use crate::wire::{Sink, Source};
 use event_floor::Floor;
 use std::alloc::Global;
 
-/// Reads request lines to the end of the trace, answers each, and writes what stands behind the answers.
+/// Reads request lines to the end of the trace, and answers each.
 pub fn drive<R: Source, W: Sink>(
     alloc: Global,
     floor: &mut Floor<'_>,
@@ -21,7 +20,7 @@ pub fn drive<R: Source, W: Sink>(
 ) -> Result<End, ReplayError>
     requires reader_down { R.has_failed reader.old ≡ false }
     requires writer_down { W.has_failed writer.old ≡ false }
-    ensures ended { IfOk result (λ end. Ended (R.remaining reader.old) (R.remaining reader.new) held.old.items floor.old (W.contents writer.old) (W.contents writer.new) end) }
+    ensures driven { IfOk result (λ end. Driven (R.remaining reader.old) (R.remaining reader.new) held.old.items floor.old floor.new (W.contents writer.old) (W.contents writer.new) end) }
     ensures down { IfOk result (λ _. (R.has_failed reader.new ≡ false) × (W.has_failed writer.new ≡ false)) }
     ensures stopped { IfErr result (λ e. Stopped (R.remaining reader.old) (R.remaining reader.new) held.old.items floor.old (W.contents writer.old) (W.contents writer.new) e) }
     ensures up { IfErr result (λ e. Failures (R.has_failed reader.new) (W.has_failed writer.new) e) }
@@ -29,14 +28,14 @@ pub fn drive<R: Source, W: Sink>(
     for number in 2..1_000_001u32 {
         match one_line(alloc, floor, held, reader, writer) {
             Ok(Turn::Answered) => {}
-            Ok(Turn::Over) => return finish(floor, writer, End::Whole),
-            Ok(Turn::Bad) => return finish(floor, writer, End::BadLine(number)),
+            Ok(Turn::Over) => return Ok(End::Whole),
+            Ok(Turn::Bad) => return Ok(End::BadLine(number)),
             Err(error) => return Err(error),
         }
     }
     match is_over(held, reader) {
-        Ok(true) => finish(floor, writer, End::Whole),
-        Ok(false) => finish(floor, writer, End::BadLine(1_000_001)),
+        Ok(true) => Ok(End::Whole),
+        Ok(false) => Ok(End::BadLine(1_000_001)),
         Err(_) => Err(ReplayError::Read),
     }
 }

@@ -1,12 +1,18 @@
 //! How a replay ends.
-ghost use Rattle.std.specs.Prelude.{◌≡◌, true, false, IfOk, IfErr};
+ghost use Rattle.std.specs.Prelude.{◌≡◌, None, true, false, IfOk, IfErr};
 ghost use Rattle.std.specs.Io.KnownBytes.{Appends};
-ghost use Rattle.trace_audit.specs.Steps.{Finishes};
-ghost use Rattle.trace_audit.specs.Wire.{Begins};
+ghost use Rattle.trace_audit.specs.Found.{ShowsPool};
+ghost use Rattle.trace_audit.specs.Machine.{told};
+ghost use Rattle.trace_audit.specs.Replay.{tail_text};
+ghost use Rattle.trace_audit.specs.Steps.{Finishes, TellsAudit};
+ghost use Rattle.trace_audit.specs.Wire.{Begins, Writes};
 
-use crate::report::{close, line_of_bad};
-use crate::wire::{Sink, write_all};
+use crate::Fault;
+use crate::auditing::audit_floor;
+use crate::report::{close, line_of_bad, write_audit};
+use crate::wire::{Failed, Sink, write_all};
 use event_floor::Floor;
+use std::alloc::Global;
 use thiserror::Error;
 
 /// How a trace ended.
@@ -31,38 +37,78 @@ pub enum ReplayError {
     Write,
 }
 
-/// Writes what stands behind the answers.
-pub fn finish<W: Sink>(floor: &Floor<'_>, writer: &mut W, end: End) -> Result<End, ReplayError>
+/// Writes the line of a bad line, if there is one, and the closing lines.
+fn close_behind<W: Sink>(floor: &Floor<'_>, writer: &mut W, end: End) -> Result<(), Failed>
     requires { W.has_failed writer.old ≡ false }
-    ensures { Finishes floor.now end (W.contents writer.old) (W.contents writer.new) (W.has_failed writer.new) result }
+    ensures { Writes (W.contents writer.old) (W.contents writer.new) (W.has_failed writer.new) (tail_text (told floor.now) end) result }
 {
     match end {
-        End::Whole => match close(floor, writer) {
-            Ok(()) => Ok(end),
-            Err(_) => Err(ReplayError::Write),
-        },
+        End::Whole => close(floor, writer),
         End::BadLine(number) => {
             let line = line_of_bad(number);
             match write_all(writer, line.as_slice()) {
-                Ok(()) => match close(floor, writer) {
-                    Ok(()) => Ok(end),
-                    Err(_) => Err(ReplayError::Write),
-                },
-                Err(_) => Err(ReplayError::Write),
+                Ok(()) => close(floor, writer),
+                Err(failed) => Err(failed),
             }
         }
-        End::NoRoom => Ok(end),
+        End::NoRoom => Ok(()),
+    }
+}
+
+/// Audits the floor where that is asked for, and writes the line of the answer.
+fn tell_audit<W: Sink>(
+    alloc: Global,
+    floor: &Floor<'_>,
+    writer: &mut W,
+    audits: bool,
+) -> Result<Option<Result<(), Fault>>, Failed>
+    requires down { W.has_failed writer.old ≡ false }
+    requires shows { ShowsPool floor.now }
+    ensures { TellsAudit audits (W.contents writer.old) (W.contents writer.new) (W.has_failed writer.new) result }
+{
+    if !audits {
+        return Ok(None);
+    }
+    let answer = audit_floor(alloc, floor);
+    match write_audit(answer, writer) {
+        Ok(()) => Ok(Some(answer)),
+        Err(failed) => Err(failed),
+    }
+}
+
+/// Writes what stands behind the answers: the closing lines, and the line of an audit where that is asked for.
+pub fn finish<W: Sink>(
+    alloc: Global,
+    floor: &Floor<'_>,
+    writer: &mut W,
+    end: End,
+    audits: bool,
+) -> Result<(End, Option<Result<(), Fault>>), ReplayError>
+    requires down { W.has_failed writer.old ≡ false }
+    requires shows { ShowsPool floor.now }
+    ensures { Finishes audits floor.now end (W.contents writer.old) (W.contents writer.new) (W.has_failed writer.new) result }
+{
+    match close_behind(floor, writer, end) {
+        Ok(()) => match tell_audit(alloc, floor, writer, audits) {
+            Ok(audit) => Ok((end, audit)),
+            Err(_) => Err(ReplayError::Write),
+        },
+        Err(_) => Err(ReplayError::Write),
     }
 }
 
 /// Writes one line, and no other.
-pub fn only<W: Sink>(writer: &mut W, text: &[u8], end: End) -> Result<End, ReplayError>
+pub fn only<W: Sink>(
+    writer: &mut W,
+    text: &[u8],
+    end: End,
+) -> Result<(End, Option<Result<(), Fault>>), ReplayError>
     requires { W.has_failed writer.old ≡ false }
-    ensures ok { IfOk result (λ e. (e ≡ end) × Appends (W.contents writer.old) (W.contents writer.new) text.now × (W.has_failed writer.new ≡ false)) }
+    ensures ok { IfOk result (λ r. (r.0 ≡ end) × (r.1 ≡ None) × Appends (W.contents writer.old) (W.contents writer.new) text.now × (W.has_failed writer.new ≡ false)) }
     ensures err { IfErr result (λ e. (e ≡ ReplayError.Write) × Begins (W.contents writer.old) (W.contents writer.new) text.now × (W.has_failed writer.new ≡ true)) }
 {
     match write_all(writer, text) {
-        Ok(()) => Ok(end),
+        Ok(()) => Ok((end, None)),
         Err(_) => Err(ReplayError::Write),
     }
 }

@@ -3,12 +3,13 @@ ghost use Rattle.std.specs.Prelude.{◌≡◌, ◌≤◌, ◌*◌, ◌↔◌, le
 ghost use Rattle.std.specs.Io.KnownBytes.{Appends};
 ghost use Rattle.trace_audit.specs.Machine.{Opens, digits_of};
 ghost use Rattle.trace_audit.specs.Grammar.{IsHeader};
-ghost use Rattle.trace_audit.specs.Replay.{Failures, Fails, IsBegun, Reports, ReportsTrace};
-ghost use Rattle.trace_audit.specs.Steps.{Houses, FailsHousing};
+ghost use Rattle.trace_audit.specs.Replay.{Failures, Fails, FailsAudited, FailsWith, IsAudited, IsBegun, IsBegunAudited, Reports, ReportsTrace, with_audit};
+ghost use Rattle.trace_audit.specs.Steps.{Houses, FailsHousing, IsAsked};
 
 use super::drive::drive;
-use super::ending::only;
+use super::ending::{finish, only};
 use super::{End, ReplayError};
+use crate::Fault;
 use crate::grammar::{Header, read_header};
 use crate::lines::{Held, Next, next_line};
 use crate::wire::{Sink, Source};
@@ -60,29 +61,35 @@ fn floor_over<'r>(
     }
 }
 
-/// Makes the region and the floor, and drives it to the end of the trace.
+/// Makes the region and the floor, drives it to the end of the trace, and writes what stands behind the answers.
 fn on_floor<R: Source, W: Sink>(
     alloc: Global,
     header: Header,
     held: &mut Held,
     reader: &mut R,
     writer: &mut W,
-) -> Result<End, ReplayError>
+    audits: bool,
+) -> Result<(End, Option<Result<(), Fault>>), ReplayError>
     requires header { IsHeader header }
     requires reader_down { R.has_failed reader.old ≡ false }
     requires writer_down { W.has_failed writer.old ≡ false }
-    ensures ended { IfOk result (λ end. Houses (R.remaining reader.old) (R.remaining reader.new) held.old.items header (W.contents writer.old) (W.contents writer.new) end) }
+    ensures ended { IfOk result (λ r. Houses (R.remaining reader.old) (R.remaining reader.new) held.old.items header (with_audit r.1 (Appends (W.contents writer.old) (W.contents writer.new))) r.0) }
+    ensures audit { IfOk result (λ r. IsAsked audits r.0 r.1) }
     ensures down { IfOk result (λ _. (R.has_failed reader.new ≡ false) × (W.has_failed writer.new ≡ false)) }
-    ensures failed { IfErr result (λ e. FailsHousing (R.remaining reader.old) (R.remaining reader.new) held.old.items header (W.contents writer.old) (W.contents writer.new) e) }
+    ensures failed { IfErr result (λ e. FailsHousing audits (R.remaining reader.old) (R.remaining reader.new) held.old.items header (W.contents writer.old) (W.contents writer.new) e) }
     ensures up { IfErr result (λ e. Failures (R.has_failed reader.new) (W.has_failed writer.new) e) }
 {
+    runs_keep_numbers();
     match region_of(alloc, header.chunks) {
         Ok(new) => {
             let mut region = new;
             match floor_over(alloc, region.as_mut_slice(), header) {
                 Ok(made) => {
                     let mut floor = made;
-                    drive(alloc, &mut floor, held, reader, writer)
+                    match drive(alloc, &mut floor, held, reader, writer) {
+                        Ok(end) => finish(alloc, &floor, writer, end, audits),
+                        Err(error) => Err(error),
+                    }
                 }
                 Err(_) => only(writer, b"R15 NoMemory\n", End::NoRoom),
             }
@@ -96,12 +103,14 @@ fn play<R: Source, W: Sink>(
     alloc: Global,
     reader: &mut R,
     writer: &mut W,
-) -> Result<End, ReplayError>
+    audits: bool,
+) -> Result<(End, Option<Result<(), Fault>>), ReplayError>
     requires reader_down { R.has_failed reader.old ≡ false }
     requires writer_down { W.has_failed writer.old ≡ false }
-    ensures ended { IfOk result (λ end. Reports (R.remaining reader.old) (R.remaining reader.new) (Appends (W.contents writer.old) (W.contents writer.new)) end) }
+    ensures ended { IfOk result (λ r. Reports (R.remaining reader.old) (R.remaining reader.new) (with_audit r.1 (Appends (W.contents writer.old) (W.contents writer.new))) r.0) }
+    ensures audit { IfOk result (λ r. IsAsked audits r.0 r.1) }
     ensures down { IfOk result (λ _. (R.has_failed reader.new ≡ false) × (W.has_failed writer.new ≡ false)) }
-    ensures failed { IfErr result (λ e. Fails (R.remaining reader.old) (R.remaining reader.new) (W.contents writer.old) (W.contents writer.new) e) }
+    ensures failed { IfErr result (λ e. FailsWith (IsAsked audits) (R.remaining reader.old) (R.remaining reader.new) (W.contents writer.old) (W.contents writer.new) e) }
     ensures up { IfErr result (λ e. Failures (R.has_failed reader.new) (W.has_failed writer.new) e) }
 {
     floors_tell_counts();
@@ -109,7 +118,7 @@ fn play<R: Source, W: Sink>(
     let mut held = Held::new();
     match next_line(&mut held, reader) {
         Ok(Next::Text(text)) => match read_header(text.as_slice()) {
-            Some(header) => on_floor(alloc, header, &mut held, reader, writer),
+            Some(header) => on_floor(alloc, header, &mut held, reader, writer, audits),
             None => only(writer, b"R17 BadLine 1\n", End::BadLine(1)),
         },
         Ok(Next::Over) => only(writer, b"R17 BadLine 1\n", End::BadLine(1)),
@@ -124,7 +133,6 @@ fn play<R: Source, W: Sink>(
 /// each request line as soon as it is read, so memory does not grow with the trace. Reading stops at the first bad
 /// line; nothing is written after a failed write. Where the floor or its region can't be made for want of memory the
 /// answer is `NoRoom`.
-#[tactic(auto, using(crate::proofs::Known::known))]
 pub fn replay<R: Source, W: Sink>(
     alloc: Global,
     reader: &mut R,
@@ -142,5 +150,37 @@ pub fn replay<R: Source, W: Sink>(
     ensures up { IfErr result (λ e. Failures (R.has_failed reader.new) (W.has_failed writer.new) e) }
 {
     requests_are_answered();
-    play(alloc, reader, writer)
+    match play(alloc, reader, writer, false) {
+        Ok((end, _)) => Ok(end),
+        Err(error) => Err(error),
+    }
+}
+
+/// Does what [`replay`] does, audits the floor at the end, and writes the line of the audit behind the closing lines.
+///
+/// The audit goes over all slots that the floor holds: at home, lent, in caches and in inboxes. It finds nothing wrong:
+/// the line is `audit yes`, or `audit no memory` where an allocation of the audit is refused. The second answer is that
+/// of the line. It is `None` where no closing lines are written, behind `BadLine(1)` and `NoRoom`.
+///
+/// The audit takes time and memory in the number of slots of the drawn chunks, and a table of 262,144 bytes.
+pub fn replay_audited<R: Source, W: Sink>(
+    alloc: Global,
+    reader: &mut R,
+    writer: &mut W,
+) -> Result<(End, Option<Result<(), Fault>>), ReplayError>
+    requires reader_down { R.has_failed reader.old ≡ false }
+    requires writer_down { W.has_failed writer.old ≡ false }
+    // Behind closing lines the audit is there, and found nothing wrong unless it had no memory; else there is none.
+    ensures audit { IfOk result (λ r. IsAudited r.0 r.1) }
+    // Where the reader's bytes are known, they are a trace with this end, and its report was written, the line of the audit, and nothing else.
+    ensures trace { IfOk result (λ r. IfSome (R.remaining reader.old) (λ bytes. ReportsTrace bytes (with_audit r.1 (Appends (W.contents writer.old) (W.contents writer.new))) r.0)) }
+    // Whatever the reader, the same holds of the bytes that it gave.
+    ensures ended { IfOk result (λ r. Reports (R.remaining reader.old) (R.remaining reader.new) (with_audit r.1 (Appends (W.contents writer.old) (W.contents writer.new))) r.0) }
+    ensures down { IfOk result (λ _. (R.has_failed reader.new ≡ false) × (W.has_failed writer.new ≡ false)) }
+    ensures failed { IfErr result (λ e. FailsAudited (R.remaining reader.old) (R.remaining reader.new) (W.contents writer.old) (W.contents writer.new) e) }
+    ensures begun { IfErr result (λ e. IsBegunAudited (R.remaining reader.old) (W.contents writer.old) (W.contents writer.new) e) }
+    ensures up { IfErr result (λ e. Failures (R.has_failed reader.new) (W.has_failed writer.new) e) }
+{
+    requests_are_answered();
+    play(alloc, reader, writer, true)
 }

@@ -4,13 +4,14 @@ use crate::{End, ReplayError, replay};
 use std::process::Abort;
 use std::test::Fail;
 
-const TRACE: &[u8] = b"pool 64 8 2\nadopt 0 0\nadopt 7 1\nadopt 11 2\nadopt 27 3\nclaim 7 15\n\
+/// The travel of three buffers.
+pub const TRACE: &[u8] = b"pool 64 8 2\nadopt 0 0\nadopt 7 1\nadopt 11 2\nadopt 27 3\nclaim 7 15\n\
     claim 11 15\nclaim 27 15\nalloc 7 512\nalloc 11 512\nalloc 27 512\n\
     free 0 0.0\nfree 0 1.0\nfree 0 2.0\nsend 0 7\nlink 1\ntake 7\n\
     send 7 11\nlink 2\ntake 11\nsend 11 27\nlink 3\ntake 27\n";
 
 /// The lines of the report of `TRACE`: 22 replies, and four closing lines.
-const REPORT: [&[u8]; 26] = [
+pub const REPORT: [&[u8]; 26] = [
     b"ok\n",
     b"ok\n",
     b"ok\n",
@@ -39,7 +40,7 @@ const REPORT: [&[u8]; 26] = [
     b"end chunks 3 lent 0 home 24 cached 0 queued 0\n",
 ];
 
-fn first_lines(alloc: std::alloc::Global, count: usize) -> Result<Vec<u8>, Fail> {
+pub fn first_lines(alloc: std::alloc::Global, count: usize) -> Result<Vec<u8>, Fail> {
     let mut text = Vec::new(alloc);
     for line in REPORT.iter().take(count) {
         text.extend_from_slice(line)?;

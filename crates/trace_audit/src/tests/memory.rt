@@ -1,7 +1,7 @@
 //! Sources and sinks over memory that work in small pieces and fail where they are told to.
 ghost use Rattle.std.specs.Prelude.{◌≡◌, false, Some};
 
-use crate::{End, Failed, ReplayError, Sink, Source, replay};
+use crate::{End, Failed, ReplayError, Sink, Source, replay, replay_audited};
 use std::alloc::Global;
 
 /// Bytes that come in pieces of at most `most`. The read number `fails_at` fails, counted from 1; none where it is 0.
@@ -122,4 +122,15 @@ pub fn replayed(alloc: Global, trace: &[u8]) -> (Result<End, ReplayError>, Vec<u
     let mut writer = Kept::all(alloc);
     let end = replay(alloc, &mut reader, &mut writer);
     (end, writer.bytes)
+}
+
+/// How a replay with an audit ended, and what the audit answered.
+pub type Audited = (End, Option<Result<(), crate::Fault>>);
+
+/// The answer of an audited replay of these bytes, and what was written.
+pub fn audited(alloc: Global, trace: &[u8]) -> (Result<Audited, ReplayError>, Vec<u8>) {
+    let mut reader = Pieces::new(trace, usize::MAX, 0);
+    let mut writer = Kept::all(alloc);
+    let answer = replay_audited(alloc, &mut reader, &mut writer);
+    (answer, writer.bytes)
 }

@@ -5,7 +5,7 @@ use std::process::Abort;
 use std::test::Fail;
 
 /// The lines of the text, which are written one behind the other with ` / ` between them.
-fn lines(alloc: std::alloc::Global, text: &str) -> Result<String, Fail> {
+pub fn lines(alloc: std::alloc::Global, text: &str) -> Result<String, Fail> {
     let mut lines = String::new(alloc);
     for line in text.split(" / ") {
         lines.push_str(line)?;

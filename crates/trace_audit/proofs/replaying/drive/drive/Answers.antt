@@ -1,7 +1,7 @@
 use Rattle.std.proofs.Common.{rules, arith, inl, inr, [], refl, ◌∙◌, append-nil}
 use Rattle.std.proofs.KnownBytes.{Appends-trans}
 use Rattle.trace_audit.proofs.Fronts.{not_empty}
-use Rattle.trace_audit.proofs.Plays.{played_start, played_more, end_ok, end_err, stopped_by, stopped_last}
+use Rattle.trace_audit.proofs.Plays.{played_start, played_more, driven_end, stopped_by, stopped_last}
 use Rattle.trace_audit.specs.declared.replaying.ending.End.TheVariants.{Whole, BadLine}
 use Rattle.trace_audit.proofs.replaying.drive.drive.Goals as goal
 
@@ -17,50 +17,30 @@ loop-number-preserved g c =
       writer_down = c.in-Ok-Answered.ensures.down.1;
     }
 
-pub returns-in-Ok-Over-clause-ended : goal.returns-in-Ok-Over-clause-ended
-returns-in-Ok-Over-clause-ended g c =
+pub returns-in-Ok-Over-clause-driven : goal.returns-in-Ok-Over-clause-driven
+returns-in-Ok-Over-clause-driven g c =
     let t = rw c.in-Ok-Over.field-0-is at c.in-Ok-Over.ensures.turn in
-    end_ok _ _ _ _ _ _ _ _ _ _ _ _ _ _ _ Whole c.finish.result c.loop-number.invariant.lines t.0 t.1 refl t.2.3 t.2.4 (omega arith, t.2.0, t.2.2) c.finish.ensures
+    driven_end _ _ _ _ _ _ _ _ _ _ _ _ _ Whole c.loop-number.invariant.lines t.0 t.1 refl t.2.3 t.2.4 (omega arith, t.2.0, t.2.2)
+
+pub returns-in-Ok-Bad-clause-driven : goal.returns-in-Ok-Bad-clause-driven
+returns-in-Ok-Bad-clause-driven g c =
+    let t = rw c.in-Ok-Bad.field-0-is at c.in-Ok-Bad.ensures.turn in
+    driven_end _ _ _ _ _ _ _ _ _ _ _ _ _ (BadLine c.loop-number.number) c.loop-number.invariant.lines t.0 t.1 refl t.2.2 t.2.3 (omega arith, t.2.0, omega arith, inl t.2.1)
+
+pub returns-in-Ok-true-clause-driven : goal.returns-in-Ok-true-clause-driven
+returns-in-Ok-true-clause-driven g c =
+    let t = c.in-Ok-true.ensures.over (search rules) in
+    driven_end _ _ _ _ _ _ _ _ _ _ _ _ _ Whole c.loop-number.invariant.lines [] t.0 (append-nil _ ∙ t.2) refl refl (omega arith, refl, t.1)
+
+pub returns-in-Ok-false-clause-driven : goal.returns-in-Ok-false-clause-driven
+returns-in-Ok-false-clause-driven g c =
+    let t = c.in-Ok-false.ensures.more (search rules) in
+    driven_end _ _ _ _ _ _ _ _ _ _ _ _ _ (BadLine 1000001) c.loop-number.invariant.lines t.0 t.1 refl refl refl (omega arith, not_empty _ t.2, omega arith, inr (omega arith))
 
 pub returns-in-Err-clause-stopped : goal.returns-in-Err-clause-stopped
 returns-in-Err-clause-stopped g c =
     let t = c.in-Err.ensures.broke in
     stopped_by _ _ _ _ _ _ _ _ _ _ _ _ _ c.in-Err.error c.loop-number.invariant.lines (omega arith) t.0 t.1 t.2
-
-pub returns-in-Ok-Bad-clause-ended : goal.returns-in-Ok-Bad-clause-ended
-returns-in-Ok-Bad-clause-ended g c =
-    let t = rw c.in-Ok-Bad.field-0-is at c.in-Ok-Bad.ensures.turn in
-    end_ok _ _ _ _ _ _ _ _ _ _ _ _ _ _ _ (BadLine c.loop-number.number) c.finish-in-Ok-Bad.result c.loop-number.invariant.lines t.0 t.1 refl t.2.2 t.2.3 (omega arith, t.2.0, omega arith, inl t.2.1) c.finish-in-Ok-Bad.ensures
-
-pub returns-in-Ok-Over-clause-stopped : goal.returns-in-Ok-Over-clause-stopped
-returns-in-Ok-Over-clause-stopped g c =
-    let t = rw c.in-Ok-Over.field-0-is at c.in-Ok-Over.ensures.turn in
-    end_err _ _ _ _ _ _ _ _ _ _ _ _ _ _ _ Whole c.finish.result c.loop-number.invariant.lines t.0 t.1 refl t.2.3 t.2.4 (omega arith, t.2.0, t.2.2) c.finish.ensures
-
-pub returns-in-Ok-Bad-clause-stopped : goal.returns-in-Ok-Bad-clause-stopped
-returns-in-Ok-Bad-clause-stopped g c =
-    let t = rw c.in-Ok-Bad.field-0-is at c.in-Ok-Bad.ensures.turn in
-    end_err _ _ _ _ _ _ _ _ _ _ _ _ _ _ _ (BadLine c.loop-number.number) c.finish-in-Ok-Bad.result c.loop-number.invariant.lines t.0 t.1 refl t.2.2 t.2.3 (omega arith, t.2.0, omega arith, inl t.2.1) c.finish-in-Ok-Bad.ensures
-
-pub returns-in-Ok-true-clause-ended : goal.returns-in-Ok-true-clause-ended
-returns-in-Ok-true-clause-ended g c =
-    let t = c.in-Ok-true.ensures.over (search rules) in
-    end_ok _ _ _ _ _ _ _ _ _ _ _ _ _ _ _ Whole c.finish-in-Ok-true.result c.loop-number.invariant.lines [] t.0 (append-nil _ ∙ t.2) refl refl (omega arith, refl, t.1) c.finish-in-Ok-true.ensures
-
-pub returns-in-Ok-true-clause-stopped : goal.returns-in-Ok-true-clause-stopped
-returns-in-Ok-true-clause-stopped g c =
-    let t = c.in-Ok-true.ensures.over (search rules) in
-    end_err _ _ _ _ _ _ _ _ _ _ _ _ _ _ _ Whole c.finish-in-Ok-true.result c.loop-number.invariant.lines [] t.0 (append-nil _ ∙ t.2) refl refl (omega arith, refl, t.1) c.finish-in-Ok-true.ensures
-
-pub returns-in-Ok-false-clause-ended : goal.returns-in-Ok-false-clause-ended
-returns-in-Ok-false-clause-ended g c =
-    let t = c.in-Ok-false.ensures.more (search rules) in
-    end_ok _ _ _ _ _ _ _ _ _ _ _ _ _ _ _ (BadLine 1000001) c.finish-in-Ok-false.result c.loop-number.invariant.lines t.0 t.1 refl refl refl (omega arith, not_empty _ t.2, omega arith, inr (omega arith)) c.finish-in-Ok-false.ensures
-
-pub returns-in-Ok-false-clause-stopped : goal.returns-in-Ok-false-clause-stopped
-returns-in-Ok-false-clause-stopped g c =
-    let t = c.in-Ok-false.ensures.more (search rules) in
-    end_err _ _ _ _ _ _ _ _ _ _ _ _ _ _ _ (BadLine 1000001) c.finish-in-Ok-false.result c.loop-number.invariant.lines t.0 t.1 refl refl refl (omega arith, not_empty _ t.2, omega arith, inr (omega arith)) c.finish-in-Ok-false.ensures
 
 pub returns-in-Err-is_over-clause-stopped : goal.returns-in-Err-is_over-clause-stopped
 returns-in-Err-is_over-clause-stopped g c =

@@ -1,25 +1,16 @@
-use Rattle.std.proofs.Common.{sym, ◌∙◌, refl}
-use Rattle.trace_audit.specs.Machine.{told}
-use Rattle.trace_audit.proofs.Plays.{bad_ok, bad_close, bad_put}
+use Rattle.std.proofs.Common.{refl}
+use Rattle.std.proofs.KnownBytes.{Appends-trans}
+use Rattle.trace_audit.proofs.Finishes.{not_closed}
+use Rattle.trace_audit.proofs.Plays.{begins_more}
 use Rattle.trace_audit.proofs.replaying.ending.finish.Goals as goal
 
-pub returns-in-Ok-close : goal.returns-in-Ok-close
-returns-in-Ok-close g c = (
-  sym c.in-BadLine.is,
-  c.in-Ok-close.ensures.1,
-  bad_ok _ _ _ (told c.args.floor.now) c.args.end c.in-BadLine.number _ c.in-BadLine.is (c.as_slice.ensures.value ∙ c.line_of_bad-line.ensures) c.in-Ok-write_all.ensures.0 c.in-Ok-close.ensures.0,
-)
+pub returns-in-Ok-tell_audit : goal.returns-in-Ok-tell_audit
+returns-in-Ok-tell_audit g c = (refl, c.in-Ok-tell_audit.ensures.2, c.in-Ok-tell_audit.ensures.0, Appends-trans _ _ _ _ _ c.in-Ok.ensures.0 c.in-Ok-tell_audit.ensures.1)
 
-pub returns-in-Err-close : goal.returns-in-Err-close
-returns-in-Err-close g c = (
-  refl,
-  c.in-Err-close.ensures.1,
-  bad_close _ _ _ (told c.args.floor.now) c.args.end c.in-BadLine.number _ c.in-BadLine.is (c.as_slice.ensures.value ∙ c.line_of_bad-line.ensures) c.in-Ok-write_all.ensures.0 c.in-Err-close.ensures.0,
-)
+pub returns-in-Err-tell_audit : goal.returns-in-Err-tell_audit
+returns-in-Err-tell_audit g c =
+    let t = c.in-Err-tell_audit.ensures in
+    (refl, t.1, t.0.0, t.0.1, begins_more _ _ _ _ _ c.in-Ok.ensures.0 t.0.2)
 
-pub returns-in-Err-write_all : goal.returns-in-Err-write_all
-returns-in-Err-write_all g c = (
-  refl,
-  c.in-Err-write_all.ensures.1,
-  bad_put _ _ (told c.args.floor.now) c.args.end c.in-BadLine.number _ c.in-BadLine.is (c.as_slice.ensures.value ∙ c.line_of_bad-line.ensures) c.in-Err-write_all.ensures.0,
-)
+pub returns-in-Err : goal.returns-in-Err
+returns-in-Err g c = not_closed c.args.audits _ c.args.floor.now c.args.end _ _ c.in-Err.ensures.0 c.in-Err.ensures.1
