@@ -14,8 +14,6 @@ pub mod laws;
 mod lines;
 mod replaying;
 mod report;
-#[cfg(test)]
-mod tests;
 mod wire;
 
 pub use auditing::{Drawn, Fault, audit};

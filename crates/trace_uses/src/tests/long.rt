@@ -1,7 +1,7 @@
 //! As many lines as a trace may have.
-use super::memory::{Kept, Pieces};
-use crate::{End, replay};
+use crate::memory::{Kept, Pieces};
 use std::test::Fail;
+use trace_audit::{End, replay};
 
 #[test]
 fn a_million_lines(rt: HostRuntime) -> Result<(), Fail> {

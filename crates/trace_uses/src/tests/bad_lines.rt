@@ -1,7 +1,7 @@
 //! Lines that are near to good ones.
-use super::memory::replayed;
-use crate::End;
+use crate::memory::replayed;
 use std::test::Fail;
+use trace_audit::End;
 
 const FRONT: &[u8] = b"pool 1 1 2\nadopt 0 0\n";
 

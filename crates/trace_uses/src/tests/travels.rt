@@ -1,8 +1,8 @@
 //! Buffers that travel: batches are sent, linked and taken, desks are retired and adopted again.
-use super::memory::replayed;
-use crate::End;
+use crate::memory::replayed;
 use std::process::Abort;
 use std::test::Fail;
+use trace_audit::End;
 
 /// The lines of the text, which are written one behind the other with ` / ` between them.
 pub fn lines(alloc: std::alloc::Global, text: &str) -> Result<String, Fail> {

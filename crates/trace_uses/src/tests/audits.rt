@@ -1,9 +1,9 @@
 //! What an audit answers, and the line that tells it.
-use super::memory::Kept;
-use crate::{Drawn, Fault, audit, write_audit};
+use crate::memory::Kept;
 use region_cut::{Class, Slot};
 use std::process::Abort;
 use std::test::Fail;
+use trace_audit::{Drawn, Fault, audit, write_audit};
 
 /// Chunk 0 is drawn for the class of 512 bytes, 8 slots, and no other.
 fn one_chunk(rt: &impl Abort) -> Drawn {

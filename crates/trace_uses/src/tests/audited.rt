@@ -1,11 +1,11 @@
 //! Replays with an audit at the end.
 use super::failing::{REPORT, TRACE, first_lines};
-use super::memory::{Audited, Fault as Failure, Kept, Pieces, audited};
 use super::travels::lines;
-use crate::{End, Fault, ReplayError, replay_audited};
+use crate::memory::{Audited, Kept, Pieces, WriteFault, audited};
 use std::alloc::Global;
 use std::process::Abort;
 use std::test::Fail;
+use trace_audit::{End, Fault, ReplayError, replay_audited};
 
 const YES: &[u8] = b"audit yes\n";
 
@@ -127,9 +127,9 @@ fn a_write_fails_up_to_the_audit(rt: HostRuntime) -> Result<(), Fail> {
     let whole = report_with(rt.alloc(), YES)?;
     for turn in 1..whole.len() + 1 {
         let failure = if turn % 2 == 0 {
-            Failure::Error
+            WriteFault::Error
         } else {
-            Failure::TakesNothing
+            WriteFault::TakesNothing
         };
         let mut reader = Pieces::new(TRACE, 64, 0);
         let mut writer = Kept::new(rt.alloc(), 1, turn as u64, failure);

@@ -1,8 +1,8 @@
 //! Readers and writers that fail, and traces that are cut off.
-use super::memory::{Fault, Kept, Pieces, replayed};
-use crate::{End, ReplayError, replay};
+use crate::memory::{Kept, Pieces, WriteFault, replayed};
 use std::process::Abort;
 use std::test::Fail;
+use trace_audit::{End, ReplayError, replay};
 
 /// The travel of three buffers.
 pub const TRACE: &[u8] = b"pool 64 8 2\nadopt 0 0\nadopt 7 1\nadopt 11 2\nadopt 27 3\nclaim 7 15\n\
@@ -53,7 +53,7 @@ fn pieces_of_each_size(rt: HostRuntime) -> Result<(), Fail> {
     let whole = first_lines(rt.alloc(), REPORT.len())?;
     for size in 1..65usize {
         let mut reader = Pieces::new(TRACE, size, 0);
-        let mut writer = Kept::new(rt.alloc(), size, 0, Fault::Error);
+        let mut writer = Kept::new(rt.alloc(), size, 0, WriteFault::Error);
         assert!(rt; replay(rt.alloc(), &mut reader, &mut writer) == Ok(End::Whole));
         assert!(rt; writer.bytes.as_slice() == whole.as_slice());
     }
@@ -197,7 +197,7 @@ fn nothing_is_read_behind_a_bad_line(rt: HostRuntime) -> Result<(), Fail> {
 
 /// A byte a write: where write `turn` fails, `turn - 1` bytes were taken, and no further write is
 /// made.
-fn fails_at_each_write(rt: &(impl Abort + AllocGlobal), fault: Fault) -> Result<(), Fail> {
+fn fails_at_each_write(rt: &(impl Abort + AllocGlobal), fault: WriteFault) -> Result<(), Fail> {
     let whole = first_lines(rt.alloc(), REPORT.len())?;
     for turn in 1..whole.len() + 1 {
         let mut reader = Pieces::new(TRACE, 64, 0);
@@ -217,12 +217,12 @@ fn fails_at_each_write(rt: &(impl Abort + AllocGlobal), fault: Fault) -> Result<
 
 #[test]
 fn a_write_fails(rt: HostRuntime) -> Result<(), Fail> {
-    fails_at_each_write(&rt, Fault::Error)
+    fails_at_each_write(&rt, WriteFault::Error)
 }
 
 #[test]
 fn a_write_takes_nothing(rt: HostRuntime) -> Result<(), Fail> {
-    fails_at_each_write(&rt, Fault::TakesNothing)
+    fails_at_each_write(&rt, WriteFault::TakesNothing)
 }
 
 /// Also where the one line of a bad header can't be written.
@@ -230,7 +230,7 @@ fn a_write_takes_nothing(rt: HostRuntime) -> Result<(), Fail> {
 fn a_write_fails_behind_a_bad_header(rt: HostRuntime) {
     for turn in 1..15u64 {
         let mut reader = Pieces::new(b"pool 0 0 0\n", 64, 0);
-        let mut writer = Kept::new(rt.alloc(), 1, turn, Fault::Error);
+        let mut writer = Kept::new(rt.alloc(), 1, turn, WriteFault::Error);
         assert!(rt; replay(rt.alloc(), &mut reader, &mut writer) == Err(ReplayError::Write));
         assert!(rt; writer.writes == turn);
     }

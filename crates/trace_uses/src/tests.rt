@@ -5,6 +5,5 @@ mod audits;
 mod bad_lines;
 mod failing;
 mod long;
-mod memory;
 mod rows;
 mod travels;

@@ -1,8 +1,8 @@
 //! Whole traces and short ones.
-use super::memory::replayed;
-use crate::End;
+use crate::memory::replayed;
 use std::process::Abort;
 use std::test::Fail;
+use trace_audit::End;
 
 /// The replay of the trace has this end, and its report is this text.
 fn gives(rt: &(impl Abort + AllocGlobal), trace: &str, want: End, report: &str) {

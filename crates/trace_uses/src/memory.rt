@@ -1,8 +1,9 @@
 //! Sources and sinks over memory that work in small pieces and fail where they are told to.
-ghost use Rattle.std.specs.Prelude.{◌≡◌, false, Some};
+ghost use Rattle.std.specs.Prelude.{◌≡◌, [], false, Some, IfOk};
+ghost use Rattle.trace_audit.specs.Replay.{IsAudited, ReportsTrace, with_audit};
 
-use crate::{End, Failed, ReplayError, Sink, Source, replay, replay_audited};
 use std::alloc::Global;
+use trace_audit::{End, Failed, Fault, ReplayError, Sink, Source, replay, replay_audited};
 
 /// Bytes that come in pieces of at most `most`. The read number `fails_at` fails, counted from 1; none where it is 0.
 #[derive(Drop)]
@@ -16,7 +17,8 @@ pub struct Pieces<'a> {
 
 impl<'a> Pieces<'a> {
     pub fn new(bytes: &'a [u8], most: usize, fails_at: u64) -> Pieces<'a>
-        ensures { ⟦<Pieces<'a> as Source>⟧.has_failed result ≡ false }
+        ensures bytes { result.bytes ≡ bytes }
+        ensures down { ⟦<Pieces<'a> as Source>⟧.has_failed result ≡ false }
     {
         Pieces {
             bytes,
@@ -49,7 +51,7 @@ impl<'a> Source for Pieces<'a> {
 
 /// How a write fails.
 #[derive(Clone, Copy, Debug, PartialEq, Eq)]
-pub enum Fault {
+pub enum WriteFault {
     Error,
     TakesNothing,
 }
@@ -61,14 +63,15 @@ pub struct Kept {
     pub bytes: Vec<u8>,
     most: usize,
     fails_at: u64,
-    fault: Fault,
+    fault: WriteFault,
     pub writes: u64,
     failed: bool,
 }
 
 impl Kept {
-    pub fn new(alloc: Global, most: usize, fails_at: u64, fault: Fault) -> Kept
-        ensures { ⟦<Kept as Sink>⟧.has_failed result ≡ false }
+    pub fn new(alloc: Global, most: usize, fails_at: u64, fault: WriteFault) -> Kept
+        ensures nothing { result.bytes.items ≡ [] }
+        ensures down { ⟦<Kept as Sink>⟧.has_failed result ≡ false }
     {
         Kept {
             bytes: Vec::new(alloc),
@@ -82,9 +85,10 @@ impl Kept {
 
     /// One that takes all.
     pub fn all(alloc: Global) -> Kept
-        ensures { ⟦<Kept as Sink>⟧.has_failed result ≡ false }
+        ensures nothing { result.bytes.items ≡ [] }
+        ensures down { ⟦<Kept as Sink>⟧.has_failed result ≡ false }
     {
-        Kept::new(alloc, usize::MAX, 0, Fault::Error)
+        Kept::new(alloc, usize::MAX, 0, WriteFault::Error)
     }
 }
 
@@ -96,7 +100,7 @@ impl Sink for Kept {
     fn write(&mut self, piece: &[u8]) -> Result<usize, Failed> {
         self.writes = self.writes.saturating_add(1);
         if self.writes == self.fails_at {
-            if self.fault == Fault::Error {
+            if self.fault == WriteFault::Error {
                 self.failed = true;
                 return Err(Failed);
             }
@@ -117,7 +121,9 @@ impl Sink for Kept {
 }
 
 /// The answer of a replay of these bytes, and what was written.
-pub fn replayed(alloc: Global, trace: &[u8]) -> (Result<End, ReplayError>, Vec<u8>) {
+pub fn replayed(alloc: Global, trace: &[u8]) -> (Result<End, ReplayError>, Vec<u8>)
+    ensures { IfOk result.0 (λ end. ReportsTrace trace.now (λ report. result.1.items ≡ report) end) }
+{
     let mut reader = Pieces::new(trace, usize::MAX, 0);
     let mut writer = Kept::all(alloc);
     let end = replay(alloc, &mut reader, &mut writer);
@@ -125,10 +131,13 @@ pub fn replayed(alloc: Global, trace: &[u8]) -> (Result<End, ReplayError>, Vec<u
 }
 
 /// How a replay with an audit ended, and what the audit answered.
-pub type Audited = (End, Option<Result<(), crate::Fault>>);
+pub type Audited = (End, Option<Result<(), Fault>>);
 
 /// The answer of an audited replay of these bytes, and what was written.
-pub fn audited(alloc: Global, trace: &[u8]) -> (Result<Audited, ReplayError>, Vec<u8>) {
+pub fn audited(alloc: Global, trace: &[u8]) -> (Result<Audited, ReplayError>, Vec<u8>)
+    ensures report { IfOk result.0 (λ r. ReportsTrace trace.now (with_audit r.1 (λ report. result.1.items ≡ report)) r.0) }
+    ensures audit { IfOk result.0 (λ r. IsAudited r.0 r.1) }
+{
     let mut reader = Pieces::new(trace, usize::MAX, 0);
     let mut writer = Kept::all(alloc);
     let answer = replay_audited(alloc, &mut reader, &mut writer);
