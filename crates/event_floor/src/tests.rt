@@ -8,6 +8,7 @@ use region_cut::{Slot, cut};
 use std::alloc::Global;
 use std::process::Abort;
 
+mod ending;
 mod inboxes;
 mod lending;
 mod listing;
