@@ -5,6 +5,7 @@ ghost use Rattle.event_floor.specs.Chunks.{ended_parts};
 ghost use Rattle.event_floor.specs.headline.Known.{buffers_with, buffers_of, undrawn_parts};
 ghost use Rattle.event_floor.specs.headline.Names.{chunks_of};
 
+use crate::inboxes::end_inboxes;
 use crate::lists::Lists;
 use crate::seat::Seat;
 use region_cut::Endings;
@@ -48,7 +49,7 @@ impl<'r> Lists<'r> {
         } = self;
         let mut endings = Endings::new();
         chunks.end(&mut endings);
-        inboxes.end(&mut endings);
+        end_inboxes(inboxes, &mut endings);
         lent.end(&mut endings);
         end_seats(desks, &mut endings);
         endings

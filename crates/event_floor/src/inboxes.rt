@@ -121,20 +121,13 @@ impl<'r> Inboxes<'r> {
     {
         self.inboxes[b].slots(alloc)
     }
-
-    /// Lets go all buffers that wait in some inbox.
-    pub(crate) fn end(self, endings: &mut Endings<'r>)
-        ensures { endings.new ≡ record endings.old { known = map ended_of (flat_map buffers_in self.entry) ++ endings.old.known } }
-    {
-        let Inboxes { inboxes, halves: _ } = self;
-        end_inboxes(inboxes, endings);
-    }
 }
 
-// Lets go the buffers of these inboxes.
-fn end_inboxes<'r>(inboxes: Vec<Inbox<'r>>, endings: &mut Endings<'r>)
-    ensures { endings.new ≡ record endings.old { known = map ended_of (flat_map buffers_in inboxes.entry.items) ++ endings.old.known } }
+/// Lets go all buffers that wait in some inbox.
+pub(crate) fn end_inboxes<'r>(inboxes: Inboxes<'r>, endings: &mut Endings<'r>)
+    ensures { endings.new ≡ record endings.old { known = map ended_of (flat_map buffers_in inboxes.entry) ++ endings.old.known } }
 {
+    let Inboxes { inboxes, halves: _ } = inboxes;
     let mut inboxes = inboxes;
     while let Some(inbox) = inboxes.pop() {
         inbox.end(endings);

@@ -9,6 +9,7 @@ use region_cut::Slot;
 use std::alloc::Global;
 use std::process::Abort;
 
+mod ending;
 mod inboxes;
 mod lending;
 mod listing;
