@@ -1,11 +1,11 @@
 -- What was noted of a slice when it was let go is what it ends as: for the last step of a caller, from its `Endings` to its region.
-use Rattle.std.proofs.Common.{◌≡◌, ℕ, ◌<◌, List, [], ◌∷◌, length, map, get_or, sym, ap, ◌∙◌, subst, refl}
+use Rattle.std.proofs.Common.{◌≡◌, ℕ, ◌<◌, List, [], ◌∷◌, sym, ap, ◌∙◌, subst, refl}
 use Rattle.std.specs.List.{Contains}
 use Rattle.std.proofs.lemmas.List.{length-map, get_or-map}
 use seplogic.Ra.Ura.{Ura}
 use base.Logic.{ent}
 use types.Logic.{Logic, sem}
-use types.Kit.{‵, ◌⊛◌, ◌$◌, ◌∵◌, !, qed, move, drop, use1, split, rewrite, done}
+use types.Kit.{‵, ◌⊛◌, ◌$◌, ◌∵◌, !, qed, drop, use1, split, rewrite, done}
 use Rattle.region_cut.specs.Joins.{ends}
 use Rattle.region_cut.specs.Ended.{Ended, name_at, IsKnown, Agrees, end_in, all_end_so}
 use Rattle.region_cut.proofs.Resolved.{knows}
