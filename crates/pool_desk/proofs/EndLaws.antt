@@ -7,7 +7,7 @@ use Rattle.std.proofs.lemmas.List.Sorted.{IsPermutation-refl, IsPermutation-tran
 use Rattle.std.specs.Borrow.{GName}
 use Rattle.region_cut.specs.declared.part.Bump.{Bump}
 use Rattle.region_cut.specs.Bumps.{left_of, part_of}
-use Rattle.region_cut.specs.Carved.{Carved, carved_of}
+use Rattle.region_cut.specs.Carved.{Carved}
 use Rattle.region_cut.specs.Classes.{size_of}
 use Rattle.region_cut.specs.Ended.{Ended, EndingsState}
 use Rattle.slot_chain.specs.Buffer.{Buffer, ended_of}

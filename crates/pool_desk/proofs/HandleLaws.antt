@@ -11,7 +11,7 @@ use Rattle.digit_route.specs.Route.{IsWellRouted}
 use Rattle.pool_desk.specs.declared.counts.Counts.{Counts}
 use Rattle.pool_desk.specs.Homes.AtHome.{Kept}
 use Rattle.pool_desk.specs.Desks.{DeskState}
-use Rattle.pool_desk.specs.Steps.{Handles, Counted, own, passed_on}
+use Rattle.pool_desk.specs.Steps.{Handles, Counted, passed_on}
 use Rattle.pool_desk.specs.Handling.{IsPassed, GoesHome, GoesOn}
 
 -- what of a batch is handled, and what is left of it

@@ -1,6 +1,6 @@
 -- What chunks end as once it is known what their slots end as; and no slice ends in two ways.
-use Rattle.std.proofs.Common.{◌≡◌, ℕ, ◌==◌, Bool, true, false, T, cond, subst, List, [], ◌∷◌, ◌++◌, length, map, slice_index_or, refl, sym, ap, ◌∙◌, arith}
-use Rattle.std.specs.List.{All, Contains, flat_map}
+use Rattle.std.proofs.Common.{◌≡◌, ℕ, ◌==◌, Bool, true, false, T, cond, subst, List, [], ◌∷◌, ◌++◌, map, slice_index_or, refl, sym, ap, ◌∙◌, arith}
+use Rattle.std.specs.List.{All, flat_map}
 use Rattle.std.proofs.lemmas.List.{append_assoc}
 use Rattle.std.proofs.lemmas.List.Elements.{All-cons, All-head, All-tail, All-nil}
 use Rattle.std.proofs.lemmas.Map.Made.{Contains-tail}
@@ -14,7 +14,7 @@ use types.Kit.{‵, raw, ◌⊛◌, given, ◌$◌, ◌∵◌, !, qed, move, dro
 use types.Tokens.{res_dup}
 use denote.Array.{Array}
 use denote.Builtin.{u8}
-use Rattle.region_cut.specs.Joins.{ends, ends_as, ends_after}
+use Rattle.region_cut.specs.Joins.{ends, ends_after}
 use Rattle.region_cut.specs.Carved.{Carved, all_joined}
 use Rattle.region_cut.specs.Ended.{Ended, name_at, IsKnown, HasKnownSlots, Agrees, end_in, ended_chunk, all_end_so}
 

@@ -1,8 +1,7 @@
 -- What is known of a slice stays.
-use Rattle.std.proofs.Common.{◌≡◌, ℕ, ◌+◌, ◌<◌, List, [], ◌++◌, length, map, get_or, sym, ap, ◌∙◌, subst, arith}
+use Rattle.std.proofs.Common.{◌≡◌, ℕ, ◌+◌, ◌<◌, [], ◌++◌, length, map, get_or, sym, ap, ◌∙◌, subst, arith}
 use Rattle.std.proofs.lemmas.List.{length-map, length-append, get_or-map, get_or-append-add}
-use Rattle.std.specs.Borrow.{GName}
-use Rattle.region_cut.specs.Ended.{Ended, name_at, Agrees, IsKnown, KnownEndsStay, end_in}
+use Rattle.region_cut.specs.Ended.{Ended, name_at, KnownEndsStay, end_in}
 
 pub ends_stay : KnownEndsStay
 ends_stay new old one all x known =

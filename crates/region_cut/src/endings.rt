@@ -1,11 +1,9 @@
 //! Slices are let go, and it is kept what they end as.
-ghost use Rattle.std.specs.Prelude.{◌≡◌, ◌∷◌, ◌++◌, []};
-ghost use Rattle.std.specs.List.{All, flat_map};
-ghost use Rattle.region_cut.specs.Bumps.{chunk_of, class_of};
+ghost use Rattle.std.specs.Prelude.{◌≡◌, ◌∷◌, ◌++◌, [], map};
+ghost use Rattle.std.specs.List.{All};
 ghost use Rattle.region_cut.specs.Carved.{carved_of};
 ghost use Rattle.region_cut.specs.Ended.{IsKnown, HasKnownSlots, ended_chunk, ended_front, Agrees};
 ghost use Rattle.region_cut.specs.Fronts.{settled_of, lent_of};
-ghost use Rattle.std.specs.Prelude.{map};
 
 use crate::known::{Known, nothing, resolve};
 use crate::part::Bump;

@@ -1,6 +1,6 @@
 use Rattle.std.proofs.Common.{◌++◌, map, ap, ◌∙◌}
 use Rattle.region_cut.specs.Ended.{EndingsState}
-use Rattle.slot_chain.specs.Buffer.{Buffer, ended_of}
+use Rattle.slot_chain.specs.Buffer.{ended_of}
 use Rattle.pool_desk.proofs.EndLaws.{batch_ends, fewer_left}
 use Rattle.pool_desk.proofs.desk.end_cache.Goals as goal
 

@@ -3,7 +3,7 @@ use Rattle.region_cut.proofs.Steps.{[], ◌∷◌, ◌≡◌, ◌++◌, List, re
 use types.Kit.{given, learn}
 use Rattle.std.specs.Prelude.{map}
 use Rattle.std.specs.List.{All}
-use Rattle.region_cut.specs.Carved.{Carved, all_joined}
+use Rattle.region_cut.specs.Carved.{all_joined}
 use Rattle.region_cut.specs.Ended.{Ended, Agrees, HasKnownSlots, ended_chunk, all_end_so}
 use Rattle.region_cut.proofs.Resolved.{chunks_end, agrees}
 use Rattle.region_cut.specs.declared.known.Known.{Known}

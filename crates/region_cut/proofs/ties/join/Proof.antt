@@ -1,6 +1,6 @@
 -- The facts move over, and none are left.
 use Rattle.region_cut.proofs.Steps.{[], ◌∷◌, ◌≡◌, ◌++◌, List, refl, proved, emp, fact, fact_i, flft, ftrue, named, vunit, raw, ‵, ◌⊛◌, ◌$◌, ◌∵◌, !, qed, done, move, keep, use0, use2, split, split3, join, fsplit, fsplit3, feq_i, fjoin, fjoin3, suffices, enter, of_opd, unit_lit, returns, alloc_all, pass_all, free_all, look_at, sets, nothing, Val, MutRef, mut_vals, mut_Tells, plain, Stays, stay_ref, Goes-ref, walk_of, ends_at, opens, closes}
-use Rattle.region_cut.specs.Carved.{Carved, all_joined}
+use Rattle.region_cut.specs.Carved.{all_joined}
 use Rattle.region_cut.proofs.Resolved.{joined_both}
 use Rattle.region_cut.specs.declared.ties.Ties.{Ties}
 use Rattle.region_cut.specs.contracts.ties.Ties as TS

@@ -1,5 +1,4 @@
 use Rattle.std.proofs.Common.{◌++◌, sym, ap, ◌∙◌}
-use Rattle.region_cut.specs.Ended.{EndingsState}
 use Rattle.pool_desk.specs.Homes.{HomeState, open_chunk}
 use Rattle.pool_desk.proofs.EndLaws.{home_ends, let_go}
 use Rattle.pool_desk.proofs.home.Home.end.Goals as goal

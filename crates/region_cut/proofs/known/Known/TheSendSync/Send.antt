@@ -1,5 +1,5 @@
 -- `Known` holds nothing of its thread.
-use Rattle.std.proofs.Common.{ℕ, List, [], ◌∷◌}
+use Rattle.std.proofs.Common.{List, [], ◌∷◌}
 use base.Shift.{Keyless}
 use denote.Exit.{Exit, unchanged, leaves, hidden, under}
 use denote.Param.Send.{IsSend, Quiet, owning_send, struct_send}

@@ -2,7 +2,7 @@
 use Rattle.std.proofs.Common.{ℕ, List, [], ◌∷◌, ◌++◌}
 use base.Fml.{GName}
 use base.Shift.{Keyless}
-use denote.Exit.{Exit, Kept, unchanged, leaves, hidden, under}
+use denote.Exit.{Exit, unchanged, leaves, hidden, under}
 use denote.Param.Send.{IsSend, Quiet, owning_send, struct_send}
 use denote.Struct.Owning.{shape, fields, to}
 use denote.Struct.Struct.{exits_of}

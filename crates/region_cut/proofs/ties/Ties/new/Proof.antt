@@ -1,5 +1,5 @@
 -- Nothing is known, and nothing is needed for it.
-use Rattle.region_cut.proofs.Steps.{[], ◌∷◌, ◌≡◌, List, refl, proved, emp, fact, fact_i, ftrue, Val, vstruct, vnil, raw, ‵, ◌⊛◌, ◌$◌, ◌∵◌, !, qed, done, move, keep, drop, use0, split, join, feq_i, fjoin, fpack, suffices, enter, no_more, agg, returns, alloc_all, pass_all, free_all, look_at, sets, nothing, within, shape, Valss, Stays, ends_at}
+use Rattle.region_cut.proofs.Steps.{[], ◌∷◌, ◌≡◌, List, refl, proved, emp, fact, fact_i, ftrue, Val, vstruct, vnil, raw, ‵, ◌⊛◌, ◌$◌, ◌∵◌, !, qed, done, move, keep, use0, join, feq_i, fjoin, fpack, suffices, enter, no_more, agg, returns, alloc_all, pass_all, free_all, look_at, sets, nothing, within, shape, Valss, Stays, ends_at}
 use Rattle.region_cut.specs.Carved.{all_joined}
 use Rattle.region_cut.specs.declared.ties.Ties.{Ties}
 use Rattle.region_cut.specs.contracts.ties.Ties as T
