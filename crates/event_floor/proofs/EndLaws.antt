@@ -32,3 +32,10 @@ module _ {X : Type 0} (f : X → List Buffer) where
   last_ends_somehow all rest x first old new p e q =
       IsPermutation-trans _ _ _ (subst (IsPermutation first) (ap (λ xs. map ended_of (flat_map f xs) ++ old) e ∙ apart rest x old) p)
       (IsPermutation-append_right (map ended_of (flat_map f rest)) _ _ q)
+
+-- three lists of buffers and what was known before, one after the other
+pub three_joined : (xs bs cs : List Buffer) (es : List Ended) → map ended_of xs ++ (map ended_of bs ++ (map ended_of cs ++ es)) ≡ map ended_of (xs ++ (bs ++ cs)) ++ es
+three_joined xs bs cs es =
+    let A : List Ended = map ended_of xs in let B : List Ended = map ended_of bs in let C : List Ended = map ended_of cs in
+    sym (ap (λ l. l ++ es) (map-append ended_of xs (bs ++ cs) ∙ ap (λ l. A ++ l) (map-append ended_of bs cs))
+    ∙ (append_assoc A (B ++ C) es ∙ ap (λ l. A ++ l) (append_assoc B C es)))

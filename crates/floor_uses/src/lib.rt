@@ -4,9 +4,11 @@
 #![tactic(auto)]
 
 mod asking;
+mod ending;
 mod opening;
 #[cfg(test)]
 mod tests;
 
 pub use asking::ask;
+pub use ending::lives;
 pub use opening::open;

@@ -3,7 +3,7 @@ use Rattle.region_cut.specs.Cuts.{names_in}
 use Rattle.region_cut.specs.Ended.{IsKnown}
 use Rattle.region_cut.specs.Fronts.{lent_of}
 use Rattle.event_floor.specs.Floors.{FloorSeen}
-use Rattle.event_floor.proofs.tests.ending.lives.Goals as goal
+use Rattle.floor_uses.proofs.ending.lives.Goals as goal
 
 pub close-requires-clause-known : goal.close-requires-clause-known
 close-requires-clause-known c =

@@ -1,0 +1,25 @@
+use Rattle.std.proofs.Common.{◌≡◌, ◌++◌, List, [], length, drop, map, flat_map, IsPermutation, sym, ap, ◌∙◌, subst, refl}
+use Rattle.std.proofs.lemmas.List.{append-nil}
+use Rattle.region_cut.specs.Ended.{Ended, EndingsState}
+use Rattle.slot_chain.specs.Buffer.{Buffer, ended_of}
+use Rattle.event_floor.specs.Chunks.{ended_parts}
+use Rattle.event_floor.specs.Floors.{FloorSeen}
+use Rattle.event_floor.specs.Posted.{buffers_in}
+use Rattle.event_floor.specs.Lent.{buffers_lent}
+use Rattle.event_floor.specs.headline.Known.{buffers_with, buffers_of, undrawn_parts}
+use Rattle.event_floor.proofs.EndLaws.{three_joined}
+use Rattle.event_floor.proofs.lists.Lists.end.Goals as goal
+
+-- what is known is put together: of the parts, of the batches, of the lent buffers and of the desks'
+pub returns-clause-known : goal.returns-clause-known
+returns-clause-known c =
+    let l = c.self.inside in
+    let known : EndingsState → List Ended = λ s. s.known in
+    let parts : List Ended = ended_parts (drop (length l.chunks.drawn) l.chunks.parts) l.chunks.undrawn in
+    let seats : List Buffer = flat_map buffers_with l.desks.items in
+    let same : c.end-2.new.endings.known ≡ map ended_of (buffers_lent l.lent) ++ (map ended_of (flat_map buffers_in l.inboxes) ++ parts) =
+    ap known c.end-2.ensures ∙ ap (λ es. map ended_of (buffers_lent l.lent) ++ es) (ap known c.end_inboxes.ensures
+    ∙ ap (λ es. map ended_of (flat_map buffers_in l.inboxes) ++ es) (ap known c.end.ensures ∙ ap (λ es. parts ++ es) (ap known c.new-endings.ensures) ∙ append-nil parts)) in
+    subst (λ (v : FloorSeen). IsPermutation (map ended_of (buffers_of v) ++ ended_parts (undrawn_parts v) v.undrawn) c.end_seats.new.endings.known) c.self.view_is
+    (subst (λ es. IsPermutation es c.end_seats.new.endings.known)
+    (ap (λ es. map ended_of seats ++ es) same ∙ three_joined seats (buffers_lent l.lent) (flat_map buffers_in l.inboxes) parts) c.end_seats.ensures.known)
