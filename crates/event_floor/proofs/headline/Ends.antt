@@ -92,7 +92,8 @@ module _ (v : FloorSeen) (names : List Carved) (n : AreNames names v) (st : Stat
       let here : All P (chunks_of (desk_at v a)) = All-parts P chunks_of v.desks all a _ low in
       let once : count_by (λ (d : Carved). d.chunk == k) (chunks_of (desk_at v a)) ≡ 1 =
       desk.once k ∙ ap one_if (ap (is_drawn_for a) o.1 ∙ same_eqb a a refl) in
-      let f = found (λ (d : Carved). (slice_get names d.chunk ≡ Some d) × P d) (λ (d : Carved). d.chunk == k) (chunks_of (desk_at v a)) (λ i d l. (desk.same i d l, here i d l)) (omega (arith, once)) in
+      let f = found (λ (d : Carved). (slice_get names d.chunk ≡ Some d) × P d) (λ (d : Carved). d.chunk == k) (chunks_of (desk_at v a)) (λ i d l. (desk.same i d l, here i d l))
+      (omega (arith, once)) in
       subst P (some_is f.0 c (sym f.2.0 ∙ (ap (slice_get names) (eqb_is f.0.chunk k f.1) ∙ e))) f.2.1
 
   -- ---- all buffers were let go
@@ -153,7 +154,8 @@ module _ (v : FloorSeen) (names : List Carved) (n : AreNames names v) (st : Stat
       chunk_whole : (k : ℕ) (c : Carved) → slice_get names k ≡ Some c → length (end_in second c.whole) ≡ CHUNK
       chunk_whole k c e =
           let z = size_of c.class in
-          let all : length (end_in second c.whole) ≡ length (flat_map (end_in first) c.taken) + length c.rest = ap length (chunk_ends k c e).1 ∙ length-append (flat_map (end_in first) c.taken) c.rest in
+          let all : length (end_in second c.whole) ≡ length (flat_map (end_in first) c.taken) + length c.rest = ap length (chunk_ends k c e).1 ∙ length-append
+          (flat_map (end_in first) c.taken) c.rest in
           let slots : length (flat_map (end_in first) c.taken) ≡ length c.taken * z =
           length_flat (end_in first) z c.taken (All-to (IsSlot c) (λ x. length (end_in first x) ≡ z) c.taken (λ x y. y.1) (slice_let_go k c e)) in
           let w = (n.chunks k c e).whole in
@@ -180,7 +182,8 @@ module _ (v : FloorSeen) (names : List Carved) (n : AreNames names v) (st : Stat
 
         left_ends : map (end_in second) (undrawn_parts v) ≡ v.undrawn
         left_ends =
-            sym (map_same (end_in first) (end_in second) (undrawn_parts v) (All-to HasStayed (λ x. end_in first x ≡ end_in second x) (undrawn_parts v) (λ x y. y.1) left_stays)) ∙ parts_left.1
+            sym (map_same (end_in first) (end_in second) (undrawn_parts v) (All-to HasStayed (λ x. end_in first x ≡ end_in second x) (undrawn_parts v) (λ x y. y.1) left_stays))
+            ∙ parts_left.1
 
         left_whole : All (λ x. length (end_in second x) ≡ CHUNK) (undrawn_parts v)
         left_whole = unmap (λ (bs : List ℕ). length bs ≡ CHUNK) (end_in second) (undrawn_parts v) (subst (λ bs. All (λ (b : List ℕ). length b ≡ CHUNK) bs) (sym left_ends) stocked.1)
@@ -202,7 +205,8 @@ module _ (v : FloorSeen) (names : List Carved) (n : AreNames names v) (st : Stat
         all_ends_known lie = record {
           parts = each_part (IsKnown second) (λ k c e. (chunk_ends k c e).0) (All-to HasStayed (IsKnown second) (undrawn_parts v) (λ x y. y.0) left_stays);
           whole = whole;
-          buffers = λ tail. All-to-both (HasName names) IsLetGo (λ b. StandsAt b.bytes.now (start_of b.slot b.class) (flat_map (end_in second) v.parts ++ tail)) (buffers_of v) (lies tail) (buffers_named v names n) all_let_go;
+          buffers = λ tail. All-to-both (HasName names) IsLetGo (λ b. StandsAt b.bytes.now (start_of b.slot b.class) (flat_map (end_in second) v.parts ++ tail)) (buffers_of v)
+              (lies tail) (buffers_named v names n) all_let_go;
           undrawn = left_ends;
         }
           where
@@ -214,11 +218,13 @@ module _ (v : FloorSeen) (names : List Carved) (n : AreNames names v) (st : Stat
                 subst (λ bs. StandsAt bs (start_of b.slot b.class) (flat_map (end_in second) v.parts ++ tail)) ((stays b.bytes.ghost_name r.0).1 ∙ r.1)
                 (lie (end_in second) b.slot b.class (flat_map (end_in second) v.parts ++ tail) v.parts (record { sizes = whole; rest = tail; joined = refl })
                 q.chunk.whole (n.chunks b.slot.chunk q.chunk q.is_chunk).part q.chunk.taken
-                (subst (λ z. BeginsWith (end_in second) q.chunk.taken (size_of z) (end_in second q.chunk.whole)) q.class (chunk_begins b.slot.chunk q.chunk q.is_chunk)) b.bytes.ghost_name q.name)
+                (subst (λ z. BeginsWith (end_in second) q.chunk.taken (size_of z) (end_in second q.chunk.whole)) q.class
+                (chunk_begins b.slot.chunk q.chunk q.is_chunk)) b.bytes.ghost_name q.name)
 
 -- ---- a floor
 
-module _ (v : FloorSeen) (whole : IsWhole v) (shows : Shows v) (named : IsNamed v) (first : List Ended) (chunks : List Carved) (agree : Agrees first) (are : chunks ≡ flat_map chunks_of v.desks)
+module _ (v : FloorSeen) (whole : IsWhole v) (shows : Shows v) (named : IsNamed v) (first : List Ended) (chunks : List Carved) (agree : Agrees first)
+    (are : chunks ≡ flat_map chunks_of v.desks)
     (p : IsPermutation (map ended_of (buffers_of v) ++ ended_parts (undrawn_parts v) v.undrawn) first) where
   all_noted : All (EndsSo first) (map ended_of (buffers_of v) ++ ended_parts (undrawn_parts v) v.undrawn)
   all_noted = All-permutation (EndsSo first) _ _ (IsPermutation-sym _ _ p) (noted first agree)

@@ -126,9 +126,11 @@ placed_each K v h =
     let desks = All-parts K buffers_with v.desks (All-first K (flat_map buffers_with v.desks) (lent ++ posts) h) in
     let out = All-second K (flat_map buffers_with v.desks) (lent ++ posts) h in
     let at_home : All (λ (s : Seat). All (KeptIs K) (home_of s)) v.desks =
-    All-to (λ (s : Seat). All K (buffers_with s)) (λ (s : Seat). All (KeptIs K) (home_of s)) v.desks (λ s g. kept_each K (home_of s) (All-first K (kept_in (home_of s)) (cached_of s) g)) desks in
+    All-to (λ (s : Seat). All K (buffers_with s)) (λ (s : Seat). All (KeptIs K) (home_of s)) v.desks (λ s g. kept_each K (home_of s)
+    (All-first K (kept_in (home_of s)) (cached_of s) g)) desks in
     let in_caches : All K caches =
-    All-flat K cached_of v.desks (All-to (λ (s : Seat). All K (buffers_with s)) (λ (s : Seat). All K (cached_of s)) v.desks (λ s g. All-second K (kept_in (home_of s)) (cached_of s) g) desks) in
+    All-flat K cached_of v.desks (All-to (λ (s : Seat). All K (buffers_with s)) (λ (s : Seat). All K (cached_of s)) v.desks (λ s g. All-second K (kept_in (home_of s))
+    (cached_of s) g) desks) in
     All-append (KeptIs K) (flat_map home_of v.desks) (map Kept lent ++ (map Kept caches ++ map Kept posts)) (All-flat (KeptIs K) home_of v.desks at_home)
     (All-append (KeptIs K) (map Kept lent) (map Kept caches ++ map Kept posts) (All-map (KeptIs K) Kept lent (All-first K lent posts out))
     (All-append (KeptIs K) (map Kept caches) (map Kept posts) (All-map (KeptIs K) Kept caches in_caches) (All-map (KeptIs K) Kept posts (All-second K lent posts out))))
@@ -194,7 +196,8 @@ module _ (v : FloorSeen) (names : List Carved) (n : AreNames names v) where
         let s : Slot = record { chunk = k; index = i } in
         let low = slice_get_within c.taken i x at in
         let once : count_by (λ y. same_slot s (slot_at y)) (places v) ≡ 1 = sym (count_map (same_slot s) slot_at (places v)) ∙ slot_there k i c e low in
-        let f = found (λ y. IsNamedHome names y × KeptIs K y) (λ y. same_slot s (slot_at y)) (places v) (All-two (IsNamedHome names) (KeptIs K) (places v) places_named (placed_each K v all)) (omega (arith, once)) in
+        let f = found (λ y. IsNamedHome names y × KeptIs K y) (λ y. same_slot s (slot_at y)) (places v)
+        (All-two (IsNamedHome names) (KeptIs K) (places v) places_named (placed_each K v all)) (omega (arith, once)) in
         go f.0 (same_slot_eq s (slot_at f.0) f.1) f.2.0 f.2.1
       where
         go : (y : AtHome) → (let s : Slot = record { chunk = k; index = i } in s ≡ slot_at y) → IsNamedHome names y → KeptIs K y
