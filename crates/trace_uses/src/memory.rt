@@ -1,9 +1,8 @@
 //! Sources and sinks over memory that work in small pieces and fail where they are told to.
-ghost use Rattle.std.specs.Prelude.{◌≡◌, [], false, Some, IfOk};
-ghost use Rattle.trace_audit.specs.Replay.{IsAudited, ReportsTrace, with_audit};
+ghost use Rattle.std.specs.Prelude.{◌≡◌, [], false, Some};
 
 use std::alloc::Global;
-use trace_audit::{End, Failed, Fault, ReplayError, Sink, Source, replay, replay_audited};
+use trace_audit::{Failed, Sink, Source};
 
 /// Bytes that come in pieces of at most `most`. The read number `fails_at` fails, counted from 1; none where it is 0.
 #[derive(Drop)]
@@ -17,7 +16,7 @@ pub struct Pieces<'a> {
 
 impl<'a> Pieces<'a> {
     pub fn new(bytes: &'a [u8], most: usize, fails_at: u64) -> Pieces<'a>
-        ensures bytes { result.bytes ≡ bytes }
+        ensures bytes { result.bytes ≡ bytes.entry }
         ensures down { ⟦<Pieces<'a> as Source>⟧.has_failed result ≡ false }
     {
         Pieces {
@@ -118,28 +117,4 @@ impl Sink for Kept {
             }
         }
     }
-}
-
-/// The answer of a replay of these bytes, and what was written.
-pub fn replayed(alloc: Global, trace: &[u8]) -> (Result<End, ReplayError>, Vec<u8>)
-    ensures { IfOk result.0 (λ end. ReportsTrace trace.now (λ report. result.1.items ≡ report) end) }
-{
-    let mut reader = Pieces::new(trace, usize::MAX, 0);
-    let mut writer = Kept::all(alloc);
-    let end = replay(alloc, &mut reader, &mut writer);
-    (end, writer.bytes)
-}
-
-/// How a replay with an audit ended, and what the audit answered.
-pub type Audited = (End, Option<Result<(), Fault>>);
-
-/// The answer of an audited replay of these bytes, and what was written.
-pub fn audited(alloc: Global, trace: &[u8]) -> (Result<Audited, ReplayError>, Vec<u8>)
-    ensures report { IfOk result.0 (λ r. ReportsTrace trace.now (with_audit r.1 (λ report. result.1.items ≡ report)) r.0) }
-    ensures audit { IfOk result.0 (λ r. IsAudited r.0 r.1) }
-{
-    let mut reader = Pieces::new(trace, usize::MAX, 0);
-    let mut writer = Kept::all(alloc);
-    let answer = replay_audited(alloc, &mut reader, &mut writer);
-    (answer, writer.bytes)
 }

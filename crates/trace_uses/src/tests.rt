@@ -5,5 +5,6 @@ mod audits;
 mod bad_lines;
 mod failing;
 mod long;
+mod replays;
 mod rows;
 mod travels;

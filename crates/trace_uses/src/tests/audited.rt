@@ -1,7 +1,8 @@
 //! Replays with an audit at the end.
 use super::failing::{REPORT, TRACE, first_lines};
+use super::replays::{Audited, audited};
 use super::travels::lines;
-use crate::memory::{Audited, Kept, Pieces, WriteFault, audited};
+use crate::memory::{Kept, Pieces, WriteFault};
 use std::alloc::Global;
 use std::process::Abort;
 use std::test::Fail;

@@ -1,5 +1,5 @@
 //! Lines that are near to good ones.
-use crate::memory::replayed;
+use super::replays::replayed;
 use std::test::Fail;
 use trace_audit::End;
 

@@ -1,5 +1,6 @@
 //! Readers and writers that fail, and traces that are cut off.
-use crate::memory::{Kept, Pieces, WriteFault, replayed};
+use super::replays::replayed;
+use crate::memory::{Kept, Pieces, WriteFault};
 use std::process::Abort;
 use std::test::Fail;
 use trace_audit::{End, ReplayError, replay};

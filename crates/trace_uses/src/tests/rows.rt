@@ -1,5 +1,5 @@
 //! Whole traces and short ones.
-use crate::memory::replayed;
+use super::replays::replayed;
 use std::process::Abort;
 use std::test::Fail;
 use trace_audit::End;

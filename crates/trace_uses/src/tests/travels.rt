@@ -1,5 +1,5 @@
 //! Buffers that travel: batches are sent, linked and taken, desks are retired and adopted again.
-use crate::memory::replayed;
+use super::replays::replayed;
 use std::process::Abort;
 use std::test::Fail;
 use trace_audit::End;
