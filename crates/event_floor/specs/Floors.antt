@@ -15,7 +15,8 @@ use Rattle.event_floor.specs.Seats.{idle_seats, new_desk, home_of, cached_of, Is
 use Rattle.event_floor.specs.Posted.{Posted, inbox_at}
 
 -- how the numbers of desks are read, the limit in bytes of each desk's cache, how many chunks there are, the names of their parts,
--- the chunks that are drawn, and the bytes of the parts of the others, all in the order of their numbers, the desks, the table of the lent buffers, the inbox of each desk, and the number of the next batch
+-- the chunks that are drawn, and the bytes of the parts of the others, all in the order of their numbers, the desks, the table of
+-- the lent buffers, the inbox of each desk, and the number of the next batch
 pub record FloorSeen : Type 0 where
   pub digits : Scheme
   pub limit : ℕ

@@ -1,6 +1,5 @@
 //! Slices are let go, and it is kept what they end as.
-ghost use Rattle.std.specs.Prelude.{◌≡◌, ◌∷◌, ◌++◌, [], map};
-ghost use Rattle.std.specs.List.{All};
+ghost use Rattle.std.specs.Prelude.{◌≡◌, ◌∷◌, ◌++◌, [], map, All};
 ghost use Rattle.region_cut.specs.Carved.{carved_of};
 ghost use Rattle.region_cut.specs.Ended.{IsKnown, HasKnownSlots, ended_chunk, ended_front, Agrees};
 ghost use Rattle.region_cut.specs.Fronts.{settled_of, lent_of};
