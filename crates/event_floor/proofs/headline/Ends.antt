@@ -23,7 +23,7 @@ use Rattle.event_floor.specs.Floors.{FloorSeen, desk_at, desk_count}
 use Rattle.event_floor.specs.machine.Slots.{one_if}
 use Rattle.event_floor.specs.machine.State.{State}
 use Rattle.event_floor.specs.machine.Listing.{Shown}
-use Rattle.event_floor.specs.headline.Known.{buffers_of, undrawn_parts, EndsKnown}
+use Rattle.event_floor.specs.headline.Known.{buffers_of, undrawn_parts, EndsAsDrawn, EndsKnown}
 use Rattle.event_floor.specs.headline.Listing.{desk_of, listing_of}
 use Rattle.event_floor.specs.headline.Headline.{Shows}
 use Rattle.event_floor.specs.headline.Names.{HasName, AreNames, IsNamed, chunks_of, is_drawn_for}
@@ -144,11 +144,14 @@ module _ (v : FloorSeen) (names : List Carved) (n : AreNames names v) (st : Stat
       slices_stay : (k : ℕ) (c : Carved) → slice_get names k ≡ Some c → All (λ x. end_in first x ≡ end_in second x) c.taken
       slices_stay k c e = All-to (IsSlot c) (λ x. end_in first x ≡ end_in second x) c.taken (λ x y. sym (stays x y.0).1) (slice_let_go k c e)
 
+      ends_as_drawn : (k : ℕ) (c : Carved) → slice_get names k ≡ Some c → EndsAsDrawn second c
+      ends_as_drawn k c e = (chunk_ends k c e).1 ∙ ap (λ bs. bs ++ c.rest) (flat_same (end_in first) (end_in second) c.taken (slices_stay k c e))
+
       chunk_begins : (k : ℕ) (c : Carved) → slice_get names k ≡ Some c → BeginsWith (end_in second) c.taken (size_of c.class) (end_in second c.whole)
       chunk_begins k c e = record {
         sizes = All-to (IsSlot c) (λ x. length (end_in second x) ≡ size_of c.class) c.taken (λ x y. ap length (stays x y.0).1 ∙ y.1) (slice_let_go k c e);
         rest = c.rest;
-        joined = (chunk_ends k c e).1 ∙ ap (λ bs. bs ++ c.rest) (flat_same (end_in first) (end_in second) c.taken (slices_stay k c e));
+        joined = ends_as_drawn k c e;
       }
 
       chunk_whole : (k : ℕ) (c : Carved) → slice_get names k ≡ Some c → length (end_in second c.whole) ≡ CHUNK
@@ -207,6 +210,9 @@ module _ (v : FloorSeen) (names : List Carved) (n : AreNames names v) (st : Stat
           whole = whole;
           buffers = λ tail. All-to-both (HasName names) IsLetGo (λ b. StandsAt b.bytes.now (start_of b.slot b.class) (flat_map (end_in second) v.parts ++ tail)) (buffers_of v)
               (lies tail) (buffers_named v names n) all_let_go;
+          drawn = All-flat (EndsAsDrawn second) chunks_of v.desks (seat_each (λ s. All (EndsAsDrawn second) (chunks_of s)) v
+              (λ a l. All-to (λ (c : Carved). slice_get names c.chunk ≡ Some c) (EndsAsDrawn second) (chunks_of (desk_at v a))
+              (λ c e. ends_as_drawn c.chunk c e) (n.desks a l).same));
           undrawn = left_ends;
         }
           where

@@ -2,6 +2,7 @@
 use Rattle.std.specs.Prelude.{ℕ, ◌≡◌, List, ◌++◌, length, map, drop, flat_map, All}
 use Rattle.std.specs.Borrow.{GName}
 use Rattle.region_cut.specs.declared.TheConstants.{CHUNK}
+use Rattle.region_cut.specs.Carved.{Carved}
 use Rattle.region_cut.specs.Ended.{Ended, IsKnown, end_in}
 use Rattle.region_cut.specs.Endings.{StandsAt}
 use Rattle.region_cut.specs.Ranges.{start_of}
@@ -12,6 +13,7 @@ use Rattle.event_floor.specs.Lent.{buffers_lent}
 use Rattle.event_floor.specs.Posted.{buffers_in}
 use Rattle.event_floor.specs.Seats.{home_of, cached_of}
 use Rattle.event_floor.specs.Floors.{FloorSeen}
+use Rattle.event_floor.specs.headline.Names.{chunks_of}
 
 -- the buffers at home with a desk, and those in its cache
 abbrev pub buffers_with : Seat → List Buffer
@@ -25,10 +27,16 @@ buffers_of v = flat_map buffers_with v.desks ++ (buffers_lent v.lent ++ flat_map
 abbrev pub undrawn_parts : FloorSeen → List GName
 undrawn_parts v = drop (length v.drawn) v.parts
 
+-- a drawn chunk ends as the slots that were ever handed out of it, in order, and behind them as what was left of it, unchanged
+abbrev pub EndsAsDrawn : List Ended → Carved → Type 0
+EndsAsDrawn known c = end_in known c.whole ≡ flat_map (end_in known) c.taken ++ c.rest
+
 -- It is known what each part of the floor ends as, a whole chunk. Where a region begins with what they end as, in order, each buffer of
--- the floor stands at the range of its slot of the region, with the bytes that it has now. A part that isn't drawn ends as it is.
+-- the floor stands at the range of its slot of the region, with the bytes that it has now. What was left of a drawn chunk, which are the
+-- slots that were never handed out and the tail behind the last slot, ends as it is, and so does a part that isn't drawn.
 pub record EndsKnown (v : FloorSeen) (known : List Ended) : Type 0 where
   pub parts : All (IsKnown known) v.parts
   pub whole : All (λ x. length (end_in known x) ≡ CHUNK) v.parts
   pub buffers : (tail : List ℕ) → All (λ (b : Buffer). StandsAt b.bytes.now (start_of b.slot b.class) (flat_map (end_in known) v.parts ++ tail)) (buffers_of v)
+  pub drawn : All (EndsAsDrawn known) (flat_map chunks_of v.desks)
   pub undrawn : map (end_in known) (undrawn_parts v) ≡ v.undrawn
