@@ -11,24 +11,44 @@ mod route;
 
 use digit_route::{Batch, Digits};
 use pool_desk::{Counts, Desk, DeskError, Freed, IdleDesk};
-use region_cut::{Class, CutError, Part, Profile, cut};
+use region_cut::{CHUNK, Class, CutError, Part, Profile, cut};
 use slot_chain::{Buf, Chain};
 use std::alloc::Global;
 use std::process::Abort;
 
-// Bytes for a region, or none where memory for them was refused.
-fn region(alloc: Global, len: usize, byte: u8) -> Option<Vec<u8>> {
-    Vec::from_elem(alloc, byte, len).ok()
+// So many bytes. Where memory for them was refused, the next try works.
+fn bytes_of(rt: &impl Abort, alloc: Global, len: usize, byte: u8) -> Vec<u8> {
+    match Vec::from_elem(alloc, byte, len) {
+        Ok(bytes) => bytes,
+        Err(_) => Vec::from_elem(alloc, byte, len)
+            .ok()
+            .expect(rt, "memory is there again"),
+    }
+}
+
+// A region of twice so many chunks: the second half is there for a second try to cut it.
+fn region(rt: &impl Abort, alloc: Global, chunks: usize) -> Vec<u8> {
+    bytes_of(rt, alloc, chunks.saturating_mul(2 * CHUNK), 0)
 }
 
 // The chunks of a region, or none where memory for the list of them was refused.
-fn parts<'r>(rt: &impl Abort, alloc: Global, region: &'r mut [u8]) -> Option<Vec<Part<'r>>> {
+fn parts_or_not<'r>(rt: &impl Abort, alloc: Global, region: &'r mut [u8]) -> Option<Vec<Part<'r>>> {
     match cut(alloc, region) {
         Ok(parts) => Some(parts),
         Err(error) => {
-            assert_eq!(rt; error, CutError::NoMemory);
+            assert!(rt; error == CutError::NoMemory);
             None
         }
+    }
+}
+
+// The chunks of a half of the region: of the second one where memory for the list of the first one's was refused.
+fn parts<'r>(rt: &impl Abort, alloc: Global, region: &'r mut [u8]) -> Vec<Part<'r>> {
+    let half = region.len() / 2;
+    let (first, second) = region.split_at_mut(half);
+    match parts_or_not(rt, alloc, first) {
+        Some(parts) => parts,
+        None => parts_or_not(rt, alloc, second).expect(rt, "memory is there again"),
     }
 }
 
@@ -61,8 +81,8 @@ fn lend_or_not<'r>(
     match desk.alloc(alloc, size) {
         Ok(buf) => Some(buf),
         Err(error) => {
-            assert_eq!(rt; error, DeskError::NoMemory);
-            assert_eq!(rt; desk.counts(), before);
+            assert!(rt; error == DeskError::NoMemory);
+            counts_are(rt, desk, before.0, before.1);
             None
         }
     }
@@ -118,7 +138,19 @@ fn retired<'r>(rt: &impl Abort, desk: Desk<'r>) -> IdleDesk<'r> {
 
 // A batch comes to its address.
 fn handle<'r>(rt: &impl Abort, desk: &mut Desk<'r>, batch: Batch<'r>) -> Counts {
-    assert_eq!(rt; batch.address(), desk.number());
-    assert_eq!(rt; batch.digits(), desk.digits());
+    assert!(rt; batch.address() == desk.number());
+    assert!(rt; batch.digits() == desk.digits());
     desk.handle(batch)
+}
+
+// One buffer comes home, and none goes on.
+fn comes_home<'r>(rt: &impl Abort, owner: &mut Desk<'r>, batch: Batch<'r>) {
+    let counts = handle(rt, owner, batch);
+    assert!(rt; counts.home == 1 && counts.on == 0);
+}
+
+// Its next batch goes to the owner.
+fn goes_home<'r>(rt: &impl Abort, desk: &mut Desk<'r>, owner: &mut Desk<'r>) {
+    let batch = desk.next_batch().expect(rt, "one goes home");
+    comes_home(rt, owner, batch);
 }

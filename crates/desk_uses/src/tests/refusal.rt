@@ -2,7 +2,7 @@
 use super::{claim, class, counts_are, desk, lend, parts, region};
 use digit_route::Digits;
 use pool_desk::{Desk, DeskError, IdleDesk};
-use region_cut::{CHUNK, Class, Part};
+use region_cut::{Class, Part};
 use std::alloc::Global;
 use std::process::Abort;
 
@@ -37,37 +37,31 @@ fn alloc_is_refused(
     }
 }
 
-#[test]
-fn says_why_nothing_is_given_out(rt: HostRuntime) {
-    let mut desk = desk(&rt, 63);
-    alloc_is_refused(&rt, rt.alloc(), &mut desk, 513, DeskError::TooLarge);
+fn refuses<'r>(rt: &impl Abort, alloc: Global, mut parts: Vec<Part<'r>>) {
+    let mut desk = desk(rt, 63);
+    alloc_is_refused(rt, alloc, &mut desk, 513, DeskError::TooLarge);
     let want = DeskError::NeedChunk(class(0));
-    alloc_is_refused(&rt, rt.alloc(), &mut desk, 0, want);
+    alloc_is_refused(rt, alloc, &mut desk, 0, want);
+    claim(rt, &mut desk, &mut parts, class(0));
+    claim_is_refused(rt, &mut desk, &mut parts, class(0));
+    counts_are(rt, &desk, 256, 0);
 }
 
 #[test]
-fn says_why_a_chunk_is_not_needed(rt: HostRuntime) {
+fn says_why_nothing_is_given_out_or_claimed(rt: HostRuntime) {
     let alloc = rt.alloc();
-    let Some(mut region) = region(alloc, 2 * CHUNK, 0) else {
-        return;
-    };
-    let Some(mut parts) = parts(&rt, alloc, &mut region) else {
-        return;
-    };
-    let mut desk = desk(&rt, 63);
-    claim(&rt, &mut desk, &mut parts, class(0));
-    claim_is_refused(&rt, &mut desk, &mut parts, class(0));
-    counts_are(&rt, &desk, 256, 0);
+    let mut region = region(&rt, alloc, 2);
+    refuses(&rt, alloc, parts(&rt, alloc, &mut region));
 }
 
 // Number and words, also where memory for the words is refused once.
 fn check(rt: &impl Abort, alloc: Global, error: DeskError, number: u32, words: &str) {
-    assert_eq!(rt; error.number(), number);
+    assert!(rt; error.number() == number);
     let text = match format!(in alloc; "{error}") {
         Ok(text) => text,
         Err(_) => format!(in alloc; "{error}").expect(rt, "memory is there again"),
     };
-    assert_eq!(rt; text.as_str(), words);
+    assert!(rt; text.as_str() == words);
 }
 
 #[test]
@@ -100,18 +94,17 @@ fn lends_most(rt: &impl Abort, alloc: Global, desk: &mut Desk<'_>) {
 }
 
 // Class 19 has 4 slots.
+fn gives_large<'r>(rt: &impl Abort, alloc: Global, mut parts: Vec<Part<'r>>) {
+    let mut desk = large(rt);
+    alloc_is_refused(rt, alloc, &mut desk, 1025, DeskError::TooLarge);
+    claim(rt, &mut desk, &mut parts, class(19));
+    lends_most(rt, alloc, &mut desk);
+    counts_are(rt, &desk, 3, 0);
+}
+
 #[test]
 fn is_of_its_profile(rt: HostRuntime) {
     let alloc = rt.alloc();
-    let Some(mut region) = region(alloc, CHUNK, 0) else {
-        return;
-    };
-    let Some(mut parts) = parts(&rt, alloc, &mut region) else {
-        return;
-    };
-    let mut desk = large(&rt);
-    alloc_is_refused(&rt, alloc, &mut desk, 1025, DeskError::TooLarge);
-    claim(&rt, &mut desk, &mut parts, class(19));
-    lends_most(&rt, alloc, &mut desk);
-    counts_are(&rt, &desk, 3, 0);
+    let mut region = region(&rt, alloc, 1);
+    gives_large(&rt, alloc, parts(&rt, alloc, &mut region));
 }

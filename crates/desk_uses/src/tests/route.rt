@@ -2,7 +2,7 @@
 use super::{claim, class, desk, free_is, handle, lend, parts, region};
 use digit_route::RouteError;
 use pool_desk::{Desk, Freed};
-use region_cut::{CHUNK, Part};
+use region_cut::Part;
 use std::alloc::Global;
 use std::process::Abort;
 
@@ -45,43 +45,29 @@ fn came_home(rt: &impl Abort, alloc: Global, desk: &mut Desk<'_>, chunk: u16, fo
     assert!(rt; buf.slot().chunk == chunk && buf.forwards() == forwards);
 }
 
-#[test]
-fn goes_home_by_way_of_nearer_desks(rt: HostRuntime) {
-    let alloc = rt.alloc();
-    let Some(mut region) = region(alloc, 3 * CHUNK, 0) else {
-        return;
-    };
-    let Some(mut parts) = parts(&rt, alloc, &mut region) else {
-        return;
-    };
-    let mut zero = desk(&rt, 0);
-    let mut far = desk(&rt, 27);
-    leave(&rt, alloc, &mut far, &mut zero, &mut parts);
-    let mut eleven = desk(&rt, 11);
-    leave(&rt, alloc, &mut eleven, &mut zero, &mut parts);
-    let mut seven = desk(&rt, 7);
-    leave(&rt, alloc, &mut seven, &mut zero, &mut parts);
-    send(&rt, &mut zero, &mut seven, 1, 2);
-    send(&rt, &mut seven, &mut eleven, 1, 1);
-    send(&rt, &mut eleven, &mut far, 1, 0);
-    came_home(&rt, alloc, &mut far, 2, 2);
-    came_home(&rt, alloc, &mut eleven, 1, 1);
-    came_home(&rt, alloc, &mut seven, 0, 0);
+// Nothing goes at first but to 27.
+fn routes<'r>(rt: &impl Abort, alloc: Global, mut parts: Vec<Part<'r>>) {
+    let mut zero = desk(rt, 0);
+    let mut far = desk(rt, 27);
+    leave(rt, alloc, &mut far, &mut zero, &mut parts);
+    is_refused(rt, &mut zero, 3, RouteError::NotAnOwner);
+    is_refused(rt, &mut zero, 2, RouteError::NothingFor);
+    is_refused(rt, &mut zero, 0, RouteError::ToSelf);
+    let mut eleven = desk(rt, 11);
+    leave(rt, alloc, &mut eleven, &mut zero, &mut parts);
+    let mut seven = desk(rt, 7);
+    leave(rt, alloc, &mut seven, &mut zero, &mut parts);
+    send(rt, &mut zero, &mut seven, 1, 2);
+    send(rt, &mut seven, &mut eleven, 1, 1);
+    send(rt, &mut eleven, &mut far, 1, 0);
+    came_home(rt, alloc, &mut far, 2, 2);
+    came_home(rt, alloc, &mut eleven, 1, 1);
+    came_home(rt, alloc, &mut seven, 0, 0);
 }
 
 #[test]
-fn says_why_nothing_goes(rt: HostRuntime) {
+fn goes_home_by_way_of_nearer_desks(rt: HostRuntime) {
     let alloc = rt.alloc();
-    let Some(mut region) = region(alloc, CHUNK, 0) else {
-        return;
-    };
-    let Some(mut parts) = parts(&rt, alloc, &mut region) else {
-        return;
-    };
-    let mut zero = desk(&rt, 0);
-    let mut far = desk(&rt, 27);
-    leave(&rt, alloc, &mut far, &mut zero, &mut parts);
-    is_refused(&rt, &mut zero, 3, RouteError::NotAnOwner);
-    is_refused(&rt, &mut zero, 2, RouteError::NothingFor);
-    is_refused(&rt, &mut zero, 0, RouteError::ToSelf);
+    let mut region = region(&rt, alloc, 3);
+    routes(&rt, alloc, parts(&rt, alloc, &mut region));
 }
