@@ -154,3 +154,64 @@ fn goes_home<'r>(rt: &impl Abort, desk: &mut Desk<'r>, owner: &mut Desk<'r>) {
     let batch = desk.next_batch().expect(rt, "one goes home");
     comes_home(rt, owner, batch);
 }
+
+// What is played on two desks, of which some plays use the first alone.
+#[derive(Clone, Copy)]
+enum Play {
+    Writes,
+    FreesAll,
+    Gives,
+    GivesAll,
+    Fills,
+    Refuses,
+    GivesLarge,
+}
+
+// Each plays on desks, chunks and a list of buffers that `hold` has.
+fn run<'r>(
+    rt: &impl Abort,
+    alloc: Global,
+    play: Play,
+    desk: &mut Desk<'r>,
+    other: &mut Desk<'r>,
+    parts: &mut Vec<Part<'r>>,
+    lent: &mut Chain<'r>,
+) {
+    match play {
+        Play::Writes => bytes::writes(rt, alloc, desk, parts, lent),
+        Play::FreesAll => deep::frees_all(rt, alloc, desk, other, parts, lent),
+        Play::Gives => home::gives(rt, alloc, desk, parts),
+        Play::GivesAll => home::gives_all(rt, alloc, desk, parts, lent),
+        Play::Fills => home::fills_two(rt, alloc, desk, other, parts),
+        Play::Refuses => refusal::refuses(rt, alloc, desk, parts),
+        Play::GivesLarge => refusal::gives_large(rt, alloc, desk, parts),
+    }
+}
+
+fn hold<'r>(
+    rt: &impl Abort,
+    alloc: Global,
+    what: Play,
+    mut desk: Desk<'r>,
+    mut other: Desk<'r>,
+    mut parts: Vec<Part<'r>>,
+) {
+    let mut lent = Chain::new();
+    run(
+        rt, alloc, what, &mut desk, &mut other, &mut parts, &mut lent,
+    );
+}
+
+// Two desks of these numbers, and so many chunks.
+fn plays(rt: &impl Abort, alloc: Global, what: Play, numbers: (u16, u16), chunks: usize) {
+    let mut region = region(rt, alloc, chunks);
+    let parts = parts(rt, alloc, &mut region);
+    hold(
+        rt,
+        alloc,
+        what,
+        desk(rt, numbers.0),
+        desk(rt, numbers.1),
+        parts,
+    );
+}

@@ -1,5 +1,7 @@
 //! What is written through a desk's buffers is what the region holds when its borrow ends, also where a class went on to a second chunk.
-use super::{bytes_of, claim, class, counts_are, desk, free_is, lend_some, parts_or_not};
+use super::{
+    Play, bytes_of, claim, class, counts_are, desk, free_is, hold, lend_some, parts_or_not,
+};
 use pool_desk::{Desk, Freed};
 use region_cut::{CHUNK, Part};
 use slot_chain::{Buf, Chain};
@@ -23,22 +25,26 @@ fn write_some<'r>(rt: &impl Abort, desk: &mut Desk<'r>, count: u32, lent: &mut C
 }
 
 // Class 12 has 12 slots of 320 bytes, and 256 bytes at a chunk's end that are in no slot. All slots of two chunks are lent, and then written.
-fn write_parts<'r>(rt: &impl Abort, alloc: Global, mut parts: Vec<Part<'r>>) {
-    let mut desk = desk(rt, 3);
-    let mut lent = Chain::new();
-    claim(rt, &mut desk, &mut parts, class(12));
-    lend_some(rt, alloc, &mut desk, 300, 12, &mut lent);
-    claim(rt, &mut desk, &mut parts, class(12));
-    lend_some(rt, alloc, &mut desk, 300, 12, &mut lent);
-    write_some(rt, &mut desk, 24, &mut lent);
-    counts_are(rt, &desk, 24, 0);
+pub fn writes<'r>(
+    rt: &impl Abort,
+    alloc: Global,
+    desk: &mut Desk<'r>,
+    parts: &mut Vec<Part<'r>>,
+    lent: &mut Chain<'r>,
+) {
+    claim(rt, desk, parts, class(12));
+    lend_some(rt, alloc, desk, 300, 12, lent);
+    claim(rt, desk, parts, class(12));
+    lend_some(rt, alloc, desk, 300, 12, lent);
+    write_some(rt, desk, 24, lent);
+    counts_are(rt, desk, 24, 0);
 }
 
 // Nothing is written where memory was refused.
 fn write_region(rt: &impl Abort, alloc: Global, region: &mut [u8]) -> bool {
     match parts_or_not(rt, alloc, region) {
         Some(parts) => {
-            write_parts(rt, alloc, parts);
+            hold(rt, alloc, Play::Writes, desk(rt, 3), desk(rt, 0), parts);
             true
         }
         None => false,

@@ -1,5 +1,5 @@
 //! Lists that are too long for a recursion: 800 chunks of 256 slots.
-use super::{claim, class, counts_are, desk, free, lend_some, parts, region};
+use super::{Play, claim, class, counts_are, free, lend_some, plays};
 use pool_desk::Desk;
 use region_cut::Part;
 use slot_chain::Chain;
@@ -17,14 +17,12 @@ fn lend_all<'r>(
     alloc: Global,
     desk: &mut Desk<'r>,
     parts: &mut Vec<Part<'r>>,
-    chunks: u32,
-) -> Chain<'r> {
-    let mut lent = Chain::new();
-    for _ in 0..chunks {
+    lent: &mut Chain<'r>,
+) {
+    for _ in 0..CHUNKS {
         claim(rt, desk, parts, class(0));
-        lend_some(rt, alloc, desk, 16, 256, &mut lent);
+        lend_some(rt, alloc, desk, 16, 256, lent);
     }
-    lent
 }
 
 fn free_some<'r>(rt: &impl Abort, desk: &mut Desk<'r>, count: u64, lent: &mut Chain<'r>) {
@@ -35,19 +33,22 @@ fn free_some<'r>(rt: &impl Abort, desk: &mut Desk<'r>, count: u64, lent: &mut Ch
 }
 
 // Half of all slots come home, and half are freed at another desk. Both desks go with their lists.
-fn frees_all<'r>(rt: &impl Abort, alloc: Global, mut parts: Vec<Part<'r>>) {
-    let mut owner = desk(rt, 1);
-    let mut other = desk(rt, 0);
-    let mut lent = lend_all(rt, alloc, &mut owner, &mut parts, CHUNKS);
-    free_some(rt, &mut owner, COUNT, &mut lent);
-    free_some(rt, &mut other, COUNT, &mut lent);
-    counts_are(rt, &owner, COUNT, 0);
-    counts_are(rt, &other, 0, COUNT);
+pub fn frees_all<'r>(
+    rt: &impl Abort,
+    alloc: Global,
+    owner: &mut Desk<'r>,
+    other: &mut Desk<'r>,
+    parts: &mut Vec<Part<'r>>,
+    lent: &mut Chain<'r>,
+) {
+    lend_all(rt, alloc, owner, parts, lent);
+    free_some(rt, owner, COUNT, lent);
+    free_some(rt, other, COUNT, lent);
+    counts_are(rt, owner, COUNT, 0);
+    counts_are(rt, other, 0, COUNT);
 }
 
 #[test]
 fn long_lists_take_no_depth(rt: HostRuntime) {
-    let alloc = rt.alloc();
-    let mut region = region(&rt, alloc, 800);
-    frees_all(&rt, alloc, parts(&rt, alloc, &mut region));
+    plays(&rt, rt.alloc(), Play::FreesAll, (1, 0), 800);
 }

@@ -1,5 +1,5 @@
 //! What is at home.
-use super::{claim, class, counts_are, desk, free_is, lend, lend_or_not, parts, region};
+use super::{Play, claim, class, counts_are, free_is, lend, lend_or_not, plays};
 use pool_desk::{Desk, Freed};
 use region_cut::Part;
 use slot_chain::{Buf, Chain};
@@ -33,27 +33,24 @@ fn has(rt: &impl Abort, desk: &Desk<'_>, number: u32, want: bool) {
 }
 
 // It has the slots of its class alone.
-fn gives<'r>(rt: &impl Abort, alloc: Global, mut parts: Vec<Part<'r>>) {
-    let mut desk = desk(rt, 5);
-    has(rt, &desk, 15, false);
-    claim(rt, &mut desk, &mut parts, class(15));
-    has(rt, &desk, 15, true);
-    has(rt, &desk, 14, false);
-    let first = lend_next(rt, alloc, &mut desk, 0);
-    let second = lend_next(rt, alloc, &mut desk, 1);
-    let _third = lend_next(rt, alloc, &mut desk, 2);
-    free_is(rt, &mut desk, second, Freed::Home);
-    free_is(rt, &mut desk, first, Freed::Home);
-    let _first = lend_again(rt, alloc, &mut desk, 0);
-    let _second = lend_again(rt, alloc, &mut desk, 1);
-    let _fourth = lend_next(rt, alloc, &mut desk, 3);
+pub fn gives<'r>(rt: &impl Abort, alloc: Global, desk: &mut Desk<'r>, parts: &mut Vec<Part<'r>>) {
+    has(rt, desk, 15, false);
+    claim(rt, desk, parts, class(15));
+    has(rt, desk, 15, true);
+    has(rt, desk, 14, false);
+    let first = lend_next(rt, alloc, desk, 0);
+    let second = lend_next(rt, alloc, desk, 1);
+    let _third = lend_next(rt, alloc, desk, 2);
+    free_is(rt, desk, second, Freed::Home);
+    free_is(rt, desk, first, Freed::Home);
+    let _first = lend_again(rt, alloc, desk, 0);
+    let _second = lend_again(rt, alloc, desk, 1);
+    let _fourth = lend_next(rt, alloc, desk, 3);
 }
 
 #[test]
 fn gives_the_last_freed_first(rt: HostRuntime) {
-    let alloc = rt.alloc();
-    let mut region = region(&rt, alloc, 1);
-    gives(&rt, alloc, parts(&rt, alloc, &mut region));
+    plays(&rt, rt.alloc(), Play::Gives, (5, 0), 1);
 }
 
 // Lends where memory is there, and counts what stays at home.
@@ -78,19 +75,21 @@ fn at_most_one(rt: &impl Abort, desk: &Desk<'_>, lent: &Chain<'_>) {
 }
 
 // Of the eight slots each is given out at its first try, but for one where an allocation is refused.
-fn gives_all<'r>(rt: &impl Abort, alloc: Global, mut parts: Vec<Part<'r>>) {
-    let mut desk = desk(rt, 5);
-    claim(rt, &mut desk, &mut parts, class(15));
-    let mut lent = Chain::new();
-    lend_what_goes(rt, alloc, &mut desk, 8, &mut lent);
-    at_most_one(rt, &desk, &lent);
+pub fn gives_all<'r>(
+    rt: &impl Abort,
+    alloc: Global,
+    desk: &mut Desk<'r>,
+    parts: &mut Vec<Part<'r>>,
+    lent: &mut Chain<'r>,
+) {
+    claim(rt, desk, parts, class(15));
+    lend_what_goes(rt, alloc, desk, 8, lent);
+    at_most_one(rt, desk, lent);
 }
 
 #[test]
 fn wants_memory_only_where_it_was_refused(rt: HostRuntime) {
-    let alloc = rt.alloc();
-    let mut region = region(&rt, alloc, 1);
-    gives_all(&rt, alloc, parts(&rt, alloc, &mut region));
+    plays(&rt, rt.alloc(), Play::GivesAll, (5, 0), 1);
 }
 
 // Buffers of 512 bytes of one desk are freed at another. A chunk has eight of them.
@@ -109,20 +108,22 @@ fn cache<'r>(
 }
 
 // Eight buffers of 512 bytes are the limit, and the ninth is above it.
-fn fills_two<'r>(rt: &impl Abort, alloc: Global, mut parts: Vec<Part<'r>>) {
-    let mut owner = desk(rt, 1);
-    let mut other = desk(rt, 0);
-    claim(rt, &mut owner, &mut parts, class(15));
-    cache(rt, alloc, &mut owner, &mut other, 8, Freed::Cached);
-    claim(rt, &mut owner, &mut parts, class(15));
-    cache(rt, alloc, &mut owner, &mut other, 1, Freed::Due);
-    counts_are(rt, &other, 0, 9);
-    counts_are(rt, &owner, 7, 0);
+pub fn fills_two<'r>(
+    rt: &impl Abort,
+    alloc: Global,
+    owner: &mut Desk<'r>,
+    other: &mut Desk<'r>,
+    parts: &mut Vec<Part<'r>>,
+) {
+    claim(rt, owner, parts, class(15));
+    cache(rt, alloc, owner, other, 8, Freed::Cached);
+    claim(rt, owner, parts, class(15));
+    cache(rt, alloc, owner, other, 1, Freed::Due);
+    counts_are(rt, other, 0, 9);
+    counts_are(rt, owner, 7, 0);
 }
 
 #[test]
 fn is_due_above_the_limit_alone(rt: HostRuntime) {
-    let alloc = rt.alloc();
-    let mut region = region(&rt, alloc, 2);
-    fills_two(&rt, alloc, parts(&rt, alloc, &mut region));
+    plays(&rt, rt.alloc(), Play::Fills, (1, 0), 2);
 }

@@ -1,5 +1,5 @@
 //! Why a desk refuses.
-use super::{claim, class, counts_are, desk, lend, parts, region};
+use super::{Play, claim, class, counts_are, hold, lend, parts, plays, region};
 use digit_route::Digits;
 use pool_desk::{Desk, DeskError, IdleDesk};
 use region_cut::{Class, Part};
@@ -37,21 +37,18 @@ fn alloc_is_refused(
     }
 }
 
-fn refuses<'r>(rt: &impl Abort, alloc: Global, mut parts: Vec<Part<'r>>) {
-    let mut desk = desk(rt, 63);
-    alloc_is_refused(rt, alloc, &mut desk, 513, DeskError::TooLarge);
+pub fn refuses<'r>(rt: &impl Abort, alloc: Global, desk: &mut Desk<'r>, parts: &mut Vec<Part<'r>>) {
+    alloc_is_refused(rt, alloc, desk, 513, DeskError::TooLarge);
     let want = DeskError::NeedChunk(class(0));
-    alloc_is_refused(rt, alloc, &mut desk, 0, want);
-    claim(rt, &mut desk, &mut parts, class(0));
-    claim_is_refused(rt, &mut desk, &mut parts, class(0));
-    counts_are(rt, &desk, 256, 0);
+    alloc_is_refused(rt, alloc, desk, 0, want);
+    claim(rt, desk, parts, class(0));
+    claim_is_refused(rt, desk, parts, class(0));
+    counts_are(rt, desk, 256, 0);
 }
 
 #[test]
 fn says_why_nothing_is_given_out_or_claimed(rt: HostRuntime) {
-    let alloc = rt.alloc();
-    let mut region = region(&rt, alloc, 2);
-    refuses(&rt, alloc, parts(&rt, alloc, &mut region));
+    plays(&rt, rt.alloc(), Play::Refuses, (63, 0), 2);
 }
 
 // Number and words, also where memory for the words is refused once.
@@ -94,17 +91,22 @@ fn lends_most(rt: &impl Abort, alloc: Global, desk: &mut Desk<'_>) {
 }
 
 // Class 19 has 4 slots.
-fn gives_large<'r>(rt: &impl Abort, alloc: Global, mut parts: Vec<Part<'r>>) {
-    let mut desk = large(rt);
-    alloc_is_refused(rt, alloc, &mut desk, 1025, DeskError::TooLarge);
-    claim(rt, &mut desk, &mut parts, class(19));
-    lends_most(rt, alloc, &mut desk);
-    counts_are(rt, &desk, 3, 0);
+pub fn gives_large<'r>(
+    rt: &impl Abort,
+    alloc: Global,
+    desk: &mut Desk<'r>,
+    parts: &mut Vec<Part<'r>>,
+) {
+    alloc_is_refused(rt, alloc, desk, 1025, DeskError::TooLarge);
+    claim(rt, desk, parts, class(19));
+    lends_most(rt, alloc, desk);
+    counts_are(rt, desk, 3, 0);
 }
 
 #[test]
 fn is_of_its_profile(rt: HostRuntime) {
     let alloc = rt.alloc();
     let mut region = region(&rt, alloc, 1);
-    gives_large(&rt, alloc, parts(&rt, alloc, &mut region));
+    let parts = parts(&rt, alloc, &mut region);
+    hold(&rt, alloc, Play::GivesLarge, large(&rt), large(&rt), parts);
 }
