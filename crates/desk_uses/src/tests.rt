@@ -63,11 +63,29 @@ fn class(number: u32) -> Class {
     Class::new(number).unwrap_or(Class::FIRST)
 }
 
-// The last of the chunks goes to the desk.
-fn claim<'r>(rt: &impl Abort, desk: &mut Desk<'r>, parts: &mut Vec<Part<'r>>, class: Class) {
+// The last of the chunks goes to the desk, or comes back.
+fn claim_or_not<'r>(
+    rt: &impl Abort,
+    desk: &mut Desk<'r>,
+    parts: &mut Vec<Part<'r>>,
+    class: Class,
+) -> Result<(), (Part<'r>, DeskError)> {
     let part = parts.pop().expect(rt, "a chunk");
     assert!(rt; class.number() < desk.digits().profile().classes());
-    assert!(rt; desk.claim(part, class).is_ok());
+    desk.claim(part, class)
+}
+
+fn claim<'r>(rt: &impl Abort, desk: &mut Desk<'r>, parts: &mut Vec<Part<'r>>, class: Class) {
+    assert!(rt; claim_or_not(rt, desk, parts, class).is_ok());
+}
+
+fn alloc_from<'r>(alloc: Global, desk: &mut Desk<'r>, size: usize) -> Result<Buf<'r>, DeskError> {
+    desk.alloc(alloc, size)
+}
+
+// How many slots are at home, and how many buffers in the cache.
+fn counts(desk: &Desk<'_>) -> (u64, u64) {
+    desk.counts()
 }
 
 // A want of memory leaves the desk as it was.
@@ -77,8 +95,8 @@ fn lend_or_not<'r>(
     desk: &mut Desk<'r>,
     size: usize,
 ) -> Option<Buf<'r>> {
-    let before = desk.counts();
-    match desk.alloc(alloc, size) {
+    let before = counts(desk);
+    match alloc_from(alloc, desk, size) {
         Ok(buf) => Some(buf),
         Err(error) => {
             assert!(rt; error == DeskError::NoMemory);
@@ -126,7 +144,7 @@ fn free_is<'r>(rt: &impl Abort, desk: &mut Desk<'r>, buf: Buf<'r>, want: Freed) 
 
 // So many slots are at home, and so many buffers in the cache.
 fn counts_are(rt: &impl Abort, desk: &Desk<'_>, home: u64, cached: u64) {
-    let counts = desk.counts();
+    let counts = counts(desk);
     assert!(rt; counts.0 == home);
     assert!(rt; counts.1 == cached);
 }

@@ -1,5 +1,7 @@
 //! What is at home.
-use super::{Play, claim, class, counts_are, free_is, lend, lend_or_not, plays};
+use super::{
+    Play, alloc_from, claim, class, counts, counts_are, free_is, lend, lend_or_not, plays,
+};
 use pool_desk::{Desk, Freed};
 use region_cut::Part;
 use slot_chain::{Buf, Chain};
@@ -23,7 +25,9 @@ fn lend_next<'r>(rt: &impl Abort, alloc: Global, desk: &mut Desk<'r>, index: u16
 
 // A slot that came home before, for which no memory is taken.
 fn lend_again<'r>(rt: &impl Abort, alloc: Global, desk: &mut Desk<'r>, index: u16) -> Buf<'r> {
-    let buf = desk.alloc(alloc, 449).ok().expect(rt, "one came home");
+    let buf = alloc_from(alloc, desk, 449)
+        .ok()
+        .expect(rt, "one came home");
     is_slot(rt, &buf, index);
     buf
 }
@@ -70,7 +74,7 @@ fn lend_what_goes<'r>(
 
 // Of eight slots.
 fn at_most_one(rt: &impl Abort, desk: &Desk<'_>, lent: &Chain<'_>) {
-    assert!(rt; desk.counts().0 <= 1);
+    assert!(rt; counts(desk).0 <= 1);
     assert!(rt; lent.len() >= 7);
 }
 

@@ -60,15 +60,27 @@ fn spread<'r>(
     away
 }
 
-// The third slot is cached at the other desk, and then sent home, where the worker leaves.
-fn lists<'r>(rt: &impl Abort, alloc: Global, mut parts: Vec<Part<'r>>) {
+// The third slot is cached at the other desk, and then sent home.
+fn lists<'r>(
+    rt: &impl Abort,
+    alloc: Global,
+    owner: &mut Desk<'r>,
+    other: &mut Desk<'r>,
+    parts: &mut Vec<Part<'r>>,
+    lent: &mut Chain<'r>,
+) {
+    let away = spread(rt, alloc, owner, parts, lent);
+    free_is(rt, other, away, Freed::Cached);
+    list_both(rt, alloc, owner, other);
+    goes_home(rt, other, owner);
+}
+
+// What is listed then is there also when the worker leaves.
+fn leaves<'r>(rt: &impl Abort, alloc: Global, mut parts: Vec<Part<'r>>) {
     let mut lent = Chain::new();
     let mut owner = desk(rt, 1);
     let mut other = desk(rt, 0);
-    let away = spread(rt, alloc, &mut owner, &mut parts, &mut lent);
-    free_is(rt, &mut other, away, Freed::Cached);
-    list_both(rt, alloc, &owner, &other);
-    goes_home(rt, &mut other, &mut owner);
+    lists(rt, alloc, &mut owner, &mut other, &mut parts, &mut lent);
     list_left(rt, alloc, &retired(rt, owner));
 }
 
@@ -76,5 +88,5 @@ fn lists<'r>(rt: &impl Abort, alloc: Global, mut parts: Vec<Part<'r>>) {
 fn lists_what_is_there(rt: HostRuntime) {
     let alloc = rt.alloc();
     let mut region = region(&rt, alloc, 1);
-    lists(&rt, alloc, parts(&rt, alloc, &mut region));
+    leaves(&rt, alloc, parts(&rt, alloc, &mut region));
 }

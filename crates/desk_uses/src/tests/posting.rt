@@ -52,18 +52,34 @@ fn comes_back(rt: &impl Abort, desk: &mut Desk<'_>) {
     counts_are(rt, desk, 0, 1);
 }
 
-// A batch is taken back and goes home. Then the cache is posted, in rounds, and both workers leave.
+// A batch is taken back and goes home, and another buffer is cached.
+fn takes_back<'r>(
+    rt: &impl Abort,
+    alloc: Global,
+    zero: &mut Desk<'r>,
+    one: &mut Desk<'r>,
+    parts: &mut Vec<Part<'r>>,
+) {
+    claim(rt, one, parts, class(15));
+    cache_one(rt, alloc, zero, one);
+    comes_back(rt, zero);
+    goes_home(rt, zero, one);
+    cache_one(rt, alloc, zero, one);
+}
+
+// The cache is posted, in rounds.
+fn rounds<'r>(rt: &impl Abort, zero: Desk<'r>, one: &mut Desk<'r>) -> Desk<'r> {
+    let zero = is_unsettled(rt, zero);
+    let zero = is_given_back(rt, zero);
+    is_posted(rt, zero, one)
+}
+
+// Then both workers leave.
 fn posts<'r>(rt: &impl Abort, alloc: Global, mut parts: Vec<Part<'r>>) {
     let mut one = desk(rt, 1);
     let mut zero = desk(rt, 0);
-    claim(rt, &mut one, &mut parts, class(15));
-    cache_one(rt, alloc, &mut zero, &mut one);
-    comes_back(rt, &mut zero);
-    goes_home(rt, &mut zero, &mut one);
-    cache_one(rt, alloc, &mut zero, &mut one);
-    let zero = is_unsettled(rt, zero);
-    let zero = is_given_back(rt, zero);
-    let zero = is_posted(rt, zero, &mut one);
+    takes_back(rt, alloc, &mut zero, &mut one, &mut parts);
+    let zero = rounds(rt, zero, &mut one);
     goes_to_another_worker(rt, retired(rt, zero), 0);
     goes_to_another_worker(rt, retired(rt, one), 8);
 }

@@ -1,5 +1,7 @@
 //! Why a desk refuses.
-use super::{Play, claim, class, counts_are, hold, lend, parts, plays, region};
+use super::{
+    Play, alloc_from, claim, claim_or_not, class, counts_are, hold, lend, parts, plays, region,
+};
 use digit_route::Digits;
 use pool_desk::{Desk, DeskError, IdleDesk};
 use region_cut::{Class, Part};
@@ -13,15 +15,10 @@ fn claim_is_refused<'r>(
     parts: &mut Vec<Part<'r>>,
     class: Class,
 ) {
-    let part = parts.pop().expect(rt, "a chunk");
-    assert!(rt; class.number() < desk.digits().profile().classes());
-    match desk.claim(part, class) {
-        Ok(()) => panic!(rt; "not needed"),
-        Err((part, error)) => {
-            assert!(rt; part.chunk() == 0);
-            assert!(rt; error == DeskError::NotNeeded);
-        }
-    }
+    let refused = claim_or_not(rt, desk, parts, class).err();
+    let (part, error) = refused.expect(rt, "not needed");
+    assert!(rt; part.chunk() == 0);
+    assert!(rt; error == DeskError::NotNeeded);
 }
 
 fn alloc_is_refused(
@@ -31,10 +28,8 @@ fn alloc_is_refused(
     size: usize,
     want: DeskError,
 ) {
-    match desk.alloc(alloc, size) {
-        Ok(_buf) => panic!(rt; "refused"),
-        Err(error) => assert!(rt; error == want),
-    }
+    let refused = alloc_from(alloc, desk, size).err();
+    assert!(rt; refused == Some(want));
 }
 
 pub fn refuses<'r>(rt: &impl Abort, alloc: Global, desk: &mut Desk<'r>, parts: &mut Vec<Part<'r>>) {
