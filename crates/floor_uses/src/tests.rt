@@ -41,15 +41,97 @@ fn gives(rt: &impl Abort, alloc: Global, floor: &mut Floor<'_>, request: Request
     answers(rt, alloc, floor, request, Ok(due));
 }
 
+fn adopts(rt: &impl Abort, alloc: Global, floor: &mut Floor<'_>, desk: u32, worker: u32) {
+    done(rt, alloc, floor, Request::Adopt(desk, worker));
+}
+
+// The desk draws a chunk for a class.
+fn claims(
+    rt: &impl Abort,
+    alloc: Global,
+    floor: &mut Floor<'_>,
+    desk: u32,
+    class: u32,
+    chunk: u16,
+) {
+    gives(
+        rt,
+        alloc,
+        floor,
+        Request::Claim(desk, class),
+        Reply::Chunk(chunk),
+    );
+}
+
+// The desk lends a slot of a chunk.
 fn lends(
     rt: &impl Abort,
     alloc: Global,
     floor: &mut Floor<'_>,
-    request: Request,
+    desk: u32,
+    size: u32,
     chunk: u16,
     index: u16,
 ) {
-    answers(rt, alloc, floor, request, slot(chunk, index));
+    answers(
+        rt,
+        alloc,
+        floor,
+        Request::Alloc(desk, size),
+        slot(chunk, index),
+    );
+}
+
+// A lent slot is freed at a desk that does not own it.
+fn caches(
+    rt: &impl Abort,
+    alloc: Global,
+    floor: &mut Floor<'_>,
+    desk: u32,
+    chunk: u32,
+    index: u32,
+) {
+    gives(
+        rt,
+        alloc,
+        floor,
+        Request::Free(desk, (chunk, index)),
+        Reply::Cached,
+    );
+}
+
+// A batch with this number, and so many buffers.
+fn sends(
+    rt: &impl Abort,
+    alloc: Global,
+    floor: &mut Floor<'_>,
+    from: u32,
+    to: u32,
+    number: u32,
+    count: u64,
+) {
+    gives(
+        rt,
+        alloc,
+        floor,
+        Request::Send(from, to),
+        Reply::Batch(number, count),
+    );
+}
+
+fn links(rt: &impl Abort, alloc: Global, floor: &mut Floor<'_>, number: u32) {
+    done(rt, alloc, floor, Request::Link(number));
+}
+
+// So many come home, and so many are passed on.
+fn takes(rt: &impl Abort, alloc: Global, floor: &mut Floor<'_>, desk: u32, home: u64, on: u64) {
+    gives(
+        rt,
+        alloc,
+        floor,
+        Request::Take(desk),
+        Reply::Counts(home, on),
+    );
 }
 
 fn refuses(rt: &impl Abort, alloc: Global, floor: &mut Floor<'_>, request: Request, due: Refusal) {

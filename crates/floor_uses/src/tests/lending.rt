@@ -1,5 +1,5 @@
 //! Claims, allocations and frees.
-use super::{Play, closes, counts_are, done, gives, lends, lent_is, plays, refuses};
+use super::{Play, adopts, claims, closes, counts_are, gives, lends, lent_is, plays, refuses};
 use digit_route::Digits;
 use event_floor::{Floor, Refusal, Reply, Request};
 use region_cut::Class;
@@ -7,9 +7,9 @@ use std::alloc::Global;
 use std::process::Abort;
 
 pub fn play_a_buffer_goes_out_and_home(rt: &impl Abort, alloc: Global, floor: &mut Floor<'_>) {
-    done(rt, alloc, floor, Request::Adopt(0, 5));
-    gives(rt, alloc, floor, Request::Claim(0, 0), Reply::Chunk(0));
-    lends(rt, alloc, floor, Request::Alloc(0, 16), 0, 0);
+    adopts(rt, alloc, floor, 0, 5);
+    claims(rt, alloc, floor, 0, 0, 0);
+    lends(rt, alloc, floor, 0, 16, 0, 0);
     gives(rt, alloc, floor, Request::Free(0, (0, 0)), Reply::Home);
     counts_are(rt, floor, 0, 256, 0, 0);
     closes(rt, floor, 1, (1, 0), (256, 0, 0));
@@ -21,12 +21,12 @@ fn a_buffer_goes_out_and_home(rt: HostRuntime) {
 }
 
 pub fn play_sizes_choose_classes(rt: &impl Abort, alloc: Global, floor: &mut Floor<'_>) {
-    done(rt, alloc, floor, Request::Adopt(0, 0));
+    adopts(rt, alloc, floor, 0, 0);
     refuses(rt, alloc, floor, Request::Alloc(0, 0), Refusal::NeedChunk);
-    gives(rt, alloc, floor, Request::Claim(0, 0), Reply::Chunk(0));
-    gives(rt, alloc, floor, Request::Claim(0, 15), Reply::Chunk(1));
-    lends(rt, alloc, floor, Request::Alloc(0, 0), 0, 0);
-    lends(rt, alloc, floor, Request::Alloc(0, 512), 1, 0);
+    claims(rt, alloc, floor, 0, 0, 0);
+    claims(rt, alloc, floor, 0, 15, 1);
+    lends(rt, alloc, floor, 0, 0, 0, 0);
+    lends(rt, alloc, floor, 0, 512, 1, 0);
     refuses(rt, alloc, floor, Request::Alloc(0, 513), Refusal::TooLarge);
     counts_are(rt, floor, 0, 262, 0, 0);
     closes(rt, floor, 1, (2, 2), (262, 0, 0));
@@ -47,7 +47,7 @@ fn lends_all(
     count: u16,
 ) {
     for index in 0..count {
-        lends(rt, alloc, floor, Request::Alloc(desk, size), 0, index);
+        lends(rt, alloc, floor, desk, size, 0, index);
     }
 }
 
@@ -56,8 +56,8 @@ pub fn play_a_chunk_has_its_slots_and_no_more(
     alloc: Global,
     floor: &mut Floor<'_>,
 ) {
-    done(rt, alloc, floor, Request::Adopt(0, 0));
-    gives(rt, alloc, floor, Request::Claim(0, 2), Reply::Chunk(0));
+    adopts(rt, alloc, floor, 0, 0);
+    claims(rt, alloc, floor, 0, 2, 0);
     lends_all(rt, alloc, floor, 0, 48, 85);
     refuses(rt, alloc, floor, Request::Alloc(0, 48), Refusal::NeedChunk);
     lent_is(rt, floor, 85);
@@ -72,9 +72,9 @@ pub fn play_refusals_come_in_their_order(rt: &impl Abort, alloc: Global, floor: 
     refuses(rt, alloc, floor, Request::Claim(0, 16), Refusal::Idle);
     refuses(rt, alloc, floor, Request::Alloc(0, 513), Refusal::Idle);
     refuses(rt, alloc, floor, Request::Free(0, (0, 0)), Refusal::Idle);
-    done(rt, alloc, floor, Request::Adopt(0, 0));
+    adopts(rt, alloc, floor, 0, 0);
     refuses(rt, alloc, floor, Request::Adopt(0, 1), Refusal::Held);
-    gives(rt, alloc, floor, Request::Claim(0, 15), Reply::Chunk(0));
+    claims(rt, alloc, floor, 0, 15, 0);
     refuses(rt, alloc, floor, Request::Claim(0, 15), Refusal::NotNeeded);
     refuses(rt, alloc, floor, Request::Claim(0, 14), Refusal::NoChunk);
     refuses(rt, alloc, floor, Request::Claim(0, 16), Refusal::BadClass);
@@ -105,16 +105,16 @@ fn refusals_come_in_their_order(rt: HostRuntime) {
 }
 
 pub fn play_the_last_freed_goes_first(rt: &impl Abort, alloc: Global, floor: &mut Floor<'_>) {
-    done(rt, alloc, floor, Request::Adopt(1, 7));
-    gives(rt, alloc, floor, Request::Claim(1, 15), Reply::Chunk(0));
-    lends(rt, alloc, floor, Request::Alloc(1, 449), 0, 0);
-    lends(rt, alloc, floor, Request::Alloc(1, 512), 0, 1);
+    adopts(rt, alloc, floor, 1, 7);
+    claims(rt, alloc, floor, 1, 15, 0);
+    lends(rt, alloc, floor, 1, 449, 0, 0);
+    lends(rt, alloc, floor, 1, 512, 0, 1);
     gives(rt, alloc, floor, Request::Free(1, (0, 1)), Reply::Home);
     refuses(rt, alloc, floor, Request::Free(1, (0, 1)), Refusal::NotLent);
     gives(rt, alloc, floor, Request::Free(1, (0, 0)), Reply::Home);
-    lends(rt, alloc, floor, Request::Alloc(1, 512), 0, 0);
-    lends(rt, alloc, floor, Request::Alloc(1, 512), 0, 1);
-    lends(rt, alloc, floor, Request::Alloc(1, 512), 0, 2);
+    lends(rt, alloc, floor, 1, 512, 0, 0);
+    lends(rt, alloc, floor, 1, 512, 0, 1);
+    lends(rt, alloc, floor, 1, 512, 0, 2);
     counts_are(rt, floor, 1, 5, 0, 0);
     closes(rt, floor, 2, (1, 3), (5, 0, 0));
 }
@@ -139,12 +139,12 @@ fn free_all(
 }
 
 pub fn play_a_cache_is_due_above_the_limit(rt: &impl Abort, alloc: Global, floor: &mut Floor<'_>) {
-    done(rt, alloc, floor, Request::Adopt(0, 0));
-    done(rt, alloc, floor, Request::Adopt(1, 1));
-    gives(rt, alloc, floor, Request::Claim(1, 15), Reply::Chunk(0));
+    adopts(rt, alloc, floor, 0, 0);
+    adopts(rt, alloc, floor, 1, 1);
+    claims(rt, alloc, floor, 1, 15, 0);
     lends_all(rt, alloc, floor, 1, 512, 8);
-    gives(rt, alloc, floor, Request::Claim(1, 15), Reply::Chunk(1));
-    lends(rt, alloc, floor, Request::Alloc(1, 512), 1, 0);
+    claims(rt, alloc, floor, 1, 15, 1);
+    lends(rt, alloc, floor, 1, 512, 1, 0);
     free_all(rt, alloc, floor, 0, 8, Reply::Cached);
     gives(rt, alloc, floor, Request::Free(0, (1, 0)), Reply::Due);
     lent_is(rt, floor, 0);
@@ -164,8 +164,8 @@ fn tells(rt: &impl Abort, floor: &Floor<'_>) {
 }
 
 pub fn play_counts_and_classes(rt: &impl Abort, alloc: Global, floor: &mut Floor<'_>) {
-    done(rt, alloc, floor, Request::Adopt(1, 3));
-    gives(rt, alloc, floor, Request::Claim(1, 2), Reply::Chunk(0));
+    adopts(rt, alloc, floor, 1, 3);
+    claims(rt, alloc, floor, 1, 2, 0);
     tells(rt, floor);
     counts_are(rt, floor, 1, 85, 0, 0);
     closes(rt, floor, 2, (1, 0), (85, 0, 0));

@@ -1,6 +1,6 @@
 //! The lists of slots.
-use super::{Play, done, gives, lends, lent_is, plays};
-use event_floor::{Floor, Reply, Request};
+use super::{Play, adopts, caches, claims, done, lends, lent_is, plays, sends, slot};
+use event_floor::{Floor, Request};
 use region_cut::Slot;
 use slot_chain::NoMemory;
 use std::alloc::Global;
@@ -65,16 +65,16 @@ fn is_at(rt: &impl Abort, slot: Slot, chunk: u16, index: u16) {
 }
 
 pub fn play_lent_and_queued(rt: &impl Abort, alloc: Global, floor: &mut Floor<'_>) {
-    done(rt, alloc, floor, Request::Adopt(0, 0));
-    done(rt, alloc, floor, Request::Adopt(1, 1));
-    gives(rt, alloc, floor, Request::Claim(1, 15), Reply::Chunk(0));
-    lends(rt, alloc, floor, Request::Alloc(1, 512), 0, 0);
-    lends(rt, alloc, floor, Request::Alloc(1, 512), 0, 1);
-    lends(rt, alloc, floor, Request::Alloc(1, 512), 0, 2);
-    lends(rt, alloc, floor, Request::Alloc(1, 512), 0, 3);
-    gives(rt, alloc, floor, Request::Free(0, (0, 2)), Reply::Cached);
-    gives(rt, alloc, floor, Request::Free(0, (0, 0)), Reply::Cached);
-    gives(rt, alloc, floor, Request::Send(0, 1), Reply::Batch(1, 2));
+    adopts(rt, alloc, floor, 0, 0);
+    adopts(rt, alloc, floor, 1, 1);
+    claims(rt, alloc, floor, 1, 15, 0);
+    lends(rt, alloc, floor, 1, 512, 0, 0);
+    lends(rt, alloc, floor, 1, 512, 0, 1);
+    lends(rt, alloc, floor, 1, 512, 0, 2);
+    lends(rt, alloc, floor, 1, 512, 0, 3);
+    caches(rt, alloc, floor, 0, 0, 2);
+    caches(rt, alloc, floor, 0, 0, 0);
+    sends(rt, alloc, floor, 0, 1, 1, 2);
     lists(rt, lent_of(alloc, floor), &[(0, 1), (0, 3)]);
     lists(rt, queued_of(alloc, floor, 1), &[(0, 0), (0, 2)]);
     lists(rt, queued_of(alloc, floor, 0), &[]);
@@ -87,12 +87,12 @@ fn lent_and_queued(rt: HostRuntime) {
 }
 
 pub fn play_home_and_cached(rt: &impl Abort, alloc: Global, floor: &mut Floor<'_>) {
-    done(rt, alloc, floor, Request::Adopt(0, 0));
-    done(rt, alloc, floor, Request::Adopt(1, 1));
-    gives(rt, alloc, floor, Request::Claim(1, 15), Reply::Chunk(0));
-    lends(rt, alloc, floor, Request::Alloc(1, 512), 0, 0);
-    lends(rt, alloc, floor, Request::Alloc(1, 512), 0, 1);
-    gives(rt, alloc, floor, Request::Free(0, (0, 1)), Reply::Cached);
+    adopts(rt, alloc, floor, 0, 0);
+    adopts(rt, alloc, floor, 1, 1);
+    claims(rt, alloc, floor, 1, 15, 0);
+    lends(rt, alloc, floor, 1, 512, 0, 0);
+    lends(rt, alloc, floor, 1, 512, 0, 1);
+    caches(rt, alloc, floor, 0, 0, 1);
     done(rt, alloc, floor, Request::Retire(1));
     lists(rt, cached_of(alloc, floor, 0), &[(0, 1)]);
     lists(rt, home_of(alloc, floor, 0), &[]);

@@ -1,39 +1,45 @@
 //! Which way batches go. Desks 0, 7, 11 and 27 are read in digits of 2 bits as 0,0,0, 3,1,0, 3,2,0 and 3,2,1, the least digit
 //! first; in digits of 4 bits desks 17 and 33 are 1,1 and 1,2.
 use super::{
-    Answer, Play, Row, closes, counts_are, done, gives, is_answer, lends, plays, refuses, slot,
+    Answer, Play, Row, adopts, caches, claims, closes, counts_are, is_answer, lends, links, plays,
+    refuses, sends, slot, takes,
 };
 use event_floor::{Floor, Refusal, Reply, Request};
 use std::alloc::Global;
 use std::process::Abort;
+
+// Desks 7, 11 and 27 lend a buffer each, which is freed at 0.
+fn frees_three(rt: &impl Abort, alloc: Global, floor: &mut Floor<'_>) {
+    adopts(rt, alloc, floor, 0, 0);
+    adopts(rt, alloc, floor, 7, 1);
+    adopts(rt, alloc, floor, 11, 2);
+    adopts(rt, alloc, floor, 27, 3);
+    claims(rt, alloc, floor, 7, 15, 0);
+    claims(rt, alloc, floor, 11, 15, 1);
+    claims(rt, alloc, floor, 27, 15, 2);
+    lends(rt, alloc, floor, 7, 512, 0, 0);
+    lends(rt, alloc, floor, 11, 512, 1, 0);
+    lends(rt, alloc, floor, 27, 512, 2, 0);
+    caches(rt, alloc, floor, 0, 0, 0);
+    caches(rt, alloc, floor, 0, 1, 0);
+    caches(rt, alloc, floor, 0, 2, 0);
+}
 
 pub fn play_a_buffer_is_passed_on_digit_by_digit(
     rt: &impl Abort,
     alloc: Global,
     floor: &mut Floor<'_>,
 ) {
-    done(rt, alloc, floor, Request::Adopt(0, 0));
-    done(rt, alloc, floor, Request::Adopt(7, 1));
-    done(rt, alloc, floor, Request::Adopt(11, 2));
-    done(rt, alloc, floor, Request::Adopt(27, 3));
-    gives(rt, alloc, floor, Request::Claim(7, 15), Reply::Chunk(0));
-    gives(rt, alloc, floor, Request::Claim(11, 15), Reply::Chunk(1));
-    gives(rt, alloc, floor, Request::Claim(27, 15), Reply::Chunk(2));
-    lends(rt, alloc, floor, Request::Alloc(7, 512), 0, 0);
-    lends(rt, alloc, floor, Request::Alloc(11, 512), 1, 0);
-    lends(rt, alloc, floor, Request::Alloc(27, 512), 2, 0);
-    gives(rt, alloc, floor, Request::Free(0, (0, 0)), Reply::Cached);
-    gives(rt, alloc, floor, Request::Free(0, (1, 0)), Reply::Cached);
-    gives(rt, alloc, floor, Request::Free(0, (2, 0)), Reply::Cached);
-    gives(rt, alloc, floor, Request::Send(0, 7), Reply::Batch(1, 3));
-    done(rt, alloc, floor, Request::Link(1));
-    gives(rt, alloc, floor, Request::Take(7), Reply::Counts(1, 2));
-    gives(rt, alloc, floor, Request::Send(7, 11), Reply::Batch(2, 2));
-    done(rt, alloc, floor, Request::Link(2));
-    gives(rt, alloc, floor, Request::Take(11), Reply::Counts(1, 1));
-    gives(rt, alloc, floor, Request::Send(11, 27), Reply::Batch(3, 1));
-    done(rt, alloc, floor, Request::Link(3));
-    gives(rt, alloc, floor, Request::Take(27), Reply::Counts(1, 0));
+    frees_three(rt, alloc, floor);
+    sends(rt, alloc, floor, 0, 7, 1, 3);
+    links(rt, alloc, floor, 1);
+    takes(rt, alloc, floor, 7, 1, 2);
+    sends(rt, alloc, floor, 7, 11, 2, 2);
+    links(rt, alloc, floor, 2);
+    takes(rt, alloc, floor, 11, 1, 1);
+    sends(rt, alloc, floor, 11, 27, 3, 1);
+    links(rt, alloc, floor, 3);
+    takes(rt, alloc, floor, 27, 1, 0);
     counts_are(rt, floor, 7, 8, 0, 0);
     counts_are(rt, floor, 11, 8, 0, 0);
     counts_are(rt, floor, 27, 8, 0, 0);
@@ -57,28 +63,16 @@ pub fn play_with_one_digit_nothing_is_passed_on(
     alloc: Global,
     floor: &mut Floor<'_>,
 ) {
-    done(rt, alloc, floor, Request::Adopt(0, 0));
-    done(rt, alloc, floor, Request::Adopt(7, 1));
-    done(rt, alloc, floor, Request::Adopt(11, 2));
-    done(rt, alloc, floor, Request::Adopt(27, 3));
-    gives(rt, alloc, floor, Request::Claim(7, 15), Reply::Chunk(0));
-    gives(rt, alloc, floor, Request::Claim(11, 15), Reply::Chunk(1));
-    gives(rt, alloc, floor, Request::Claim(27, 15), Reply::Chunk(2));
-    lends(rt, alloc, floor, Request::Alloc(7, 512), 0, 0);
-    lends(rt, alloc, floor, Request::Alloc(11, 512), 1, 0);
-    lends(rt, alloc, floor, Request::Alloc(27, 512), 2, 0);
-    gives(rt, alloc, floor, Request::Free(0, (0, 0)), Reply::Cached);
-    gives(rt, alloc, floor, Request::Free(0, (1, 0)), Reply::Cached);
-    gives(rt, alloc, floor, Request::Free(0, (2, 0)), Reply::Cached);
-    gives(rt, alloc, floor, Request::Send(0, 7), Reply::Batch(1, 1));
-    done(rt, alloc, floor, Request::Link(1));
-    gives(rt, alloc, floor, Request::Take(7), Reply::Counts(1, 0));
-    gives(rt, alloc, floor, Request::Send(0, 11), Reply::Batch(2, 1));
-    done(rt, alloc, floor, Request::Link(2));
-    gives(rt, alloc, floor, Request::Take(11), Reply::Counts(1, 0));
-    gives(rt, alloc, floor, Request::Send(0, 27), Reply::Batch(3, 1));
-    done(rt, alloc, floor, Request::Link(3));
-    gives(rt, alloc, floor, Request::Take(27), Reply::Counts(1, 0));
+    frees_three(rt, alloc, floor);
+    sends(rt, alloc, floor, 0, 7, 1, 1);
+    links(rt, alloc, floor, 1);
+    takes(rt, alloc, floor, 7, 1, 0);
+    sends(rt, alloc, floor, 0, 11, 2, 1);
+    links(rt, alloc, floor, 2);
+    takes(rt, alloc, floor, 11, 1, 0);
+    sends(rt, alloc, floor, 0, 27, 3, 1);
+    links(rt, alloc, floor, 3);
+    takes(rt, alloc, floor, 27, 1, 0);
     counts_are(rt, floor, 7, 8, 0, 0);
     counts_are(rt, floor, 11, 8, 0, 0);
     counts_are(rt, floor, 27, 8, 0, 0);
@@ -98,21 +92,21 @@ fn with_one_digit_nothing_is_passed_on(rt: HostRuntime) {
 }
 
 pub fn play_two_digits_of_four_bits(rt: &impl Abort, alloc: Global, floor: &mut Floor<'_>) {
-    done(rt, alloc, floor, Request::Adopt(0, 0));
-    done(rt, alloc, floor, Request::Adopt(17, 1));
-    done(rt, alloc, floor, Request::Adopt(33, 2));
-    gives(rt, alloc, floor, Request::Claim(17, 0), Reply::Chunk(0));
-    gives(rt, alloc, floor, Request::Claim(33, 0), Reply::Chunk(1));
-    lends(rt, alloc, floor, Request::Alloc(17, 1), 0, 0);
-    lends(rt, alloc, floor, Request::Alloc(33, 1), 1, 0);
-    gives(rt, alloc, floor, Request::Free(0, (0, 0)), Reply::Cached);
-    gives(rt, alloc, floor, Request::Free(0, (1, 0)), Reply::Cached);
-    gives(rt, alloc, floor, Request::Send(0, 17), Reply::Batch(1, 2));
-    done(rt, alloc, floor, Request::Link(1));
-    gives(rt, alloc, floor, Request::Take(17), Reply::Counts(1, 1));
-    gives(rt, alloc, floor, Request::Send(17, 33), Reply::Batch(2, 1));
-    done(rt, alloc, floor, Request::Link(2));
-    gives(rt, alloc, floor, Request::Take(33), Reply::Counts(1, 0));
+    adopts(rt, alloc, floor, 0, 0);
+    adopts(rt, alloc, floor, 17, 1);
+    adopts(rt, alloc, floor, 33, 2);
+    claims(rt, alloc, floor, 17, 0, 0);
+    claims(rt, alloc, floor, 33, 0, 1);
+    lends(rt, alloc, floor, 17, 1, 0, 0);
+    lends(rt, alloc, floor, 33, 1, 1, 0);
+    caches(rt, alloc, floor, 0, 0, 0);
+    caches(rt, alloc, floor, 0, 1, 0);
+    sends(rt, alloc, floor, 0, 17, 1, 2);
+    links(rt, alloc, floor, 1);
+    takes(rt, alloc, floor, 17, 1, 1);
+    sends(rt, alloc, floor, 17, 33, 2, 1);
+    links(rt, alloc, floor, 2);
+    takes(rt, alloc, floor, 33, 1, 0);
     counts_are(rt, floor, 17, 256, 0, 0);
     counts_are(rt, floor, 33, 256, 0, 0);
     closes(rt, floor, 64, (2, 0), (512, 0, 0));
@@ -128,11 +122,11 @@ pub fn play_sends_are_refused_in_their_order(
     alloc: Global,
     floor: &mut Floor<'_>,
 ) {
-    done(rt, alloc, floor, Request::Adopt(0, 0));
-    done(rt, alloc, floor, Request::Adopt(27, 1));
-    gives(rt, alloc, floor, Request::Claim(27, 15), Reply::Chunk(0));
-    lends(rt, alloc, floor, Request::Alloc(27, 500), 0, 0);
-    gives(rt, alloc, floor, Request::Free(0, (0, 0)), Reply::Cached);
+    adopts(rt, alloc, floor, 0, 0);
+    adopts(rt, alloc, floor, 27, 1);
+    claims(rt, alloc, floor, 27, 15, 0);
+    lends(rt, alloc, floor, 27, 500, 0, 0);
+    caches(rt, alloc, floor, 0, 0, 0);
     refuses(rt, alloc, floor, Request::Send(0, 3), Refusal::NotAnOwner);
     refuses(rt, alloc, floor, Request::Send(0, 2), Refusal::NothingFor);
     refuses(rt, alloc, floor, Request::Send(0, 0), Refusal::ToSelf);
