@@ -1,7 +1,9 @@
 //! What is written through a desk's buffers is what the region holds when its borrow ends, also where a class went on to a second chunk.
-use super::{claim, class, counts_are, desk, free_is, lend_some, parts, region};
+use super::{
+    Play, bytes_of, claim, class, counts_are, desk, free_is, hold, lend_some, parts_or_not,
+};
 use pool_desk::{Desk, Freed};
-use region_cut::CHUNK;
+use region_cut::{CHUNK, Part};
 use slot_chain::{Buf, Chain};
 use std::alloc::Global;
 use std::process::Abort;
@@ -23,19 +25,30 @@ fn write_some<'r>(rt: &impl Abort, desk: &mut Desk<'r>, count: u32, lent: &mut C
 }
 
 // Class 12 has 12 slots of 320 bytes, and 256 bytes at a chunk's end that are in no slot. All slots of two chunks are lent, and then written.
+pub fn writes<'r>(
+    rt: &impl Abort,
+    alloc: Global,
+    desk: &mut Desk<'r>,
+    parts: &mut Vec<Part<'r>>,
+    lent: &mut Chain<'r>,
+) {
+    claim(rt, desk, parts, class(12));
+    lend_some(rt, alloc, desk, 300, 12, lent);
+    claim(rt, desk, parts, class(12));
+    lend_some(rt, alloc, desk, 300, 12, lent);
+    write_some(rt, desk, 24, lent);
+    counts_are(rt, desk, 24, 0);
+}
+
+// Nothing is written where memory was refused.
 fn write_region(rt: &impl Abort, alloc: Global, region: &mut [u8]) -> bool {
-    let Some(mut parts) = parts(rt, alloc, region) else {
-        return false;
-    };
-    let mut desk = desk(rt, 3);
-    let mut lent = Chain::new();
-    claim(rt, &mut desk, &mut parts, class(12));
-    lend_some(rt, alloc, &mut desk, 300, 12, &mut lent);
-    claim(rt, &mut desk, &mut parts, class(12));
-    lend_some(rt, alloc, &mut desk, 300, 12, &mut lent);
-    write_some(rt, &mut desk, 24, &mut lent);
-    counts_are(rt, &desk, 24, 0);
-    true
+    match parts_or_not(rt, alloc, region) {
+        Some(parts) => {
+            hold(rt, alloc, Play::Writes, desk(rt, 3), desk(rt, 0), parts);
+            true
+        }
+        None => false,
+    }
 }
 
 fn holds(rt: &impl Abort, region: &[u8], place: usize, want: u8) {
@@ -62,9 +75,7 @@ fn check(rt: &impl Abort, region: &[u8]) {
 #[test]
 fn writes_reach_the_region(rt: HostRuntime) {
     let alloc = rt.alloc();
-    let Some(mut region) = region(alloc, 2 * CHUNK, 201) else {
-        return;
-    };
+    let mut region = bytes_of(&rt, alloc, 2 * CHUNK, 201);
     if write_region(&rt, alloc, &mut region) {
         check(&rt, &region);
     }

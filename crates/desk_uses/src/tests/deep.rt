@@ -1,13 +1,14 @@
-//! Lists that are too long for a recursion: 400 chunks of 256 slots.
-use super::{claim, class, counts_are, desk, free, lend_some, parts, region};
+//! Lists that are too long for a recursion: 800 chunks of 256 slots.
+use super::{Play, claim, class, counts_are, free, lend_some, plays};
 use pool_desk::Desk;
-use region_cut::{CHUNK, Part};
+use region_cut::Part;
 use slot_chain::Chain;
 use std::alloc::Global;
 use std::process::Abort;
 
-const CHUNKS: u32 = 400;
+const CHUNKS: u32 = 800;
 
+// Half of the slots.
 const COUNT: u64 = 102_400;
 
 // All slots of so many chunks of class 0 are lent.
@@ -16,14 +17,12 @@ fn lend_all<'r>(
     alloc: Global,
     desk: &mut Desk<'r>,
     parts: &mut Vec<Part<'r>>,
-    chunks: u32,
-) -> Chain<'r> {
-    let mut lent = Chain::new();
-    for _ in 0..chunks {
+    lent: &mut Chain<'r>,
+) {
+    for _ in 0..CHUNKS {
         claim(rt, desk, parts, class(0));
-        lend_some(rt, alloc, desk, 16, 256, &mut lent);
+        lend_some(rt, alloc, desk, 16, 256, lent);
     }
-    lent
 }
 
 fn free_some<'r>(rt: &impl Abort, desk: &mut Desk<'r>, count: u64, lent: &mut Chain<'r>) {
@@ -33,35 +32,23 @@ fn free_some<'r>(rt: &impl Abort, desk: &mut Desk<'r>, count: u64, lent: &mut Ch
     }
 }
 
-#[test]
-fn a_long_list_takes_no_depth(rt: HostRuntime) {
-    let alloc = rt.alloc();
-    let Some(mut region) = region(alloc, 400 * CHUNK, 0) else {
-        return;
-    };
-    let Some(mut parts) = parts(&rt, alloc, &mut region) else {
-        return;
-    };
-    let mut owner = desk(&rt, 1);
-    let mut lent = lend_all(&rt, alloc, &mut owner, &mut parts, CHUNKS);
-    free_some(&rt, &mut owner, COUNT, &mut lent);
-    counts_are(&rt, &owner, COUNT, 0);
-    drop(owner);
+// Half of all slots come home, and half are freed at another desk. Both desks go with their lists.
+pub fn frees_all<'r>(
+    rt: &impl Abort,
+    alloc: Global,
+    owner: &mut Desk<'r>,
+    other: &mut Desk<'r>,
+    parts: &mut Vec<Part<'r>>,
+    lent: &mut Chain<'r>,
+) {
+    lend_all(rt, alloc, owner, parts, lent);
+    free_some(rt, owner, COUNT, lent);
+    free_some(rt, other, COUNT, lent);
+    counts_are(rt, owner, COUNT, 0);
+    counts_are(rt, other, 0, COUNT);
 }
 
 #[test]
-fn a_long_cache_takes_no_depth(rt: HostRuntime) {
-    let alloc = rt.alloc();
-    let Some(mut region) = region(alloc, 400 * CHUNK, 0) else {
-        return;
-    };
-    let Some(mut parts) = parts(&rt, alloc, &mut region) else {
-        return;
-    };
-    let mut owner = desk(&rt, 1);
-    let mut lent = lend_all(&rt, alloc, &mut owner, &mut parts, CHUNKS);
-    let mut other = desk(&rt, 0);
-    free_some(&rt, &mut other, COUNT, &mut lent);
-    counts_are(&rt, &other, 0, COUNT);
-    drop(other);
+fn long_lists_take_no_depth(rt: HostRuntime) {
+    plays(&rt, rt.alloc(), Play::FreesAll, (1, 0), 800);
 }

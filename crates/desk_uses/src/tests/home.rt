@@ -1,7 +1,9 @@
 //! What is at home.
-use super::{claim, class, counts_are, desk, free_is, lend, lend_or_not, parts, region};
+use super::{
+    Play, alloc_from, claim, class, counts, counts_are, free_is, lend, lend_or_not, plays,
+};
 use pool_desk::{Desk, Freed};
-use region_cut::{CHUNK, Part};
+use region_cut::Part;
 use slot_chain::{Buf, Chain};
 use std::alloc::Global;
 use std::process::Abort;
@@ -23,50 +25,36 @@ fn lend_next<'r>(rt: &impl Abort, alloc: Global, desk: &mut Desk<'r>, index: u16
 
 // A slot that came home before, for which no memory is taken.
 fn lend_again<'r>(rt: &impl Abort, alloc: Global, desk: &mut Desk<'r>, index: u16) -> Buf<'r> {
-    let buf = desk.alloc(alloc, 449).ok().expect(rt, "one came home");
+    let buf = alloc_from(alloc, desk, 449)
+        .ok()
+        .expect(rt, "one came home");
     is_slot(rt, &buf, index);
     buf
-}
-
-#[test]
-fn gives_the_last_freed_first(rt: HostRuntime) {
-    let alloc = rt.alloc();
-    let Some(mut region) = region(alloc, CHUNK, 0) else {
-        return;
-    };
-    let Some(mut parts) = parts(&rt, alloc, &mut region) else {
-        return;
-    };
-    let mut desk = desk(&rt, 5);
-    claim(&rt, &mut desk, &mut parts, class(15));
-    let first = lend_next(&rt, alloc, &mut desk, 0);
-    let second = lend_next(&rt, alloc, &mut desk, 1);
-    let _third = lend_next(&rt, alloc, &mut desk, 2);
-    free_is(&rt, &mut desk, second, Freed::Home);
-    free_is(&rt, &mut desk, first, Freed::Home);
-    let _first = lend_again(&rt, alloc, &mut desk, 0);
-    let _second = lend_again(&rt, alloc, &mut desk, 1);
-    let _fourth = lend_next(&rt, alloc, &mut desk, 3);
 }
 
 fn has(rt: &impl Abort, desk: &Desk<'_>, number: u32, want: bool) {
     assert!(rt; desk.has_home(class(number)) == want);
 }
 
+// It has the slots of its class alone.
+pub fn gives<'r>(rt: &impl Abort, alloc: Global, desk: &mut Desk<'r>, parts: &mut Vec<Part<'r>>) {
+    has(rt, desk, 15, false);
+    claim(rt, desk, parts, class(15));
+    has(rt, desk, 15, true);
+    has(rt, desk, 14, false);
+    let first = lend_next(rt, alloc, desk, 0);
+    let second = lend_next(rt, alloc, desk, 1);
+    let _third = lend_next(rt, alloc, desk, 2);
+    free_is(rt, desk, second, Freed::Home);
+    free_is(rt, desk, first, Freed::Home);
+    let _first = lend_again(rt, alloc, desk, 0);
+    let _second = lend_again(rt, alloc, desk, 1);
+    let _fourth = lend_next(rt, alloc, desk, 3);
+}
+
 #[test]
-fn has_the_slots_of_its_class_alone(rt: HostRuntime) {
-    let alloc = rt.alloc();
-    let Some(mut region) = region(alloc, CHUNK, 0) else {
-        return;
-    };
-    let Some(mut parts) = parts(&rt, alloc, &mut region) else {
-        return;
-    };
-    let mut desk = desk(&rt, 5);
-    has(&rt, &desk, 15, false);
-    claim(&rt, &mut desk, &mut parts, class(15));
-    has(&rt, &desk, 15, true);
-    has(&rt, &desk, 14, false);
+fn gives_the_last_freed_first(rt: HostRuntime) {
+    plays(&rt, rt.alloc(), Play::Gives, (5, 0), 1);
 }
 
 // Lends where memory is there, and counts what stays at home.
@@ -86,25 +74,26 @@ fn lend_what_goes<'r>(
 
 // Of eight slots.
 fn at_most_one(rt: &impl Abort, desk: &Desk<'_>, lent: &Chain<'_>) {
-    assert!(rt; desk.counts().0 <= 1);
+    assert!(rt; counts(desk).0 <= 1);
     assert!(rt; lent.len() >= 7);
 }
 
 // Of the eight slots each is given out at its first try, but for one where an allocation is refused.
+pub fn gives_all<'r>(
+    rt: &impl Abort,
+    alloc: Global,
+    desk: &mut Desk<'r>,
+    parts: &mut Vec<Part<'r>>,
+    lent: &mut Chain<'r>,
+) {
+    claim(rt, desk, parts, class(15));
+    lend_what_goes(rt, alloc, desk, 8, lent);
+    at_most_one(rt, desk, lent);
+}
+
 #[test]
 fn wants_memory_only_where_it_was_refused(rt: HostRuntime) {
-    let alloc = rt.alloc();
-    let Some(mut region) = region(alloc, CHUNK, 0) else {
-        return;
-    };
-    let Some(mut parts) = parts(&rt, alloc, &mut region) else {
-        return;
-    };
-    let mut desk = desk(&rt, 5);
-    claim(&rt, &mut desk, &mut parts, class(15));
-    let mut lent = Chain::new();
-    lend_what_goes(&rt, alloc, &mut desk, 8, &mut lent);
-    at_most_one(&rt, &desk, &lent);
+    plays(&rt, rt.alloc(), Play::GivesAll, (5, 0), 1);
 }
 
 // Buffers of 512 bytes of one desk are freed at another. A chunk has eight of them.
@@ -122,7 +111,8 @@ fn cache<'r>(
     }
 }
 
-fn fill_two<'r>(
+// Eight buffers of 512 bytes are the limit, and the ninth is above it.
+pub fn fills_two<'r>(
     rt: &impl Abort,
     alloc: Global,
     owner: &mut Desk<'r>,
@@ -133,21 +123,11 @@ fn fill_two<'r>(
     cache(rt, alloc, owner, other, 8, Freed::Cached);
     claim(rt, owner, parts, class(15));
     cache(rt, alloc, owner, other, 1, Freed::Due);
+    counts_are(rt, other, 0, 9);
+    counts_are(rt, owner, 7, 0);
 }
 
-// Eight buffers of 512 bytes are the limit, and the ninth is above it.
 #[test]
 fn is_due_above_the_limit_alone(rt: HostRuntime) {
-    let alloc = rt.alloc();
-    let Some(mut region) = region(alloc, 2 * CHUNK, 0) else {
-        return;
-    };
-    let Some(mut parts) = parts(&rt, alloc, &mut region) else {
-        return;
-    };
-    let mut owner = desk(&rt, 1);
-    let mut other = desk(&rt, 0);
-    fill_two(&rt, alloc, &mut owner, &mut other, &mut parts);
-    counts_are(&rt, &other, 0, 9);
-    counts_are(&rt, &owner, 7, 0);
+    plays(&rt, rt.alloc(), Play::Fills, (1, 0), 2);
 }

@@ -1,7 +1,7 @@
 //! Slots are listed.
-use super::{claim, class, desk, free_is, lend, parts, region, retired};
+use super::{claim, class, desk, free_is, goes_home, lend, parts, region, retired};
 use pool_desk::{Desk, Freed, IdleDesk};
-use region_cut::{CHUNK, Part, Slot};
+use region_cut::{Part, Slot};
 use slot_chain::{Buf, Chain};
 use std::alloc::Global;
 use std::process::Abort;
@@ -31,6 +31,19 @@ fn check(rt: &impl Abort, slots: &[Slot]) {
     }
 }
 
+fn list_both(rt: &impl Abort, alloc: Global, owner: &Desk<'_>, other: &Desk<'_>) {
+    let mut slots = Vec::new(alloc);
+    list_held(rt, owner, &mut slots);
+    list_held(rt, other, &mut slots);
+    check(rt, slots.as_slice());
+}
+
+fn list_left(rt: &impl Abort, alloc: Global, idle: &IdleDesk<'_>) {
+    let mut slots = Vec::new(alloc);
+    list_idle(rt, idle, &mut slots);
+    check(rt, slots.as_slice());
+}
+
 // The first slot stays lent, the second comes home, and the third is given to the caller. Six were never handed out.
 fn spread<'r>(
     rt: &impl Abort,
@@ -47,42 +60,33 @@ fn spread<'r>(
     away
 }
 
+// The third slot is cached at the other desk, and then sent home.
+fn lists<'r>(
+    rt: &impl Abort,
+    alloc: Global,
+    owner: &mut Desk<'r>,
+    other: &mut Desk<'r>,
+    parts: &mut Vec<Part<'r>>,
+    lent: &mut Chain<'r>,
+) {
+    let away = spread(rt, alloc, owner, parts, lent);
+    free_is(rt, other, away, Freed::Cached);
+    list_both(rt, alloc, owner, other);
+    goes_home(rt, other, owner);
+}
+
+// What is listed then is there also when the worker leaves.
+fn leaves<'r>(rt: &impl Abort, alloc: Global, mut parts: Vec<Part<'r>>) {
+    let mut lent = Chain::new();
+    let mut owner = desk(rt, 1);
+    let mut other = desk(rt, 0);
+    lists(rt, alloc, &mut owner, &mut other, &mut parts, &mut lent);
+    list_left(rt, alloc, &retired(rt, owner));
+}
+
 #[test]
 fn lists_what_is_there(rt: HostRuntime) {
     let alloc = rt.alloc();
-    let Some(mut region) = region(alloc, CHUNK, 0) else {
-        return;
-    };
-    let Some(mut parts) = parts(&rt, alloc, &mut region) else {
-        return;
-    };
-    let mut lent = Chain::new();
-    let mut owner = desk(&rt, 1);
-    let mut other = desk(&rt, 0);
-    let away = spread(&rt, alloc, &mut owner, &mut parts, &mut lent);
-    free_is(&rt, &mut other, away, Freed::Cached);
-    let mut slots = Vec::new(alloc);
-    list_held(&rt, &owner, &mut slots);
-    list_held(&rt, &other, &mut slots);
-    check(&rt, slots.as_slice());
-}
-
-// The second and the third slot are at home.
-#[test]
-fn lists_what_stays_when_a_worker_leaves(rt: HostRuntime) {
-    let alloc = rt.alloc();
-    let Some(mut region) = region(alloc, CHUNK, 0) else {
-        return;
-    };
-    let Some(mut parts) = parts(&rt, alloc, &mut region) else {
-        return;
-    };
-    let mut lent = Chain::new();
-    let mut owner = desk(&rt, 1);
-    let away = spread(&rt, alloc, &mut owner, &mut parts, &mut lent);
-    free_is(&rt, &mut owner, away, Freed::Home);
-    let idle = retired(&rt, owner);
-    let mut slots = Vec::new(alloc);
-    list_idle(&rt, &idle, &mut slots);
-    check(&rt, slots.as_slice());
+    let mut region = region(&rt, alloc, 1);
+    leaves(&rt, alloc, parts(&rt, alloc, &mut region));
 }

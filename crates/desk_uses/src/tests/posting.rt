@@ -1,29 +1,16 @@
 //! A cache is posted, and what could not be posted comes back.
-use super::{claim, class, counts_are, desk, free_is, handle, lend, parts, region, retired};
-use digit_route::Batch;
+use super::{
+    claim, class, comes_home, counts_are, desk, free_is, goes_home, lend, parts, region, retired,
+};
 use pool_desk::{Desk, Freed, IdleDesk};
-use region_cut::{CHUNK, Part};
+use region_cut::Part;
 use std::alloc::Global;
 use std::process::Abort;
 
-// A desk whose cache has one buffer of the other.
-fn cached<'r>(
-    rt: &impl Abort,
-    alloc: Global,
-    owner: &mut Desk<'r>,
-    parts: &mut Vec<Part<'r>>,
-) -> Desk<'r> {
-    claim(rt, owner, parts, class(15));
+// The cache gets one buffer of the other desk.
+fn cache_one<'r>(rt: &impl Abort, alloc: Global, desk: &mut Desk<'r>, owner: &mut Desk<'r>) {
     let buf = lend(rt, alloc, owner, 512);
-    let mut desk = desk(rt, 0);
-    free_is(rt, &mut desk, buf, Freed::Cached);
-    desk
-}
-
-// One buffer comes home, and none goes on.
-fn comes_home<'r>(rt: &impl Abort, owner: &mut Desk<'r>, batch: Batch<'r>) {
-    let counts = handle(rt, owner, batch);
-    assert!(rt; counts.home == 1 && counts.on == 0);
+    free_is(rt, desk, buf, Freed::Cached);
 }
 
 // Its one batch comes back to it.
@@ -57,24 +44,6 @@ fn goes_to_another_worker(rt: &impl Abort, idle: IdleDesk<'_>, home: u64) {
     counts_are(rt, &desk, home, 0);
 }
 
-#[test]
-fn posts_in_rounds(rt: HostRuntime) {
-    let alloc = rt.alloc();
-    let Some(mut region) = region(alloc, CHUNK, 0) else {
-        return;
-    };
-    let Some(mut parts) = parts(&rt, alloc, &mut region) else {
-        return;
-    };
-    let mut one = desk(&rt, 1);
-    let zero = cached(&rt, alloc, &mut one, &mut parts);
-    let zero = is_unsettled(&rt, zero);
-    let zero = is_given_back(&rt, zero);
-    let zero = is_posted(&rt, zero, &mut one);
-    goes_to_another_worker(&rt, retired(&rt, zero), 0);
-    goes_to_another_worker(&rt, retired(&rt, one), 8);
-}
-
 // Its one batch comes back to it.
 fn comes_back(rt: &impl Abort, desk: &mut Desk<'_>) {
     let batch = desk.next_batch().expect(rt, "one goes to 1");
@@ -83,22 +52,41 @@ fn comes_back(rt: &impl Abort, desk: &mut Desk<'_>) {
     counts_are(rt, desk, 0, 1);
 }
 
-fn goes_home<'r>(rt: &impl Abort, desk: &mut Desk<'r>, owner: &mut Desk<'r>) {
-    let batch = desk.next_batch().expect(rt, "again");
-    comes_home(rt, owner, batch);
+// A batch is taken back and goes home, and another buffer is cached.
+fn takes_back<'r>(
+    rt: &impl Abort,
+    alloc: Global,
+    zero: &mut Desk<'r>,
+    one: &mut Desk<'r>,
+    parts: &mut Vec<Part<'r>>,
+) {
+    claim(rt, one, parts, class(15));
+    cache_one(rt, alloc, zero, one);
+    comes_back(rt, zero);
+    goes_home(rt, zero, one);
+    cache_one(rt, alloc, zero, one);
+}
+
+// The cache is posted, in rounds.
+fn rounds<'r>(rt: &impl Abort, zero: Desk<'r>, one: &mut Desk<'r>) -> Desk<'r> {
+    let zero = is_unsettled(rt, zero);
+    let zero = is_given_back(rt, zero);
+    is_posted(rt, zero, one)
+}
+
+// Then both workers leave.
+fn posts<'r>(rt: &impl Abort, alloc: Global, mut parts: Vec<Part<'r>>) {
+    let mut one = desk(rt, 1);
+    let mut zero = desk(rt, 0);
+    takes_back(rt, alloc, &mut zero, &mut one, &mut parts);
+    let zero = rounds(rt, zero, &mut one);
+    goes_to_another_worker(rt, retired(rt, zero), 0);
+    goes_to_another_worker(rt, retired(rt, one), 8);
 }
 
 #[test]
-fn takes_back_what_was_not_posted(rt: HostRuntime) {
+fn posts_in_rounds_and_takes_back(rt: HostRuntime) {
     let alloc = rt.alloc();
-    let Some(mut region) = region(alloc, CHUNK, 0) else {
-        return;
-    };
-    let Some(mut parts) = parts(&rt, alloc, &mut region) else {
-        return;
-    };
-    let mut one = desk(&rt, 1);
-    let mut zero = cached(&rt, alloc, &mut one, &mut parts);
-    comes_back(&rt, &mut zero);
-    goes_home(&rt, &mut zero, &mut one);
+    let mut region = region(&rt, alloc, 1);
+    posts(&rt, alloc, parts(&rt, alloc, &mut region));
 }

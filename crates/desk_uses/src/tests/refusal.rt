@@ -1,8 +1,10 @@
 //! Why a desk refuses.
-use super::{claim, class, counts_are, desk, lend, parts, region};
+use super::{
+    Play, alloc_from, claim, claim_or_not, class, counts_are, hold, lend, parts, plays, region,
+};
 use digit_route::Digits;
 use pool_desk::{Desk, DeskError, IdleDesk};
-use region_cut::{CHUNK, Class, Part};
+use region_cut::{Class, Part};
 use std::alloc::Global;
 use std::process::Abort;
 
@@ -13,15 +15,10 @@ fn claim_is_refused<'r>(
     parts: &mut Vec<Part<'r>>,
     class: Class,
 ) {
-    let part = parts.pop().expect(rt, "a chunk");
-    assert!(rt; class.number() < desk.digits().profile().classes());
-    match desk.claim(part, class) {
-        Ok(()) => panic!(rt; "not needed"),
-        Err((part, error)) => {
-            assert!(rt; part.chunk() == 0);
-            assert!(rt; error == DeskError::NotNeeded);
-        }
-    }
+    let refused = claim_or_not(rt, desk, parts, class).err();
+    let (part, error) = refused.expect(rt, "not needed");
+    assert!(rt; part.chunk() == 0);
+    assert!(rt; error == DeskError::NotNeeded);
 }
 
 fn alloc_is_refused(
@@ -31,43 +28,32 @@ fn alloc_is_refused(
     size: usize,
     want: DeskError,
 ) {
-    match desk.alloc(alloc, size) {
-        Ok(_buf) => panic!(rt; "refused"),
-        Err(error) => assert!(rt; error == want),
-    }
+    let refused = alloc_from(alloc, desk, size).err();
+    assert!(rt; refused == Some(want));
 }
 
-#[test]
-fn says_why_nothing_is_given_out(rt: HostRuntime) {
-    let mut desk = desk(&rt, 63);
-    alloc_is_refused(&rt, rt.alloc(), &mut desk, 513, DeskError::TooLarge);
+pub fn refuses<'r>(rt: &impl Abort, alloc: Global, desk: &mut Desk<'r>, parts: &mut Vec<Part<'r>>) {
+    alloc_is_refused(rt, alloc, desk, 513, DeskError::TooLarge);
     let want = DeskError::NeedChunk(class(0));
-    alloc_is_refused(&rt, rt.alloc(), &mut desk, 0, want);
+    alloc_is_refused(rt, alloc, desk, 0, want);
+    claim(rt, desk, parts, class(0));
+    claim_is_refused(rt, desk, parts, class(0));
+    counts_are(rt, desk, 256, 0);
 }
 
 #[test]
-fn says_why_a_chunk_is_not_needed(rt: HostRuntime) {
-    let alloc = rt.alloc();
-    let Some(mut region) = region(alloc, 2 * CHUNK, 0) else {
-        return;
-    };
-    let Some(mut parts) = parts(&rt, alloc, &mut region) else {
-        return;
-    };
-    let mut desk = desk(&rt, 63);
-    claim(&rt, &mut desk, &mut parts, class(0));
-    claim_is_refused(&rt, &mut desk, &mut parts, class(0));
-    counts_are(&rt, &desk, 256, 0);
+fn says_why_nothing_is_given_out_or_claimed(rt: HostRuntime) {
+    plays(&rt, rt.alloc(), Play::Refuses, (63, 0), 2);
 }
 
 // Number and words, also where memory for the words is refused once.
 fn check(rt: &impl Abort, alloc: Global, error: DeskError, number: u32, words: &str) {
-    assert_eq!(rt; error.number(), number);
+    assert!(rt; error.number() == number);
     let text = match format!(in alloc; "{error}") {
         Ok(text) => text,
         Err(_) => format!(in alloc; "{error}").expect(rt, "memory is there again"),
     };
-    assert_eq!(rt; text.as_str(), words);
+    assert!(rt; text.as_str() == words);
 }
 
 #[test]
@@ -100,18 +86,22 @@ fn lends_most(rt: &impl Abort, alloc: Global, desk: &mut Desk<'_>) {
 }
 
 // Class 19 has 4 slots.
+pub fn gives_large<'r>(
+    rt: &impl Abort,
+    alloc: Global,
+    desk: &mut Desk<'r>,
+    parts: &mut Vec<Part<'r>>,
+) {
+    alloc_is_refused(rt, alloc, desk, 1025, DeskError::TooLarge);
+    claim(rt, desk, parts, class(19));
+    lends_most(rt, alloc, desk);
+    counts_are(rt, desk, 3, 0);
+}
+
 #[test]
 fn is_of_its_profile(rt: HostRuntime) {
     let alloc = rt.alloc();
-    let Some(mut region) = region(alloc, CHUNK, 0) else {
-        return;
-    };
-    let Some(mut parts) = parts(&rt, alloc, &mut region) else {
-        return;
-    };
-    let mut desk = large(&rt);
-    alloc_is_refused(&rt, alloc, &mut desk, 1025, DeskError::TooLarge);
-    claim(&rt, &mut desk, &mut parts, class(19));
-    lends_most(&rt, alloc, &mut desk);
-    counts_are(&rt, &desk, 3, 0);
+    let mut region = region(&rt, alloc, 1);
+    let parts = parts(&rt, alloc, &mut region);
+    hold(&rt, alloc, Play::GivesLarge, large(&rt), large(&rt), parts);
 }

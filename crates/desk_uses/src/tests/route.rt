@@ -1,8 +1,8 @@
 //! Four desks, driven by hand. With digits of 2 bits 0 is 0,0,0; 7 is 3,1,0; 11 is 3,2,0; 27 is 3,2,1.
-use super::{claim, class, desk, free_is, handle, lend, parts, region};
+use super::{alloc_from, claim, class, counts, desk, free_is, handle, lend, parts, region};
 use digit_route::RouteError;
 use pool_desk::{Desk, Freed};
-use region_cut::{CHUNK, Part};
+use region_cut::Part;
 use std::alloc::Global;
 use std::process::Abort;
 
@@ -22,66 +22,82 @@ fn leave<'r>(
 // No batch for `t`, and the desk is as before.
 fn is_refused(rt: &impl Abort, desk: &mut Desk<'_>, t: u16, want: RouteError) {
     assert!(rt; desk.fault_for(t) == Some(want));
-    match desk.batch_for(t) {
-        Ok(_batch) => panic!(rt; "a batch for {t}"),
-        Err(error) => assert!(rt; error == want),
-    }
-    assert!(rt; desk.counts().1 == 1);
+    assert!(rt; desk.batch_for(t).err() == Some(want));
+    assert!(rt; counts(desk).1 == 1);
 }
 
 // A batch goes from one desk to another: so many come home, and so many are passed on.
 fn send<'r>(rt: &impl Abort, from: &mut Desk<'r>, to: &mut Desk<'r>, home: u64, on: u64) {
     let batch = from.batch_for(to.number()).ok().expect(rt, "a batch");
     let count = batch.len();
-    let counts = handle(rt, to, batch);
-    assert!(rt; counts.home == home && counts.on == on);
-    assert!(rt; count == counts.home.saturating_add(counts.on));
-    assert!(rt; from.counts().1 == 0);
+    let went = handle(rt, to, batch);
+    assert!(rt; went.home == home && went.on == on);
+    assert!(rt; count == went.home.saturating_add(went.on));
+    assert!(rt; counts(from).1 == 0);
 }
 
 // The buffer that came home last, and how often it was passed on. No memory is taken for it.
 fn came_home(rt: &impl Abort, alloc: Global, desk: &mut Desk<'_>, chunk: u16, forwards: u32) {
-    let buf = desk.alloc(alloc, 512).ok().expect(rt, "one came home");
+    let buf = alloc_from(alloc, desk, 512)
+        .ok()
+        .expect(rt, "one came home");
     assert!(rt; buf.slot().chunk == chunk && buf.forwards() == forwards);
+}
+
+// Nothing goes at first but to 27. Then 0 has a buffer of each.
+fn leaves<'r>(
+    rt: &impl Abort,
+    alloc: Global,
+    zero: &mut Desk<'r>,
+    seven: &mut Desk<'r>,
+    eleven: &mut Desk<'r>,
+    far: &mut Desk<'r>,
+    parts: &mut Vec<Part<'r>>,
+) {
+    leave(rt, alloc, far, zero, parts);
+    is_refused(rt, zero, 3, RouteError::NotAnOwner);
+    is_refused(rt, zero, 2, RouteError::NothingFor);
+    is_refused(rt, zero, 0, RouteError::ToSelf);
+    leave(rt, alloc, eleven, zero, parts);
+    leave(rt, alloc, seven, zero, parts);
+}
+
+fn routes<'r>(
+    rt: &impl Abort,
+    alloc: Global,
+    zero: &mut Desk<'r>,
+    seven: &mut Desk<'r>,
+    eleven: &mut Desk<'r>,
+    far: &mut Desk<'r>,
+) {
+    send(rt, zero, seven, 1, 2);
+    send(rt, seven, eleven, 1, 1);
+    send(rt, eleven, far, 1, 0);
+    came_home(rt, alloc, far, 2, 2);
+    came_home(rt, alloc, eleven, 1, 1);
+    came_home(rt, alloc, seven, 0, 0);
+}
+
+fn four<'r>(rt: &impl Abort, alloc: Global, mut parts: Vec<Part<'r>>) {
+    let mut zero = desk(rt, 0);
+    let mut seven = desk(rt, 7);
+    let mut eleven = desk(rt, 11);
+    let mut far = desk(rt, 27);
+    leaves(
+        rt,
+        alloc,
+        &mut zero,
+        &mut seven,
+        &mut eleven,
+        &mut far,
+        &mut parts,
+    );
+    routes(rt, alloc, &mut zero, &mut seven, &mut eleven, &mut far);
 }
 
 #[test]
 fn goes_home_by_way_of_nearer_desks(rt: HostRuntime) {
     let alloc = rt.alloc();
-    let Some(mut region) = region(alloc, 3 * CHUNK, 0) else {
-        return;
-    };
-    let Some(mut parts) = parts(&rt, alloc, &mut region) else {
-        return;
-    };
-    let mut zero = desk(&rt, 0);
-    let mut far = desk(&rt, 27);
-    leave(&rt, alloc, &mut far, &mut zero, &mut parts);
-    let mut eleven = desk(&rt, 11);
-    leave(&rt, alloc, &mut eleven, &mut zero, &mut parts);
-    let mut seven = desk(&rt, 7);
-    leave(&rt, alloc, &mut seven, &mut zero, &mut parts);
-    send(&rt, &mut zero, &mut seven, 1, 2);
-    send(&rt, &mut seven, &mut eleven, 1, 1);
-    send(&rt, &mut eleven, &mut far, 1, 0);
-    came_home(&rt, alloc, &mut far, 2, 2);
-    came_home(&rt, alloc, &mut eleven, 1, 1);
-    came_home(&rt, alloc, &mut seven, 0, 0);
-}
-
-#[test]
-fn says_why_nothing_goes(rt: HostRuntime) {
-    let alloc = rt.alloc();
-    let Some(mut region) = region(alloc, CHUNK, 0) else {
-        return;
-    };
-    let Some(mut parts) = parts(&rt, alloc, &mut region) else {
-        return;
-    };
-    let mut zero = desk(&rt, 0);
-    let mut far = desk(&rt, 27);
-    leave(&rt, alloc, &mut far, &mut zero, &mut parts);
-    is_refused(&rt, &mut zero, 3, RouteError::NotAnOwner);
-    is_refused(&rt, &mut zero, 2, RouteError::NothingFor);
-    is_refused(&rt, &mut zero, 0, RouteError::ToSelf);
+    let mut region = region(&rt, alloc, 3);
+    four(&rt, alloc, parts(&rt, alloc, &mut region));
 }

@@ -4,12 +4,18 @@ use digit_route::Digits;
 use std::alloc::Global;
 use std::process::Abort;
 
+fn are(rt: &impl Abort, bytes: &[u8], want: u8) {
+    for byte in bytes {
+        assert!(rt; *byte == want);
+    }
+}
+
 fn untouched(rt: &impl Abort, alloc: Global, digits: Digits) {
     let Ok(mut region) = Vec::from_elem(alloc, 7u8, 3 * 4096 + 5) else {
         return;
     };
     drop(lives(alloc, &mut region, digits));
-    assert!(rt; region.iter().all(|byte| *byte == 7));
+    are(rt, &region, 7);
 }
 
 #[test]

@@ -1,6 +1,6 @@
 //! The lists of slots.
-use super::{Row, ask_all, chunks, floor_of, slot};
-use event_floor::{Floor, Reply, Request};
+use super::{Play, adopts, caches, claims, done, lends, lent_is, plays, sends, slot};
+use event_floor::{Floor, Request};
 use region_cut::Slot;
 use slot_chain::NoMemory;
 use std::alloc::Global;
@@ -48,72 +48,63 @@ fn lists(rt: &impl Abort, slots: Result<Vec<Slot>, NoMemory>, due: &[(u16, u16)]
     let Ok(mut slots) = slots else {
         return;
     };
-    if slots.sort().is_err() {
-        return;
+    if slots.sort().is_ok() {
+        are(rt, slots.as_slice(), due);
     }
-    assert_eq!(rt; slots.len(), due.len());
-    for (i, place) in due.iter().enumerate() {
-        let (chunk, index) = *place;
-        assert!(rt;
-            slots.get(i).copied() == Some(Slot { chunk, index }),
-            "at place {i}"
-        );
+}
+
+fn are(rt: &impl Abort, slots: &[Slot], due: &[(u16, u16)]) {
+    assert!(rt; slots.len() == due.len());
+    for (slot, place) in slots.iter().zip(due) {
+        is_at(rt, *slot, place.0, place.1);
     }
+}
+
+fn is_at(rt: &impl Abort, slot: Slot, chunk: u16, index: u16) {
+    assert!(rt; slot == Slot { chunk, index }, "{chunk}.{index}");
+}
+
+pub fn play_lent_and_queued(rt: &impl Abort, alloc: Global, floor: &mut Floor<'_>) {
+    adopts(rt, alloc, floor, 0, 0);
+    adopts(rt, alloc, floor, 1, 1);
+    claims(rt, alloc, floor, 1, 15, 0);
+    lends(rt, alloc, floor, 1, 512, 0, 0);
+    lends(rt, alloc, floor, 1, 512, 0, 1);
+    lends(rt, alloc, floor, 1, 512, 0, 2);
+    lends(rt, alloc, floor, 1, 512, 0, 3);
+    caches(rt, alloc, floor, 0, 0, 2);
+    caches(rt, alloc, floor, 0, 0, 0);
+    sends(rt, alloc, floor, 0, 1, 1, 2);
+    lists(rt, lent_of(alloc, floor), &[(0, 1), (0, 3)]);
+    lists(rt, queued_of(alloc, floor, 1), &[(0, 0), (0, 2)]);
+    lists(rt, queued_of(alloc, floor, 0), &[]);
+    lent_is(rt, floor, 2);
 }
 
 #[test]
 fn lent_and_queued(rt: HostRuntime) {
-    let alloc = rt.alloc();
-    let Ok(mut region) = Vec::from_elem(alloc, 0u8, chunks(2)) else {
-        return;
-    };
-    let Some(mut floor) = floor_of(alloc, &mut region, 2) else {
-        return;
-    };
-    let rows: [Row; 10] = [
-        (Request::Adopt(0, 0), Ok(Reply::Done)),
-        (Request::Adopt(1, 1), Ok(Reply::Done)),
-        (Request::Claim(1, 15), Ok(Reply::Chunk(0))),
-        (Request::Alloc(1, 512), slot(0, 0)),
-        (Request::Alloc(1, 512), slot(0, 1)),
-        (Request::Alloc(1, 512), slot(0, 2)),
-        (Request::Alloc(1, 512), slot(0, 3)),
-        (Request::Free(0, (0, 2)), Ok(Reply::Cached)),
-        (Request::Free(0, (0, 0)), Ok(Reply::Cached)),
-        (Request::Send(0, 1), Ok(Reply::Batch(1, 2))),
-    ];
-    ask_all(&rt, alloc, &mut floor, &rows);
-    lists(&rt, lent_of(alloc, &floor), &[(0, 1), (0, 3)]);
-    lists(&rt, queued_of(alloc, &floor, 1), &[(0, 0), (0, 2)]);
-    lists(&rt, queued_of(alloc, &floor, 0), &[]);
-    assert_eq!(rt; floor.lent_count(), 2);
+    plays(&rt, rt.alloc(), Play::LentAndQueued, 2, 2, 2);
+}
+
+pub fn play_home_and_cached(rt: &impl Abort, alloc: Global, floor: &mut Floor<'_>) {
+    adopts(rt, alloc, floor, 0, 0);
+    adopts(rt, alloc, floor, 1, 1);
+    claims(rt, alloc, floor, 1, 15, 0);
+    lends(rt, alloc, floor, 1, 512, 0, 0);
+    lends(rt, alloc, floor, 1, 512, 0, 1);
+    caches(rt, alloc, floor, 0, 0, 1);
+    done(rt, alloc, floor, Request::Retire(1));
+    lists(rt, cached_of(alloc, floor, 0), &[(0, 1)]);
+    lists(rt, home_of(alloc, floor, 0), &[]);
+    lists(
+        rt,
+        home_of(alloc, floor, 1),
+        &[(0, 2), (0, 3), (0, 4), (0, 5), (0, 6), (0, 7)],
+    );
+    lists(rt, cached_of(alloc, floor, 1), &[]);
 }
 
 #[test]
 fn home_and_cached(rt: HostRuntime) {
-    let alloc = rt.alloc();
-    let Ok(mut region) = Vec::from_elem(alloc, 0u8, chunks(1)) else {
-        return;
-    };
-    let Some(mut floor) = floor_of(alloc, &mut region, 2) else {
-        return;
-    };
-    let rows: [Row; 7] = [
-        (Request::Adopt(0, 0), Ok(Reply::Done)),
-        (Request::Adopt(1, 1), Ok(Reply::Done)),
-        (Request::Claim(1, 15), Ok(Reply::Chunk(0))),
-        (Request::Alloc(1, 512), slot(0, 0)),
-        (Request::Alloc(1, 512), slot(0, 1)),
-        (Request::Free(0, (0, 1)), Ok(Reply::Cached)),
-        (Request::Retire(1), Ok(Reply::Done)),
-    ];
-    ask_all(&rt, alloc, &mut floor, &rows);
-    lists(&rt, cached_of(alloc, &floor, 0), &[(0, 1)]);
-    lists(&rt, home_of(alloc, &floor, 0), &[]);
-    lists(
-        &rt,
-        home_of(alloc, &floor, 1),
-        &[(0, 2), (0, 3), (0, 4), (0, 5), (0, 6), (0, 7)],
-    );
-    lists(&rt, cached_of(alloc, &floor, 1), &[]);
+    plays(&rt, rt.alloc(), Play::HomeAndCached, 2, 1, 2);
 }
