@@ -1,15 +1,14 @@
 //! Buffers that travel: batches are sent, linked and taken, desks are retired and adopted again.
-use super::replays::replayed;
+use std::alloc::Global;
 use std::process::Abort;
 use std::test::Fail;
 use trace_audit::End;
 
 /// The lines of the text, which are written one behind the other with ` / ` between them.
-pub fn lines(alloc: std::alloc::Global, text: &str) -> Result<String, Fail> {
+pub fn lines(alloc: Global, text: &str) -> Result<String, Fail> {
     let mut lines = String::new(alloc);
     for line in text.split(" / ") {
-        lines.push_str(line)?;
-        lines.push_str("\n")?;
+        writeln!(lines, "{line}")?;
     }
     Ok(lines)
 }
@@ -17,10 +16,8 @@ pub fn lines(alloc: std::alloc::Global, text: &str) -> Result<String, Fail> {
 /// The trace of these lines is whole, and its report has those.
 fn gives(rt: &(impl Abort + AllocGlobal), trace: &str, report: &str) -> Result<(), Fail> {
     let trace = lines(rt.alloc(), trace)?;
-    let want = lines(rt.alloc(), report)?;
-    let (end, bytes) = replayed(rt.alloc(), trace.as_bytes());
-    assert!(rt; bytes.as_slice() == want.as_bytes(), "{trace}: {bytes:?}");
-    assert!(rt; end == Ok(End::Whole), "{trace}: {end:?}");
+    let report = lines(rt.alloc(), report)?;
+    super::rows::gives(rt, trace.as_str(), End::Whole, report.as_str());
     Ok(())
 }
 
