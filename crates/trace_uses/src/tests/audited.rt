@@ -1,8 +1,7 @@
 //! Replays with an audit at the end.
-use super::checks::{none_behind, same_answer, same_answer_at, same_bytes, same_bytes_at};
+use super::checks::{has_left, has_left_at, none_behind};
 use super::replays::{Audited, audit_over, audited};
 use super::travel::{REPORT, TRACE, is_report, replies_to};
-use super::travels::lines;
 use crate::memory::{Kept, Pieces, WriteFault};
 use std::process::Abort;
 use std::test::Fail;
@@ -11,76 +10,69 @@ use trace_audit::{End, ReplayError};
 /// The line of an audit that finds nothing wrong.
 pub const YES: &[u8] = b"audit yes\n";
 
+/// The trace is whole, and its audit finds nothing wrong.
+const WHOLE: Result<Audited, ReplayError> = Ok((End::Whole, Some(Ok(()))));
+
 /// The audited replay of the trace has this answer, and its report is this text.
-fn gives_text(
+fn gives(
     rt: &(impl Abort + AllocGlobal),
     trace: &str,
     want: Result<Audited, ReplayError>,
     report: &str,
 ) {
-    let (answer, written) = audited(rt.alloc(), trace.as_bytes());
-    same_bytes(rt, trace, written.bytes.as_slice(), report.as_bytes());
-    same_answer(rt, trace, answer, want);
-}
-
-/// The same, of a trace of these lines and a report of those.
-fn gives(rt: &(impl Abort + AllocGlobal), trace: &str, end: End, report: &str) -> Result<(), Fail> {
-    let trace = lines(rt.alloc(), trace)?;
-    let report = lines(rt.alloc(), report)?;
-    let want = Ok((end, Some(Ok(()))));
-    gives_text(rt, trace.as_str(), want, report.as_str());
-    Ok(())
+    let left = audited(rt.alloc(), trace.as_bytes());
+    has_left(rt, trace, &left, want, report.as_bytes());
 }
 
 #[test]
-fn all_slots_are_there(rt: HostRuntime) -> Result<(), Fail> {
+fn all_slots_are_there(rt: HostRuntime) {
     gives(
         &rt,
-        "pool 1 1 2 / adopt 0 5 / claim 0 0 / alloc 0 16 / free 0 0.0",
-        End::Whole,
-        "ok / chunk 0 / slot 0.0 / home / desk 0 home 256 cached 0 queued 0 / \
-        end chunks 1 lent 0 home 256 cached 0 queued 0 / audit yes",
-    )?;
+        "pool 1 1 2\nadopt 0 5\nclaim 0 0\nalloc 0 16\nfree 0 0.0\n",
+        WHOLE,
+        "ok\nchunk 0\nslot 0.0\nhome\ndesk 0 home 256 cached 0 queued 0\n\
+        end chunks 1 lent 0 home 256 cached 0 queued 0\naudit yes\n",
+    );
     gives(
         &rt,
-        "pool 1 2 2 / adopt 0 0 / alloc 0 0 / claim 0 0 / claim 0 15 / alloc 0 0 / \
-        alloc 0 512 / alloc 0 513",
-        End::Whole,
-        "ok / R04 NeedChunk / chunk 0 / chunk 1 / slot 0.0 / slot 1.0 / R03 TooLarge / \
-        desk 0 home 262 cached 0 queued 0 / end chunks 2 lent 2 home 262 cached 0 queued 0 / \
-        audit yes",
-    )?;
+        "pool 1 2 2\nadopt 0 0\nalloc 0 0\nclaim 0 0\nclaim 0 15\nalloc 0 0\n\
+        alloc 0 512\nalloc 0 513\n",
+        WHOLE,
+        "ok\nR04 NeedChunk\nchunk 0\nchunk 1\nslot 0.0\nslot 1.0\nR03 TooLarge\n\
+        desk 0 home 262 cached 0 queued 0\nend chunks 2 lent 2 home 262 cached 0 queued 0\n\
+        audit yes\n",
+    );
     gives(
         &rt,
-        "pool 2 1 2 / adopt 0 0 / adopt 1 1 / claim 1 15 / alloc 1 512 / free 1 0.1 / \
-        free 0 0.0 / free 0 0.0 / free 1 0.0 / send 0 1 / free 1 0.0 / free 1 0.8 / free 1 3.0",
-        End::Whole,
-        "ok / ok / chunk 0 / slot 0.0 / R07 NotLent / cached / R07 NotLent / R07 NotLent / \
-        batch 1 1 / R07 NotLent / R07 NotLent / R07 NotLent / \
-        desk 1 home 7 cached 0 queued 1 / end chunks 1 lent 0 home 7 cached 0 queued 1 / \
-        audit yes",
-    )
+        "pool 2 1 2\nadopt 0 0\nadopt 1 1\nclaim 1 15\nalloc 1 512\nfree 1 0.1\n\
+        free 0 0.0\nfree 0 0.0\nfree 1 0.0\nsend 0 1\nfree 1 0.0\nfree 1 0.8\nfree 1 3.0\n",
+        WHOLE,
+        "ok\nok\nchunk 0\nslot 0.0\nR07 NotLent\ncached\nR07 NotLent\nR07 NotLent\n\
+        batch 1 1\nR07 NotLent\nR07 NotLent\nR07 NotLent\n\
+        desk 1 home 7 cached 0 queued 1\nend chunks 1 lent 0 home 7 cached 0 queued 1\n\
+        audit yes\n",
+    );
 }
 
 #[test]
 fn all_slots_are_there_behind_a_travel(rt: HostRuntime) {
-    let (answer, written) = audited(rt.alloc(), TRACE);
-    assert!(rt; is_report(written.bytes.as_slice(), YES));
-    same_answer(&rt, "travel", answer, Ok((End::Whole, Some(Ok(())))));
+    let left = audited(rt.alloc(), TRACE);
+    assert!(rt; left.answer == WHOLE);
+    assert!(rt; is_report(left.written.bytes.as_slice(), YES));
 }
 
 /// One buffer at home, one lent, one in a cache and one in a batch, and the last line is bad.
 #[test]
-fn an_audit_behind_a_bad_line(rt: HostRuntime) -> Result<(), Fail> {
+fn an_audit_behind_a_bad_line(rt: HostRuntime) {
     gives(
         &rt,
-        "pool 2 1 2 / adopt 0 0 / adopt 1 1 / claim 1 15 / alloc 1 512 / alloc 1 512 / alloc 1 512 / \
-        free 0 0.0 / send 0 1 / free 0 0.1 / expire 0",
-        End::BadLine(11),
-        "ok / ok / chunk 0 / slot 0.0 / slot 0.1 / slot 0.2 / cached / batch 1 1 / cached / \
-        R17 BadLine 11 / desk 0 home 0 cached 1 queued 0 / desk 1 home 5 cached 0 queued 1 / \
-        end chunks 1 lent 1 home 5 cached 1 queued 1 / audit yes",
-    )
+        "pool 2 1 2\nadopt 0 0\nadopt 1 1\nclaim 1 15\nalloc 1 512\nalloc 1 512\nalloc 1 512\n\
+        free 0 0.0\nsend 0 1\nfree 0 0.1\nexpire 0\n",
+        Ok((End::BadLine(11), Some(Ok(())))),
+        "ok\nok\nchunk 0\nslot 0.0\nslot 0.1\nslot 0.2\ncached\nbatch 1 1\ncached\n\
+        R17 BadLine 11\ndesk 0 home 0 cached 1 queued 0\ndesk 1 home 5 cached 0 queued 1\n\
+        end chunks 1 lent 1 home 5 cached 1 queued 1\naudit yes\n",
+    );
 }
 
 #[test]
@@ -94,16 +86,15 @@ fn no_audit_behind_a_bad_header(rt: HostRuntime) {
         "",
     ];
     for header in headers {
-        gives_text(&rt, header, Ok((End::BadLine(1), None)), "R17 BadLine 1\n");
+        gives(&rt, header, Ok((End::BadLine(1), None)), "R17 BadLine 1\n");
     }
 }
 
 /// A byte a read: where read `turn` fails, the replies to the whole lines of these bytes are there and no audit.
 fn read_fails(rt: &(impl Abort + AllocGlobal), turn: usize, given: &[u8]) {
     let reader = Pieces::new(TRACE, 1, turn as u64);
-    let (answer, written) = audit_over(rt.alloc(), reader, Kept::all(rt.alloc()));
-    same_answer_at(rt, turn, answer, Err(ReplayError::Read));
-    same_bytes_at(rt, turn, written.bytes.as_slice(), replies_to(given));
+    let left = audit_over(rt.alloc(), reader, Kept::all(rt.alloc()));
+    has_left_at(rt, turn, &left, Err(ReplayError::Read), replies_to(given));
 }
 
 #[test]
@@ -121,10 +112,9 @@ fn write_fails(rt: &(impl Abort + AllocGlobal), turn: usize, taken: &[u8]) {
         WriteFault::TakesNothing
     };
     let writer = Kept::new(rt.alloc(), 1, turn as u64, failure);
-    let (answer, written) = audit_over(rt.alloc(), Pieces::new(TRACE, 64, 0), writer);
-    same_answer_at(rt, turn, answer, Err(ReplayError::Write));
-    same_bytes_at(rt, turn, written.bytes.as_slice(), taken);
-    none_behind(rt, turn, written.writes);
+    let left = audit_over(rt.alloc(), Pieces::new(TRACE, 64, 0), writer);
+    has_left_at(rt, turn, &left, Err(ReplayError::Write), taken);
+    none_behind(rt, turn, left.written.writes);
 }
 
 /// `turn - 1` bytes were taken, also within the line of the audit.

@@ -36,14 +36,18 @@ fn answers(
     assert!(rt; answer == want, "{found:?}: {answer:?}");
 }
 
-/// Of chunk 0.
-fn slots<const N: usize>(order: [u16; N]) -> [Slot; N] {
-    order.map(|index| slot(0, index))
-}
-
 #[test]
 fn each_slot_once(rt: HostRuntime) {
-    let found = slots([3, 0, 7, 1, 6, 2, 5, 4]);
+    let found = [
+        slot(0, 3),
+        slot(0, 0),
+        slot(0, 7),
+        slot(0, 1),
+        slot(0, 6),
+        slot(0, 2),
+        slot(0, 5),
+        slot(0, 4),
+    ];
     answers(&rt, &found, &one_chunk(&rt), Ok(()));
     answers(&rt, &[], &Drawn::new(), Ok(()));
 }
@@ -51,7 +55,15 @@ fn each_slot_once(rt: HostRuntime) {
 #[test]
 fn the_least_fault_is_named(rt: HostRuntime) {
     let drawn = one_chunk(&rt);
-    let but_one = slots([1, 2, 3, 4, 5, 6, 7]);
+    let but_one = [
+        slot(0, 1),
+        slot(0, 2),
+        slot(0, 3),
+        slot(0, 4),
+        slot(0, 5),
+        slot(0, 6),
+        slot(0, 7),
+    ];
     answers(&rt, &but_one, &drawn, Err(Fault::Missing(slot(0, 0))));
     answers(&rt, &[], &drawn, Err(Fault::Missing(slot(0, 0))));
     let doubled = [slot(0, 0), slot(0, 0), slot(0, 3)];
@@ -63,7 +75,16 @@ fn the_least_fault_is_named(rt: HostRuntime) {
 /// As many slots as there should be, of which one is there twice.
 #[test]
 fn the_number_is_not_enough(rt: HostRuntime) {
-    let found = slots([7, 6, 5, 4, 3, 2, 0, 0]);
+    let found = [
+        slot(0, 7),
+        slot(0, 6),
+        slot(0, 5),
+        slot(0, 4),
+        slot(0, 3),
+        slot(0, 2),
+        slot(0, 0),
+        slot(0, 0),
+    ];
     answers(
         &rt,
         &found,

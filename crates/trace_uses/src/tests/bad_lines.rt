@@ -11,7 +11,7 @@ const FRONT: &[u8] = b"pool 1 1 2\nadopt 0 0\n";
 /// The trace, whose third line is this one, ends with it.
 fn ends(rt: &(impl Abort + AllocGlobal), line: &[u8], trace: &[u8]) {
     let left = replayed(rt.alloc(), trace);
-    assert!(rt; left.end == Ok(End::BadLine(3)), "{line:?}");
+    assert!(rt; left.answer == Ok((End::BadLine(3), None)), "{line:?}");
     let bytes = left.written.bytes.as_slice();
     let report = b"ok\nR17 BadLine 3\nend chunks 0 lent 0 home 0 cached 0 queued 0\n".as_slice();
     assert!(rt; bytes == report, "{line:?}");

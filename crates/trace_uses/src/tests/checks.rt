@@ -1,61 +1,37 @@
 //! Comparisons, which tell the row or the turn that failed.
-use super::replays::Audited;
+use super::replays::{Audited, Left};
 use std::process::Abort;
-use trace_audit::{End, ReplayError};
+use trace_audit::ReplayError;
 
-/// The bytes of this row are those that are wanted.
-pub fn same_bytes(rt: &impl Abort, row: &str, bytes: &[u8], want: &[u8]) {
-    assert!(rt; bytes == want, "{row}: {bytes:?}");
-}
-
-/// The replay of this row ended as is wanted.
-pub fn same_end(
+/// The replay of this row has this answer, and these bytes were written.
+pub fn has_left(
     rt: &impl Abort,
     row: &str,
-    end: Result<End, ReplayError>,
-    want: Result<End, ReplayError>,
-) {
-    assert!(rt; end == want, "{row}: {end:?}");
-}
-
-/// The audited replay of this row ended as is wanted.
-pub fn same_answer(
-    rt: &impl Abort,
-    row: &str,
+    left: &Left,
     answer: Result<Audited, ReplayError>,
-    want: Result<Audited, ReplayError>,
+    bytes: &[u8],
 ) {
-    assert!(rt; answer == want, "{row}: {answer:?}");
+    let written = left.written.bytes.as_slice();
+    let is_same = left.answer == answer && written == bytes;
+    assert!(rt; is_same, "{row}: {:?}: {written:?}", left.answer);
 }
 
-/// The bytes of this turn are those that are wanted.
-pub fn same_bytes_at(rt: &impl Abort, turn: usize, bytes: &[u8], want: &[u8]) {
-    assert!(rt; bytes == want, "turn {turn}: {bytes:?}");
-}
-
-/// The replay of this turn ended as is wanted.
-pub fn same_end_at(
+/// The same, of a turn.
+pub fn has_left_at(
     rt: &impl Abort,
     turn: usize,
-    end: Result<End, ReplayError>,
-    want: Result<End, ReplayError>,
-) {
-    assert!(rt; end == want, "turn {turn}: {end:?}");
-}
-
-/// The audited replay of this turn ended as is wanted.
-pub fn same_answer_at(
-    rt: &impl Abort,
-    turn: usize,
+    left: &Left,
     answer: Result<Audited, ReplayError>,
-    want: Result<Audited, ReplayError>,
+    bytes: &[u8],
 ) {
-    assert!(rt; answer == want, "turn {turn}: {answer:?}");
+    let written = left.written.bytes.as_slice();
+    let is_same = left.answer == answer && written == bytes;
+    assert!(rt; is_same, "turn {turn}: {:?}: {written:?}", left.answer);
 }
 
 /// Nothing was read or written behind this turn.
 pub fn none_behind(rt: &impl Abort, turn: usize, count: u64) {
-    assert!(rt; count == turn as u64, "turn {turn}: {count}");
+    assert!(rt; count == turn as u64, "behind turn {turn}");
 }
 
 /// How often the line is there.

@@ -1,5 +1,5 @@
 //! Readers and writers that fail.
-use super::checks::{none_behind, same_bytes_at, same_end_at};
+use super::checks::{has_left_at, none_behind};
 use super::replays::replay_over;
 use super::travel::{REPORT, TRACE, replies_to};
 use crate::memory::{Kept, Pieces, WriteFault};
@@ -10,8 +10,7 @@ use trace_audit::{End, ReplayError};
 fn goes_in_pieces(rt: &(impl Abort + AllocGlobal), size: usize) {
     let writer = Kept::new(rt.alloc(), size, 0, WriteFault::Error);
     let left = replay_over(rt.alloc(), Pieces::new(TRACE, size, 0), writer);
-    same_end_at(rt, size, left.end, Ok(End::Whole));
-    same_bytes_at(rt, size, left.written.bytes.as_slice(), REPORT);
+    has_left_at(rt, size, &left, Ok((End::Whole, None)), REPORT);
 }
 
 #[test]
@@ -25,8 +24,7 @@ fn pieces_of_each_size(rt: HostRuntime) {
 fn read_fails(rt: &(impl Abort + AllocGlobal), turn: usize, given: &[u8]) {
     let reader = Pieces::new(TRACE, 1, turn as u64);
     let left = replay_over(rt.alloc(), reader, Kept::all(rt.alloc()));
-    same_end_at(rt, turn, left.end, Err(ReplayError::Read));
-    same_bytes_at(rt, turn, left.written.bytes.as_slice(), replies_to(given));
+    has_left_at(rt, turn, &left, Err(ReplayError::Read), replies_to(given));
     none_behind(rt, turn, left.reads);
 }
 
@@ -40,7 +38,7 @@ fn a_read_fails(rt: HostRuntime) {
 /// The third line of the trace is bad. This is known with the read number `known`, and nothing is read behind it.
 fn is_known_at(rt: &(impl Abort + AllocGlobal), trace: &[u8], known: usize) {
     let left = replay_over(rt.alloc(), Pieces::new(trace, 1, 0), Kept::all(rt.alloc()));
-    same_end_at(rt, known, left.end, Ok(End::BadLine(3)));
+    assert!(rt; left.answer == Ok((End::BadLine(3), None)));
     none_behind(rt, known, left.reads);
 }
 
@@ -48,8 +46,7 @@ fn is_known_at(rt: &(impl Abort + AllocGlobal), trace: &[u8], known: usize) {
 fn fails_at(rt: &(impl Abort + AllocGlobal), trace: &[u8], known: usize) {
     let reader = Pieces::new(trace, 1, known as u64);
     let left = replay_over(rt.alloc(), reader, Kept::all(rt.alloc()));
-    same_end_at(rt, known, left.end, Err(ReplayError::Read));
-    same_bytes_at(rt, known, left.written.bytes.as_slice(), b"ok\n");
+    has_left_at(rt, known, &left, Err(ReplayError::Read), b"ok\n");
 }
 
 /// A bad line is known with its line feed or with its 65th byte.
@@ -73,8 +70,7 @@ fn nothing_is_read_behind_a_bad_line(rt: HostRuntime) {
 fn write_fails(rt: &(impl Abort + AllocGlobal), turn: usize, fault: WriteFault, taken: &[u8]) {
     let writer = Kept::new(rt.alloc(), 1, turn as u64, fault);
     let left = replay_over(rt.alloc(), Pieces::new(TRACE, 64, 0), writer);
-    same_end_at(rt, turn, left.end, Err(ReplayError::Write));
-    same_bytes_at(rt, turn, left.written.bytes.as_slice(), taken);
+    has_left_at(rt, turn, &left, Err(ReplayError::Write), taken);
     none_behind(rt, turn, left.written.writes);
 }
 
@@ -98,7 +94,7 @@ fn a_write_takes_nothing(rt: HostRuntime) {
 fn header_fails(rt: &(impl Abort + AllocGlobal), turn: usize) {
     let writer = Kept::new(rt.alloc(), 1, turn as u64, WriteFault::Error);
     let left = replay_over(rt.alloc(), Pieces::new(b"pool 0 0 0\n", 64, 0), writer);
-    same_end_at(rt, turn, left.end, Err(ReplayError::Write));
+    assert!(rt; left.answer == Err(ReplayError::Write));
     none_behind(rt, turn, left.written.writes);
 }
 

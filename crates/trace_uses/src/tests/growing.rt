@@ -9,22 +9,22 @@ use trace_audit::{End, Fault, ReplayError};
 const NO_MEMORY: &[u8] = b"R15 NoMemory\n";
 
 /// Whether the replay has the whole report.
-fn is_whole(end: Result<End, ReplayError>, bytes: &[u8]) -> bool {
-    end == Ok(End::Whole) && is_report(bytes, b"")
+fn is_whole(end: Result<Audited, ReplayError>, bytes: &[u8]) -> bool {
+    end == Ok((End::Whole, None)) && is_report(bytes, b"")
 }
 
 /// Whether the replay says that a growth was refused: its own, or one of the test's writer.
-fn is_refused(end: Result<End, ReplayError>, bytes: &[u8]) -> bool {
+fn is_refused(end: Result<Audited, ReplayError>, bytes: &[u8]) -> bool {
     match end {
-        Ok(End::NoRoom) => bytes == NO_MEMORY,
-        Ok(End::Whole) => times(bytes, NO_MEMORY) > 0,
-        Ok(End::BadLine(_)) => false,
+        Ok((End::NoRoom, None)) => bytes == NO_MEMORY,
+        Ok((End::Whole, None)) => times(bytes, NO_MEMORY) > 0,
+        Ok(_) => false,
         Err(error) => error == ReplayError::Write,
     }
 }
 
 /// The replay has the whole report, or says that a growth was refused.
-fn is_told(rt: &impl Abort, end: Result<End, ReplayError>, bytes: &[u8]) {
+fn is_told(rt: &impl Abort, end: Result<Audited, ReplayError>, bytes: &[u8]) {
     assert!(rt;
         is_whole(end, bytes) || is_refused(end, bytes),
         "{end:?}: {bytes:?}"
@@ -39,9 +39,9 @@ fn a_growth_is_refused(rt: HostRuntime) {
     let second = replayed(rt.alloc(), TRACE);
     let one = first.written.bytes.as_slice();
     let two = second.written.bytes.as_slice();
-    assert!(rt; is_whole(first.end, one) || is_whole(second.end, two));
-    is_told(&rt, first.end, one);
-    is_told(&rt, second.end, two);
+    assert!(rt; is_whole(first.answer, one) || is_whole(second.answer, two));
+    is_told(&rt, first.answer, one);
+    is_told(&rt, second.answer, two);
 }
 
 /// Whether the audited replay has the whole report.
@@ -73,11 +73,11 @@ fn is_told_audited(rt: &impl Abort, answer: Result<Audited, ReplayError>, bytes:
 /// Whichever one growth is refused, of two audited replays one has the whole report, and the other too, or it says so.
 #[test]
 fn an_audited_growth_is_refused(rt: HostRuntime) {
-    let (first, one) = audited(rt.alloc(), TRACE);
-    let (second, two) = audited(rt.alloc(), TRACE);
-    let one = one.bytes.as_slice();
-    let two = two.bytes.as_slice();
-    assert!(rt; is_whole_audited(first, one) || is_whole_audited(second, two));
-    is_told_audited(&rt, first, one);
-    is_told_audited(&rt, second, two);
+    let first = audited(rt.alloc(), TRACE);
+    let second = audited(rt.alloc(), TRACE);
+    let one = first.written.bytes.as_slice();
+    let two = second.written.bytes.as_slice();
+    assert!(rt; is_whole_audited(first.answer, one) || is_whole_audited(second.answer, two));
+    is_told_audited(&rt, first.answer, one);
+    is_told_audited(&rt, second.answer, two);
 }

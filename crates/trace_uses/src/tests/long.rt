@@ -18,7 +18,7 @@ fn links(alloc: Global, count: u32) -> Result<Vec<u8>, Fail> {
 /// The trace has this end, and the closing line of its report stands behind this many bytes.
 fn ends(rt: &(impl Abort + AllocGlobal), trace: &[u8], want: End, front: usize) {
     let left = replay_over(rt.alloc(), Pieces::new(trace, 65, 0), Kept::all(rt.alloc()));
-    assert!(rt; left.end == Ok(want));
+    assert!(rt; left.answer == Ok((want, None)));
     let closing = b"end chunks 0 lent 0 home 0 cached 0 queued 0\n".len();
     assert!(rt; left.written.bytes.len().checked_sub(closing) == Some(front));
 }

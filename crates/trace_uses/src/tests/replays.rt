@@ -5,10 +5,13 @@ use crate::memory::{Kept, Pieces};
 use std::alloc::Global;
 use trace_audit::{End, Fault, ReplayError, Sink, Source, replay, replay_audited};
 
+/// How a replay ended, and what its audit answered, if it has one.
+pub type Audited = (End, Option<Result<(), Fault>>);
+
 /// What a replay answered, how many reads it made, and its writer.
 #[derive(Drop)]
 pub struct Left {
-    pub end: Result<End, ReplayError>,
+    pub answer: Result<Audited, ReplayError>,
     pub reads: u64,
     pub written: Kept,
 }
@@ -20,9 +23,12 @@ pub fn replay_over<'a>(alloc: Global, reader: Pieces<'a>, writer: Kept) -> Left
 {
     let mut reader = reader;
     let mut written = writer;
-    let end = replay(alloc, &mut reader, &mut written);
+    let answer = match replay(alloc, &mut reader, &mut written) {
+        Ok(end) => Ok((end, None)),
+        Err(error) => Err(error),
+    };
     Left {
-        end,
+        answer,
         reads: reader.reads,
         written,
     }
@@ -33,25 +39,22 @@ pub fn replayed(alloc: Global, trace: &[u8]) -> Left {
     replay_over(alloc, Pieces::new(trace, usize::MAX, 0), Kept::all(alloc))
 }
 
-/// How a replay with an audit ended, and what the audit answered.
-pub type Audited = (End, Option<Result<(), Fault>>);
-
-/// An audited replay from this reader to this writer, and the writer.
-pub fn audit_over<'a>(
-    alloc: Global,
-    reader: Pieces<'a>,
-    writer: Kept,
-) -> (Result<Audited, ReplayError>, Kept)
+/// An audited replay from this reader to this writer.
+pub fn audit_over<'a>(alloc: Global, reader: Pieces<'a>, writer: Kept) -> Left
     requires reader_down { ⟦<Pieces<'a> as Source>⟧.has_failed reader ≡ false }
     requires writer_down { ⟦<Kept as Sink>⟧.has_failed writer ≡ false }
 {
     let mut reader = reader;
     let mut written = writer;
     let answer = replay_audited(alloc, &mut reader, &mut written);
-    (answer, written)
+    Left {
+        answer,
+        reads: reader.reads,
+        written,
+    }
 }
 
-/// The answer of an audited replay of these bytes that nothing disturbs, and its writer.
-pub fn audited(alloc: Global, trace: &[u8]) -> (Result<Audited, ReplayError>, Kept) {
+/// An audited replay of these bytes that nothing disturbs.
+pub fn audited(alloc: Global, trace: &[u8]) -> Left {
     audit_over(alloc, Pieces::new(trace, usize::MAX, 0), Kept::all(alloc))
 }

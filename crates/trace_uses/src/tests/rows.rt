@@ -1,5 +1,5 @@
 //! Whole traces and short ones.
-use super::checks::{same_bytes, same_end};
+use super::checks::has_left;
 use super::replays::replayed;
 use std::alloc::Global;
 use std::process::Abort;
@@ -9,25 +9,7 @@ use trace_audit::End;
 /// The replay of the trace has this end, and its report is this text.
 pub fn gives(rt: &(impl Abort + AllocGlobal), trace: &str, want: End, report: &str) {
     let left = replayed(rt.alloc(), trace.as_bytes());
-    same_end(rt, trace, left.end, Ok(want));
-    let bytes = left.written.bytes.as_slice();
-    same_bytes(rt, trace, bytes, report.as_bytes());
-}
-
-/// Writes the line this often.
-fn push_lines(text: &mut String, line: &str, count: u32) -> Result<(), Fail> {
-    for _ in 0..count {
-        text.push_str(line)?;
-    }
-    Ok(())
-}
-
-/// Writes this many lines of this front and a number from 0 on.
-fn push_numbered(text: &mut String, front: &str, count: u32) -> Result<(), Fail> {
-    for index in 0..count {
-        writeln!(text, "{front}{index}")?;
-    }
-    Ok(())
+    has_left(rt, trace, &left, Ok((want, None)), report.as_bytes());
 }
 
 #[test]
@@ -65,13 +47,17 @@ fn least_and_greatest_class(rt: HostRuntime) {
 /// A chunk of 85 slots of 48 bytes is asked for 86.
 fn trace_of_86(alloc: Global) -> Result<String, Fail> {
     let mut trace = String::from_str(alloc, "pool 1 1 2\nadopt 0 0\nclaim 0 2\n")?;
-    push_lines(&mut trace, "alloc 0 48\n", 86)?;
+    for _ in 0..86u32 {
+        trace.push_str("alloc 0 48\n")?;
+    }
     Ok(trace)
 }
 
 fn report_of_85(alloc: Global) -> Result<String, Fail> {
     let mut report = String::from_str(alloc, "ok\nchunk 0\n")?;
-    push_numbered(&mut report, "slot 0.", 85)?;
+    for index in 0..85u32 {
+        writeln!(report, "slot 0.{index}")?;
+    }
     report.push_str("R04 NeedChunk\nend chunks 1 lent 85 home 0 cached 0 queued 0\n")?;
     Ok(report)
 }
@@ -96,35 +82,21 @@ fn claims_are_refused(rt: HostRuntime) {
     );
 }
 
-/// Nine buffers of 512 bytes are lent and come into a cache.
-fn trace_of_nine(alloc: Global) -> Result<String, Fail> {
-    let mut trace = String::from_str(alloc, "pool 2 2 2\nadopt 0 0\nadopt 1 1\nclaim 1 15\n")?;
-    push_lines(&mut trace, "alloc 1 512\n", 8)?;
-    trace.push_str("claim 1 15\nalloc 1 512\n")?;
-    push_numbered(&mut trace, "free 0 0.", 8)?;
-    trace.push_str("free 0 1.0\n")?;
-    Ok(trace)
-}
-
-fn report_of_nine(alloc: Global) -> Result<String, Fail> {
-    let mut report = String::from_str(alloc, "ok\nok\nchunk 0\n")?;
-    push_numbered(&mut report, "slot 0.", 8)?;
-    report.push_str("chunk 1\nslot 1.0\n")?;
-    push_lines(&mut report, "cached\n", 8)?;
-    report.push_str(
-        "due\ndesk 0 home 0 cached 9 queued 0\ndesk 1 home 7 cached 0 queued 0\n\
-        end chunks 2 lent 0 home 7 cached 9 queued 0\n",
-    )?;
-    Ok(report)
-}
-
 /// Eight buffers of 512 bytes are 4,096 bytes, the limit; the ninth makes the cache due.
 #[test]
-fn due_only_above_the_limit(rt: HostRuntime) -> Result<(), Fail> {
-    let trace = trace_of_nine(rt.alloc())?;
-    let report = report_of_nine(rt.alloc())?;
-    gives(&rt, trace.as_str(), End::Whole, report.as_str());
-    Ok(())
+fn due_only_above_the_limit(rt: HostRuntime) {
+    gives(
+        &rt,
+        "pool 2 2 2\nadopt 0 0\nadopt 1 1\nclaim 1 15\nalloc 1 512\nalloc 1 512\nalloc 1 512\n\
+        alloc 1 512\nalloc 1 512\nalloc 1 512\nalloc 1 512\nalloc 1 512\nclaim 1 15\nalloc 1 512\n\
+        free 0 0.0\nfree 0 0.1\nfree 0 0.2\nfree 0 0.3\nfree 0 0.4\nfree 0 0.5\nfree 0 0.6\n\
+        free 0 0.7\nfree 0 1.0\n",
+        End::Whole,
+        "ok\nok\nchunk 0\nslot 0.0\nslot 0.1\nslot 0.2\nslot 0.3\nslot 0.4\nslot 0.5\nslot 0.6\n\
+        slot 0.7\nchunk 1\nslot 1.0\ncached\ncached\ncached\ncached\ncached\ncached\ncached\ncached\n\
+        due\ndesk 0 home 0 cached 9 queued 0\ndesk 1 home 7 cached 0 queued 0\n\
+        end chunks 2 lent 0 home 7 cached 9 queued 0\n",
+    );
 }
 
 #[test]
