@@ -2,8 +2,6 @@
 use super::checks::has_left_at;
 use super::replays::replayed;
 use super::travel::{TRACE, replies_to, whole_lines};
-use std::alloc::Global;
-use std::io::Write;
 use std::process::Abort;
 use std::test::Fail;
 use trace_audit::End;
@@ -38,25 +36,42 @@ fn closing_of(rt: &(impl Abort + AllocGlobal), trace: &[u8]) -> Result<Vec<u8>, 
     }
 }
 
-/// The replies to the trace, the line of a bad line, and these closing lines.
-fn report_of(alloc: Global, trace: &[u8], bad: u32, closing: &[u8]) -> Result<Vec<u8>, Fail> {
-    let mut report = Vec::from_slice(alloc, replies_to(trace))?;
-    writeln!(report, "R17 BadLine {bad}")?;
-    report.extend_from_slice(closing)?;
-    Ok(report)
+/// Whether the bytes are these three texts, one behind the other.
+fn is_joined(bytes: &[u8], front: &[u8], line: &[u8], closing: &[u8]) -> bool {
+    match bytes.strip_prefix(front) {
+        Some(rest) => match rest.strip_prefix(line) {
+            Some(rest) => rest == closing,
+            None => false,
+        },
+        None => false,
+    }
 }
 
-/// Cut off within a line, the trace has the replies, the bad line, and these closing lines.
+/// Cut off within a line, the trace has the replies, this bad line, and these closing lines.
+fn has_a_bad_line(
+    rt: &(impl Abort + AllocGlobal),
+    trace: &[u8],
+    bad: u32,
+    line: &[u8],
+    closing: &[u8],
+) {
+    let cut = trace.len();
+    let left = replayed(rt.alloc(), trace);
+    let bytes = left.written.bytes.as_slice();
+    let is_whole = is_joined(bytes, replies_to(trace), line, closing);
+    let is_bad = left.answer == Ok((End::BadLine(bad), None));
+    assert!(rt; is_whole && is_bad, "behind byte {cut}: {bytes:?}");
+}
+
+/// The same, of the line behind those that are whole.
 fn ends_in_a_line(
     rt: &(impl Abort + AllocGlobal),
     trace: &[u8],
     closing: &[u8],
 ) -> Result<(), Fail> {
     let bad = whole_lines(trace).saturating_add(1);
-    let report = report_of(rt.alloc(), trace, bad, closing)?;
-    let left = replayed(rt.alloc(), trace);
-    let want = Ok((End::BadLine(bad), None));
-    has_left_at(rt, trace.len(), &left, want, report.as_slice());
+    let line = format!(in rt.alloc(); "R17 BadLine {bad}\n")?;
+    has_a_bad_line(rt, trace, bad, line.as_bytes(), closing);
     Ok(())
 }
 
