@@ -3,8 +3,12 @@
 mod audited;
 mod audits;
 mod bad_lines;
+mod checks;
+mod cuts;
 mod failing;
+mod growing;
 mod long;
 mod replays;
 mod rows;
+mod travel;
 mod travels;

@@ -1,84 +1,78 @@
 //! Replays with an audit at the end.
-use super::failing::{REPORT, TRACE, first_lines};
-use super::replays::{Audited, audited};
-use super::travels::lines;
+use super::checks::{has_left, has_left_at, none_behind};
+use super::replays::{Audited, audit_over, audited};
+use super::travel::{REPORT, TRACE, is_report, replies_to};
 use crate::memory::{Kept, Pieces, WriteFault};
-use std::alloc::Global;
 use std::process::Abort;
 use std::test::Fail;
-use trace_audit::{End, Fault, ReplayError, replay_audited};
+use trace_audit::{End, ReplayError};
 
-const YES: &[u8] = b"audit yes\n";
+/// The line of an audit that finds nothing wrong.
+pub const YES: &[u8] = b"audit yes\n";
 
-/// The report of `TRACE`, with this line behind it.
-fn report_with(alloc: Global, line: &[u8]) -> Result<Vec<u8>, Fail> {
-    let mut report = first_lines(alloc, REPORT.len())?;
-    report.extend_from_slice(line)?;
-    Ok(report)
+/// The trace is whole, and its audit finds nothing wrong.
+const WHOLE: Result<Audited, ReplayError> = Ok((End::Whole, Some(Ok(()))));
+
+/// The audited replay of the trace has this answer, and its report is this text.
+fn gives(
+    rt: &(impl Abort + AllocGlobal),
+    trace: &str,
+    want: Result<Audited, ReplayError>,
+    report: &str,
+) {
+    let left = audited(rt.alloc(), trace.as_bytes());
+    has_left(rt, trace, &left, want, report.as_bytes());
 }
 
 #[test]
-fn all_slots_are_there(rt: HostRuntime) -> Result<(), Fail> {
-    let rows = [
-        (
-            "pool 1 1 2 / adopt 0 5 / claim 0 0 / alloc 0 16 / free 0 0.0",
-            "ok / chunk 0 / slot 0.0 / home / desk 0 home 256 cached 0 queued 0 / \
-            end chunks 1 lent 0 home 256 cached 0 queued 0 / audit yes",
-        ),
-        (
-            "pool 1 2 2 / adopt 0 0 / alloc 0 0 / claim 0 0 / claim 0 15 / alloc 0 0 / \
-            alloc 0 512 / alloc 0 513",
-            "ok / R04 NeedChunk / chunk 0 / chunk 1 / slot 0.0 / slot 1.0 / R03 TooLarge / \
-            desk 0 home 262 cached 0 queued 0 / end chunks 2 lent 2 home 262 cached 0 queued 0 / \
-            audit yes",
-        ),
-        (
-            "pool 2 1 2 / adopt 0 0 / adopt 1 1 / claim 1 15 / alloc 1 512 / free 1 0.1 / \
-            free 0 0.0 / free 0 0.0 / free 1 0.0 / send 0 1 / free 1 0.0 / free 1 0.8 / free 1 3.0",
-            "ok / ok / chunk 0 / slot 0.0 / R07 NotLent / cached / R07 NotLent / R07 NotLent / \
-            batch 1 1 / R07 NotLent / R07 NotLent / R07 NotLent / \
-            desk 1 home 7 cached 0 queued 1 / end chunks 1 lent 0 home 7 cached 0 queued 1 / \
-            audit yes",
-        ),
-    ];
-    for (trace, report) in rows {
-        let trace = lines(rt.alloc(), trace)?;
-        let want = lines(rt.alloc(), report)?;
-        let (answer, bytes) = audited(rt.alloc(), trace.as_bytes());
-        assert!(rt; bytes.as_slice() == want.as_bytes(), "{trace}: {bytes:?}");
-        assert!(rt;
-            answer == Ok((End::Whole, Some(Ok(())))),
-            "{trace}: {answer:?}"
-        );
-    }
-    let (answer, bytes) = audited(rt.alloc(), TRACE);
-    let want = report_with(rt.alloc(), YES)?;
-    assert!(rt; bytes.as_slice() == want.as_slice(), "{bytes:?}");
-    assert!(rt; answer == Ok((End::Whole, Some(Ok(())))), "{answer:?}");
-    Ok(())
+fn all_slots_are_there(rt: HostRuntime) {
+    gives(
+        &rt,
+        "pool 1 1 2\nadopt 0 5\nclaim 0 0\nalloc 0 16\nfree 0 0.0\n",
+        WHOLE,
+        "ok\nchunk 0\nslot 0.0\nhome\ndesk 0 home 256 cached 0 queued 0\n\
+        end chunks 1 lent 0 home 256 cached 0 queued 0\naudit yes\n",
+    );
+    gives(
+        &rt,
+        "pool 1 2 2\nadopt 0 0\nalloc 0 0\nclaim 0 0\nclaim 0 15\nalloc 0 0\n\
+        alloc 0 512\nalloc 0 513\n",
+        WHOLE,
+        "ok\nR04 NeedChunk\nchunk 0\nchunk 1\nslot 0.0\nslot 1.0\nR03 TooLarge\n\
+        desk 0 home 262 cached 0 queued 0\nend chunks 2 lent 2 home 262 cached 0 queued 0\n\
+        audit yes\n",
+    );
+    gives(
+        &rt,
+        "pool 2 1 2\nadopt 0 0\nadopt 1 1\nclaim 1 15\nalloc 1 512\nfree 1 0.1\n\
+        free 0 0.0\nfree 0 0.0\nfree 1 0.0\nsend 0 1\nfree 1 0.0\nfree 1 0.8\nfree 1 3.0\n",
+        WHOLE,
+        "ok\nok\nchunk 0\nslot 0.0\nR07 NotLent\ncached\nR07 NotLent\nR07 NotLent\n\
+        batch 1 1\nR07 NotLent\nR07 NotLent\nR07 NotLent\n\
+        desk 1 home 7 cached 0 queued 1\nend chunks 1 lent 0 home 7 cached 0 queued 1\n\
+        audit yes\n",
+    );
+}
+
+#[test]
+fn all_slots_are_there_behind_a_travel(rt: HostRuntime) {
+    let left = audited(rt.alloc(), TRACE);
+    assert!(rt; left.answer == WHOLE);
+    assert!(rt; is_report(left.written.bytes.as_slice(), YES));
 }
 
 /// One buffer at home, one lent, one in a cache and one in a batch, and the last line is bad.
 #[test]
-fn an_audit_behind_a_bad_line(rt: HostRuntime) -> Result<(), Fail> {
-    let trace = lines(
-        rt.alloc(),
-        "pool 2 1 2 / adopt 0 0 / adopt 1 1 / claim 1 15 / alloc 1 512 / alloc 1 512 / alloc 1 512 / \
-        free 0 0.0 / send 0 1 / free 0 0.1 / expire 0",
-    )?;
-    let want = lines(
-        rt.alloc(),
-        "ok / ok / chunk 0 / slot 0.0 / slot 0.1 / slot 0.2 / cached / batch 1 1 / cached / \
-        R17 BadLine 11 / desk 0 home 0 cached 1 queued 0 / desk 1 home 5 cached 0 queued 1 / \
-        end chunks 1 lent 1 home 5 cached 1 queued 1 / audit yes",
-    )?;
-    let (answer, bytes) = audited(rt.alloc(), trace.as_bytes());
-    assert!(rt; bytes.as_slice() == want.as_bytes(), "{bytes:?}");
-    assert!(rt;
-        answer == Ok((End::BadLine(11), Some(Ok(())))),
-        "{answer:?}"
+fn an_audit_behind_a_bad_line(rt: HostRuntime) {
+    gives(
+        &rt,
+        "pool 2 1 2\nadopt 0 0\nadopt 1 1\nclaim 1 15\nalloc 1 512\nalloc 1 512\nalloc 1 512\n\
+        free 0 0.0\nsend 0 1\nfree 0 0.1\nexpire 0\n",
+        Ok((End::BadLine(11), Some(Ok(())))),
+        "ok\nok\nchunk 0\nslot 0.0\nslot 0.1\nslot 0.2\ncached\nbatch 1 1\ncached\n\
+        R17 BadLine 11\ndesk 0 home 0 cached 1 queued 0\ndesk 1 home 5 cached 0 queued 1\n\
+        end chunks 1 lent 1 home 5 cached 1 queued 1\naudit yes\n",
     );
-    Ok(())
 }
 
 #[test]
@@ -92,111 +86,45 @@ fn no_audit_behind_a_bad_header(rt: HostRuntime) {
         "",
     ];
     for header in headers {
-        let (answer, bytes) = audited(rt.alloc(), header.as_bytes());
-        assert!(rt;
-            answer == Ok((End::BadLine(1), None)),
-            "{header}: {answer:?}"
-        );
-        assert!(rt;
-            bytes.as_slice() == b"R17 BadLine 1\n".as_slice(),
-            "{header}: {bytes:?}"
-        );
+        gives(&rt, header, Ok((End::BadLine(1), None)), "R17 BadLine 1\n");
     }
 }
 
-/// A byte a read: where read `turn` fails, the replies to the whole lines are there and no audit.
+/// A byte a read: where read `turn` fails, the replies to the whole lines of these bytes are there and no audit.
+fn read_fails(rt: &(impl Abort + AllocGlobal), turn: usize, given: &[u8]) {
+    let reader = Pieces::new(TRACE, 1, turn as u64);
+    let left = audit_over(rt.alloc(), reader, Kept::all(rt.alloc()));
+    has_left_at(rt, turn, &left, Err(ReplayError::Read), replies_to(given));
+}
+
 #[test]
-fn a_read_fails_before_the_audit(rt: HostRuntime) -> Result<(), Fail> {
+fn a_read_fails_before_the_audit(rt: HostRuntime) {
     for turn in 1..TRACE.len() + 2 {
-        let mut reader = Pieces::new(TRACE, 1, turn as u64);
-        let mut writer = Kept::all(rt.alloc());
-        let answer = replay_audited(rt.alloc(), &mut reader, &mut writer);
-        assert!(rt; answer == Err(ReplayError::Read), "read {turn}");
-        let whole = TRACE[..turn - 1].iter().filter(|b| **b == b'\n').count();
-        let replies = first_lines(rt.alloc(), whole.saturating_sub(1))?;
-        assert!(rt;
-            writer.bytes.as_slice() == replies.as_slice(),
-            "read {turn}"
-        );
+        read_fails(&rt, turn, &TRACE[..turn - 1]);
     }
-    Ok(())
 }
 
-/// A byte a write: where write `turn` fails, `turn - 1` bytes were taken, also within the line of the audit.
+/// A byte a write: where write `turn` fails, these bytes were taken.
+fn write_fails(rt: &(impl Abort + AllocGlobal), turn: usize, taken: &[u8]) {
+    let failure = if turn % 2 == 0 {
+        WriteFault::Error
+    } else {
+        WriteFault::TakesNothing
+    };
+    let writer = Kept::new(rt.alloc(), 1, turn as u64, failure);
+    let left = audit_over(rt.alloc(), Pieces::new(TRACE, 64, 0), writer);
+    has_left_at(rt, turn, &left, Err(ReplayError::Write), taken);
+    none_behind(rt, turn, left.written.writes);
+}
+
+/// `turn - 1` bytes were taken, also within the line of the audit.
 #[test]
 fn a_write_fails_up_to_the_audit(rt: HostRuntime) -> Result<(), Fail> {
-    let whole = report_with(rt.alloc(), YES)?;
+    let mut report = Vec::from_slice(rt.alloc(), REPORT)?;
+    report.extend_from_slice(YES)?;
+    let whole = report.as_slice();
     for turn in 1..whole.len() + 1 {
-        let failure = if turn % 2 == 0 {
-            WriteFault::Error
-        } else {
-            WriteFault::TakesNothing
-        };
-        let mut reader = Pieces::new(TRACE, 64, 0);
-        let mut writer = Kept::new(rt.alloc(), 1, turn as u64, failure);
-        let answer = replay_audited(rt.alloc(), &mut reader, &mut writer);
-        assert!(rt; answer == Err(ReplayError::Write), "write {turn}");
-        assert!(rt;
-            writer.bytes.as_slice() == &whole.as_slice()[..turn - 1],
-            "write {turn}"
-        );
-        assert!(rt;
-            writer.writes == turn as u64,
-            "nothing is written after write {turn}"
-        );
+        write_fails(&rt, turn, &whole[..turn - 1]);
     }
     Ok(())
-}
-
-/// How often the line is there.
-fn times(bytes: &[u8], line: &[u8]) -> usize {
-    bytes
-        .windows(line.len().max(1))
-        .filter(|w| *w == line)
-        .count()
-}
-
-/// Whether the bytes are the report of `TRACE`, and then this line.
-fn is_report(bytes: &[u8], line: &[u8]) -> bool {
-    let mut rest = bytes;
-    for front in REPORT {
-        match rest.strip_prefix(front) {
-            Some(more) => rest = more,
-            None => return false,
-        }
-    }
-    rest == line
-}
-
-/// Whether the replay says that one growth was refused: one of the floor, one of a request or one of the audit; or one
-/// of the test's writer.
-fn is_refused(answer: Result<Audited, ReplayError>, bytes: &[u8]) -> bool {
-    match answer {
-        Ok((End::NoRoom, None)) => bytes == b"R15 NoMemory\n".as_slice(),
-        Ok((End::Whole, Some(Ok(())))) => {
-            times(bytes, b"R15 NoMemory\n") == 1 && bytes.ends_with(YES)
-        }
-        Ok((End::Whole, Some(Err(Fault::NoMemory)))) => is_report(bytes, b"audit no memory\n"),
-        Ok(_) => false,
-        Err(error) => error == ReplayError::Write,
-    }
-}
-
-/// Whichever one growth is refused, of two audited replays one has the whole report, and the other too, or it says so.
-#[test]
-fn an_audited_growth_is_refused(rt: HostRuntime) {
-    let (first, one) = audited(rt.alloc(), TRACE);
-    let (second, two) = audited(rt.alloc(), TRACE);
-    let yes = Ok((End::Whole, Some(Ok(()))));
-    let first_whole = first == yes && is_report(one.as_slice(), YES);
-    let second_whole = second == yes && is_report(two.as_slice(), YES);
-    assert!(rt; first_whole || second_whole);
-    assert!(rt;
-        first_whole || is_refused(first, one.as_slice()),
-        "{first:?}: {one:?}"
-    );
-    assert!(rt;
-        second_whole || is_refused(second, two.as_slice()),
-        "{second:?}: {two:?}"
-    );
 }

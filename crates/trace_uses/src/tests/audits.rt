@@ -1,6 +1,7 @@
 //! What an audit answers, and the line that tells it.
 use crate::memory::Kept;
 use region_cut::{Class, Slot};
+use std::alloc::Global;
 use std::process::Abort;
 use std::test::Fail;
 use trace_audit::{Drawn, Fault, audit, write_audit};
@@ -37,8 +38,16 @@ fn answers(
 
 #[test]
 fn each_slot_once(rt: HostRuntime) {
-    let order: [u16; 8] = [3, 0, 7, 1, 6, 2, 5, 4];
-    let found = order.map(|index| slot(0, index));
+    let found = [
+        slot(0, 3),
+        slot(0, 0),
+        slot(0, 7),
+        slot(0, 1),
+        slot(0, 6),
+        slot(0, 2),
+        slot(0, 5),
+        slot(0, 4),
+    ];
     answers(&rt, &found, &one_chunk(&rt), Ok(()));
     answers(&rt, &[], &Drawn::new(), Ok(()));
 }
@@ -46,7 +55,15 @@ fn each_slot_once(rt: HostRuntime) {
 #[test]
 fn the_least_fault_is_named(rt: HostRuntime) {
     let drawn = one_chunk(&rt);
-    let but_one = [1u16, 2, 3, 4, 5, 6, 7].map(|index| slot(0, index));
+    let but_one = [
+        slot(0, 1),
+        slot(0, 2),
+        slot(0, 3),
+        slot(0, 4),
+        slot(0, 5),
+        slot(0, 6),
+        slot(0, 7),
+    ];
     answers(&rt, &but_one, &drawn, Err(Fault::Missing(slot(0, 0))));
     answers(&rt, &[], &drawn, Err(Fault::Missing(slot(0, 0))));
     let doubled = [slot(0, 0), slot(0, 0), slot(0, 3)];
@@ -58,8 +75,16 @@ fn the_least_fault_is_named(rt: HostRuntime) {
 /// As many slots as there should be, of which one is there twice.
 #[test]
 fn the_number_is_not_enough(rt: HostRuntime) {
-    let order: [u16; 8] = [7, 6, 5, 4, 3, 2, 0, 0];
-    let found = order.map(|index| slot(0, index));
+    let found = [
+        slot(0, 7),
+        slot(0, 6),
+        slot(0, 5),
+        slot(0, 4),
+        slot(0, 3),
+        slot(0, 2),
+        slot(0, 0),
+        slot(0, 0),
+    ];
     answers(
         &rt,
         &found,
@@ -73,20 +98,37 @@ const SLOTS: [u16; 20] = [
     256, 128, 85, 64, 51, 42, 36, 32, 25, 21, 18, 16, 12, 10, 9, 8, 6, 5, 4, 4,
 ];
 
-#[test]
-fn a_chunk_of_each_class(rt: HostRuntime) -> Result<(), Fail> {
+/// Chunk `1000 + class` is drawn for each class.
+fn all_classes() -> Drawn {
     let mut drawn = Drawn::new();
-    let mut found = Vec::new(rt.alloc());
-    for (chunk, count) in SLOTS.iter().enumerate() {
-        let chunk = chunk as u16;
-        let Some(class) = Class::new(u32::from(chunk)) else {
-            continue;
-        };
-        drawn.note(chunk + 1000, class);
-        for index in 0..*count {
-            found.push(slot(chunk + 1000, index))?;
+    for number in 0..20u16 {
+        if let Some(class) = Class::new(u32::from(number)) {
+            drawn.note(number + 1000, class);
         }
     }
+    drawn
+}
+
+fn push_slots(found: &mut Vec<Slot>, chunk: u16, count: u16) -> Result<(), Fail> {
+    for index in 0..count {
+        found.push(slot(chunk, index))?;
+    }
+    Ok(())
+}
+
+/// The slots of those chunks.
+fn all_slots(alloc: Global) -> Result<Vec<Slot>, Fail> {
+    let mut found = Vec::new(alloc);
+    for number in 0..20u16 {
+        push_slots(&mut found, number + 1000, SLOTS[usize::from(number)])?;
+    }
+    Ok(found)
+}
+
+#[test]
+fn a_chunk_of_each_class(rt: HostRuntime) -> Result<(), Fail> {
+    let drawn = all_classes();
+    let mut found = all_slots(rt.alloc())?;
     answers(&rt, found.as_slice(), &drawn, Ok(()));
     found.push(slot(1019, 4))?;
     let stranger = Err(Fault::Stranger(slot(1019, 4)));
@@ -98,35 +140,37 @@ fn a_chunk_of_each_class(rt: HostRuntime) -> Result<(), Fail> {
     Ok(())
 }
 
+/// The line that tells this answer.
+fn tells(rt: &(impl Abort + AllocGlobal), answer: Result<(), Fault>, line: &[u8]) {
+    let mut writer = Kept::all(rt.alloc());
+    assert!(rt; write_audit(answer, &mut writer) == Ok(()));
+    assert!(rt; writer.bytes.as_slice() == line);
+}
+
 #[test]
 fn the_line_of_an_audit(rt: HostRuntime) {
-    let lines: [(Result<(), Fault>, &[u8]); 5] = [
-        (Ok(()), b"audit yes\n"),
-        (Err(Fault::Stranger(slot(0, 8))), b"audit stranger 0.8\n"),
-        (
-            Err(Fault::Doubled(slot(1023, 255))),
-            b"audit doubled 1023.255\n",
-        ),
-        (Err(Fault::Missing(slot(0, 0))), b"audit missing 0.0\n"),
-        (Err(Fault::NoMemory), b"audit no memory\n"),
-    ];
-    for (answer, line) in lines {
-        let mut writer = Kept::all(rt.alloc());
-        assert!(rt; write_audit(answer, &mut writer) == Ok(()));
-        assert!(rt; writer.bytes.as_slice() == line);
-    }
+    let doubled = Fault::Doubled(slot(1023, 255));
+    tells(&rt, Ok(()), b"audit yes\n");
+    tells(
+        &rt,
+        Err(Fault::Stranger(slot(0, 8))),
+        b"audit stranger 0.8\n",
+    );
+    tells(&rt, Err(doubled), b"audit doubled 1023.255\n");
+    tells(&rt, Err(Fault::Missing(slot(0, 0))), b"audit missing 0.0\n");
+    tells(&rt, Err(Fault::NoMemory), b"audit no memory\n");
+}
+
+/// The text of this fault.
+fn says(rt: &(impl Abort + AllocGlobal), fault: Fault, text: &str) -> Result<(), Fail> {
+    assert!(rt; format!(in rt.alloc(); "{fault}")?.as_str() == text);
+    Ok(())
 }
 
 #[test]
 fn what_a_fault_says(rt: HostRuntime) -> Result<(), Fail> {
-    let texts = [
-        (Fault::Stranger(slot(0, 8)), "stranger 0.8"),
-        (Fault::Doubled(slot(1023, 255)), "doubled 1023.255"),
-        (Fault::Missing(slot(0, 0)), "missing 0.0"),
-        (Fault::NoMemory, "no memory"),
-    ];
-    for (fault, text) in texts {
-        assert!(rt; format!(in rt.alloc(); "{fault}")?.as_str() == text);
-    }
-    Ok(())
+    says(&rt, Fault::Stranger(slot(0, 8)), "stranger 0.8")?;
+    says(&rt, Fault::Doubled(slot(1023, 255)), "doubled 1023.255")?;
+    says(&rt, Fault::Missing(slot(0, 0)), "missing 0.0")?;
+    says(&rt, Fault::NoMemory, "no memory")
 }

@@ -1,23 +1,60 @@
-//! Replays over memory that nothing disturbs.
+//! Replays over memory, and what they leave.
+ghost use Rattle.std.specs.Prelude.{◌≡◌, false};
+
 use crate::memory::{Kept, Pieces};
 use std::alloc::Global;
-use trace_audit::{End, Fault, ReplayError, replay, replay_audited};
+use trace_audit::{End, Fault, ReplayError, Sink, Source, replay, replay_audited};
 
-/// The answer of a replay of these bytes, and what was written.
-pub fn replayed(alloc: Global, trace: &[u8]) -> (Result<End, ReplayError>, Vec<u8>) {
-    let mut reader = Pieces::new(trace, usize::MAX, 0);
-    let mut writer = Kept::all(alloc);
-    let end = replay(alloc, &mut reader, &mut writer);
-    (end, writer.bytes)
-}
-
-/// How a replay with an audit ended, and what the audit answered.
+/// How a replay ended, and what its audit answered, if it has one.
 pub type Audited = (End, Option<Result<(), Fault>>);
 
-/// The answer of an audited replay of these bytes, and what was written.
-pub fn audited(alloc: Global, trace: &[u8]) -> (Result<Audited, ReplayError>, Vec<u8>) {
-    let mut reader = Pieces::new(trace, usize::MAX, 0);
-    let mut writer = Kept::all(alloc);
-    let answer = replay_audited(alloc, &mut reader, &mut writer);
-    (answer, writer.bytes)
+/// What a replay answered, how many reads it made, and its writer.
+#[derive(Drop)]
+pub struct Left {
+    pub answer: Result<Audited, ReplayError>,
+    pub reads: u64,
+    pub written: Kept,
+}
+
+/// A replay from this reader to this writer.
+pub fn replay_over<'a>(alloc: Global, reader: Pieces<'a>, writer: Kept) -> Left
+    requires reader_down { ⟦<Pieces<'a> as Source>⟧.has_failed reader ≡ false }
+    requires writer_down { ⟦<Kept as Sink>⟧.has_failed writer ≡ false }
+{
+    let mut reader = reader;
+    let mut written = writer;
+    let answer = match replay(alloc, &mut reader, &mut written) {
+        Ok(end) => Ok((end, None)),
+        Err(error) => Err(error),
+    };
+    Left {
+        answer,
+        reads: reader.reads,
+        written,
+    }
+}
+
+/// A replay of these bytes that nothing disturbs.
+pub fn replayed(alloc: Global, trace: &[u8]) -> Left {
+    replay_over(alloc, Pieces::new(trace, usize::MAX, 0), Kept::all(alloc))
+}
+
+/// An audited replay from this reader to this writer.
+pub fn audit_over<'a>(alloc: Global, reader: Pieces<'a>, writer: Kept) -> Left
+    requires reader_down { ⟦<Pieces<'a> as Source>⟧.has_failed reader ≡ false }
+    requires writer_down { ⟦<Kept as Sink>⟧.has_failed writer ≡ false }
+{
+    let mut reader = reader;
+    let mut written = writer;
+    let answer = replay_audited(alloc, &mut reader, &mut written);
+    Left {
+        answer,
+        reads: reader.reads,
+        written,
+    }
+}
+
+/// An audited replay of these bytes that nothing disturbs.
+pub fn audited(alloc: Global, trace: &[u8]) -> Left {
+    audit_over(alloc, Pieces::new(trace, usize::MAX, 0), Kept::all(alloc))
 }

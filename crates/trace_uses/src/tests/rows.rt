@@ -1,14 +1,15 @@
 //! Whole traces and short ones.
+use super::checks::has_left;
 use super::replays::replayed;
+use std::alloc::Global;
 use std::process::Abort;
 use std::test::Fail;
 use trace_audit::End;
 
 /// The replay of the trace has this end, and its report is this text.
-fn gives(rt: &(impl Abort + AllocGlobal), trace: &str, want: End, report: &str) {
-    let (end, bytes) = replayed(rt.alloc(), trace.as_bytes());
-    assert!(rt; end == Ok(want), "{trace}: {end:?}");
-    assert!(rt; bytes.as_slice() == report.as_bytes(), "{trace}: {bytes:?}");
+pub fn gives(rt: &(impl Abort + AllocGlobal), trace: &str, want: End, report: &str) {
+    let left = replayed(rt.alloc(), trace.as_bytes());
+    has_left(rt, trace, &left, Ok((want, None)), report.as_bytes());
 }
 
 #[test]
@@ -43,19 +44,29 @@ fn least_and_greatest_class(rt: HostRuntime) {
     );
 }
 
+/// A chunk of 85 slots of 48 bytes is asked for 86.
+fn trace_of_86(alloc: Global) -> Result<String, Fail> {
+    let mut trace = String::from_str(alloc, "pool 1 1 2\nadopt 0 0\nclaim 0 2\n")?;
+    for _ in 0..86u32 {
+        trace.push_str("alloc 0 48\n")?;
+    }
+    Ok(trace)
+}
+
+fn report_of_85(alloc: Global) -> Result<String, Fail> {
+    let mut report = String::from_str(alloc, "ok\nchunk 0\n")?;
+    for index in 0..85u32 {
+        writeln!(report, "slot 0.{index}")?;
+    }
+    report.push_str("R04 NeedChunk\nend chunks 1 lent 85 home 0 cached 0 queued 0\n")?;
+    Ok(report)
+}
+
 /// 85 slots of 48 bytes are 4,080 bytes; the last 16 bytes of the chunk are never handed out.
 #[test]
 fn the_rest_of_a_chunk_is_never_lent(rt: HostRuntime) -> Result<(), Fail> {
-    let alloc = rt.alloc();
-    let mut trace = String::from_str(alloc, "pool 1 1 2\nadopt 0 0\nclaim 0 2\n")?;
-    let mut report = String::from_str(alloc, "ok\nchunk 0\n")?;
-    for index in 0..86u32 {
-        trace.push_str("alloc 0 48\n")?;
-        if index < 85 {
-            writeln!(report, "slot 0.{index}")?;
-        }
-    }
-    report.push_str("R04 NeedChunk\nend chunks 1 lent 85 home 0 cached 0 queued 0\n")?;
+    let trace = trace_of_86(rt.alloc())?;
+    let report = report_of_85(rt.alloc())?;
     gives(&rt, trace.as_str(), End::Whole, report.as_str());
     Ok(())
 }
@@ -73,27 +84,19 @@ fn claims_are_refused(rt: HostRuntime) {
 
 /// Eight buffers of 512 bytes are 4,096 bytes, the limit; the ninth makes the cache due.
 #[test]
-fn due_only_above_the_limit(rt: HostRuntime) -> Result<(), Fail> {
-    let alloc = rt.alloc();
-    let mut trace = String::from_str(alloc, "pool 2 2 2\nadopt 0 0\nadopt 1 1\nclaim 1 15\n")?;
-    let mut report = String::from_str(alloc, "ok\nok\nchunk 0\n")?;
-    for index in 0..8u32 {
-        trace.push_str("alloc 1 512\n")?;
-        writeln!(report, "slot 0.{index}")?;
-    }
-    trace.push_str("claim 1 15\nalloc 1 512\n")?;
-    report.push_str("chunk 1\nslot 1.0\n")?;
-    for index in 0..8u32 {
-        writeln!(trace, "free 0 0.{index}")?;
-        report.push_str("cached\n")?;
-    }
-    trace.push_str("free 0 1.0\n")?;
-    report.push_str(
-        "due\ndesk 0 home 0 cached 9 queued 0\ndesk 1 home 7 cached 0 queued 0\n\
+fn due_only_above_the_limit(rt: HostRuntime) {
+    gives(
+        &rt,
+        "pool 2 2 2\nadopt 0 0\nadopt 1 1\nclaim 1 15\nalloc 1 512\nalloc 1 512\nalloc 1 512\n\
+        alloc 1 512\nalloc 1 512\nalloc 1 512\nalloc 1 512\nalloc 1 512\nclaim 1 15\nalloc 1 512\n\
+        free 0 0.0\nfree 0 0.1\nfree 0 0.2\nfree 0 0.3\nfree 0 0.4\nfree 0 0.5\nfree 0 0.6\n\
+        free 0 0.7\nfree 0 1.0\n",
+        End::Whole,
+        "ok\nok\nchunk 0\nslot 0.0\nslot 0.1\nslot 0.2\nslot 0.3\nslot 0.4\nslot 0.5\nslot 0.6\n\
+        slot 0.7\nchunk 1\nslot 1.0\ncached\ncached\ncached\ncached\ncached\ncached\ncached\ncached\n\
+        due\ndesk 0 home 0 cached 9 queued 0\ndesk 1 home 7 cached 0 queued 0\n\
         end chunks 2 lent 0 home 7 cached 9 queued 0\n",
-    )?;
-    gives(&rt, trace.as_str(), End::Whole, report.as_str());
-    Ok(())
+    );
 }
 
 #[test]

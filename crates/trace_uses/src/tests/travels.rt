@@ -1,170 +1,159 @@
 //! Buffers that travel: batches are sent, linked and taken, desks are retired and adopted again.
-use super::replays::replayed;
-use std::process::Abort;
-use std::test::Fail;
+use super::rows::gives;
 use trace_audit::End;
-
-/// The lines of the text, which are written one behind the other with ` / ` between them.
-pub fn lines(alloc: std::alloc::Global, text: &str) -> Result<String, Fail> {
-    let mut lines = String::new(alloc);
-    for line in text.split(" / ") {
-        lines.push_str(line)?;
-        lines.push_str("\n")?;
-    }
-    Ok(lines)
-}
-
-/// The trace of these lines is whole, and its report has those.
-fn gives(rt: &(impl Abort + AllocGlobal), trace: &str, report: &str) -> Result<(), Fail> {
-    let trace = lines(rt.alloc(), trace)?;
-    let want = lines(rt.alloc(), report)?;
-    let (end, bytes) = replayed(rt.alloc(), trace.as_bytes());
-    assert!(rt; bytes.as_slice() == want.as_bytes(), "{trace}: {bytes:?}");
-    assert!(rt; end == Ok(End::Whole), "{trace}: {end:?}");
-    Ok(())
-}
 
 /// Owners 7, 11 and 27 are 3,1,0 and 3,2,0 and 3,2,1 in digits of 2 bits: the last buffer is passed
 /// on twice.
 #[test]
-fn a_buffer_is_passed_on(rt: HostRuntime) -> Result<(), Fail> {
+fn a_buffer_is_passed_on(rt: HostRuntime) {
     gives(
         &rt,
-        "pool 64 8 2 / adopt 0 0 / adopt 7 1 / adopt 11 2 / adopt 27 3 / claim 7 15 / \
-        claim 11 15 / claim 27 15 / alloc 7 512 / alloc 11 512 / alloc 27 512 / \
-        free 0 0.0 / free 0 1.0 / free 0 2.0 / send 0 7 / link 1 / take 7 / send 7 11 / \
-        link 2 / take 11 / send 11 27 / link 3 / take 27",
-        "ok / ok / ok / ok / chunk 0 / chunk 1 / chunk 2 / slot 0.0 / slot 1.0 / \
-        slot 2.0 / cached / cached / cached / batch 1 3 / ok / home 1 on 2 / \
-        batch 2 2 / ok / home 1 on 1 / batch 3 1 / ok / home 1 on 0 / \
-        desk 7 home 8 cached 0 queued 0 / desk 11 home 8 cached 0 queued 0 / \
-        desk 27 home 8 cached 0 queued 0 / end chunks 3 lent 0 home 24 cached 0 queued 0",
-    )
+        "pool 64 8 2\nadopt 0 0\nadopt 7 1\nadopt 11 2\nadopt 27 3\nclaim 7 15\n\
+        claim 11 15\nclaim 27 15\nalloc 7 512\nalloc 11 512\nalloc 27 512\n\
+        free 0 0.0\nfree 0 1.0\nfree 0 2.0\nsend 0 7\nlink 1\ntake 7\nsend 7 11\n\
+        link 2\ntake 11\nsend 11 27\nlink 3\ntake 27\n",
+        End::Whole,
+        "ok\nok\nok\nok\nchunk 0\nchunk 1\nchunk 2\nslot 0.0\nslot 1.0\n\
+        slot 2.0\ncached\ncached\ncached\nbatch 1 3\nok\nhome 1 on 2\n\
+        batch 2 2\nok\nhome 1 on 1\nbatch 3 1\nok\nhome 1 on 0\n\
+        desk 7 home 8 cached 0 queued 0\ndesk 11 home 8 cached 0 queued 0\n\
+        desk 27 home 8 cached 0 queued 0\nend chunks 3 lent 0 home 24 cached 0 queued 0\n",
+    );
 }
 
 #[test]
-fn nothing_is_passed_on_with_one_digit(rt: HostRuntime) -> Result<(), Fail> {
+fn nothing_is_passed_on_with_one_digit(rt: HostRuntime) {
     gives(
         &rt,
-        "pool 64 8 6 / adopt 0 0 / adopt 7 1 / adopt 11 2 / adopt 27 3 / claim 7 15 / \
-        claim 11 15 / claim 27 15 / alloc 7 512 / alloc 11 512 / alloc 27 512 / \
-        free 0 0.0 / free 0 1.0 / free 0 2.0 / send 0 7 / link 1 / take 7 / send 0 11 / \
-        link 2 / take 11 / send 0 27 / link 3 / take 27",
-        "ok / ok / ok / ok / chunk 0 / chunk 1 / chunk 2 / slot 0.0 / slot 1.0 / \
-        slot 2.0 / cached / cached / cached / batch 1 1 / ok / home 1 on 0 / \
-        batch 2 1 / ok / home 1 on 0 / batch 3 1 / ok / home 1 on 0 / \
-        desk 7 home 8 cached 0 queued 0 / desk 11 home 8 cached 0 queued 0 / \
-        desk 27 home 8 cached 0 queued 0 / end chunks 3 lent 0 home 24 cached 0 queued 0",
-    )
+        "pool 64 8 6\nadopt 0 0\nadopt 7 1\nadopt 11 2\nadopt 27 3\nclaim 7 15\n\
+        claim 11 15\nclaim 27 15\nalloc 7 512\nalloc 11 512\nalloc 27 512\n\
+        free 0 0.0\nfree 0 1.0\nfree 0 2.0\nsend 0 7\nlink 1\ntake 7\nsend 0 11\n\
+        link 2\ntake 11\nsend 0 27\nlink 3\ntake 27\n",
+        End::Whole,
+        "ok\nok\nok\nok\nchunk 0\nchunk 1\nchunk 2\nslot 0.0\nslot 1.0\n\
+        slot 2.0\ncached\ncached\ncached\nbatch 1 1\nok\nhome 1 on 0\n\
+        batch 2 1\nok\nhome 1 on 0\nbatch 3 1\nok\nhome 1 on 0\n\
+        desk 7 home 8 cached 0 queued 0\ndesk 11 home 8 cached 0 queued 0\n\
+        desk 27 home 8 cached 0 queued 0\nend chunks 3 lent 0 home 24 cached 0 queued 0\n",
+    );
 }
 
 /// Desk 17 is 1,1 and desk 33 is 1,2.
 #[test]
-fn two_digits_of_four_bits(rt: HostRuntime) -> Result<(), Fail> {
+fn two_digits_of_four_bits(rt: HostRuntime) {
     gives(
         &rt,
-        "pool 64 8 4 / adopt 0 0 / adopt 17 1 / adopt 33 2 / claim 17 0 / claim 33 0 / \
-        alloc 17 1 / alloc 33 1 / free 0 0.0 / free 0 1.0 / send 0 17 / link 1 / \
-        take 17 / send 17 33 / link 2 / take 33",
-        "ok / ok / ok / chunk 0 / chunk 1 / slot 0.0 / slot 1.0 / cached / cached / \
-        batch 1 2 / ok / home 1 on 1 / batch 2 1 / ok / home 1 on 0 / \
-        desk 17 home 256 cached 0 queued 0 / desk 33 home 256 cached 0 queued 0 / \
-        end chunks 2 lent 0 home 512 cached 0 queued 0",
-    )
+        "pool 64 8 4\nadopt 0 0\nadopt 17 1\nadopt 33 2\nclaim 17 0\nclaim 33 0\n\
+        alloc 17 1\nalloc 33 1\nfree 0 0.0\nfree 0 1.0\nsend 0 17\nlink 1\n\
+        take 17\nsend 17 33\nlink 2\ntake 33\n",
+        End::Whole,
+        "ok\nok\nok\nchunk 0\nchunk 1\nslot 0.0\nslot 1.0\ncached\ncached\n\
+        batch 1 2\nok\nhome 1 on 1\nbatch 2 1\nok\nhome 1 on 0\n\
+        desk 17 home 256 cached 0 queued 0\ndesk 33 home 256 cached 0 queued 0\n\
+        end chunks 2 lent 0 home 512 cached 0 queued 0\n",
+    );
 }
 
 #[test]
-fn sends_are_refused(rt: HostRuntime) -> Result<(), Fail> {
+fn sends_are_refused(rt: HostRuntime) {
     gives(
         &rt,
-        "pool 64 8 2 / adopt 0 0 / adopt 27 1 / claim 27 15 / alloc 27 500 / \
-        free 0 0.0 / send 0 3 / send 0 2 / send 0 0 / send 0 64 / send 3 0",
-        "ok / ok / chunk 0 / slot 0.0 / cached / R09 NotAnOwner / R08 NothingFor / \
-        R10 ToSelf / R01 NoDesk / R02 Idle / desk 0 home 0 cached 1 queued 0 / \
-        desk 27 home 7 cached 0 queued 0 / end chunks 1 lent 0 home 7 cached 1 queued 0",
-    )
+        "pool 64 8 2\nadopt 0 0\nadopt 27 1\nclaim 27 15\nalloc 27 500\n\
+        free 0 0.0\nsend 0 3\nsend 0 2\nsend 0 0\nsend 0 64\nsend 3 0\n",
+        End::Whole,
+        "ok\nok\nchunk 0\nslot 0.0\ncached\nR09 NotAnOwner\nR08 NothingFor\n\
+        R10 ToSelf\nR01 NoDesk\nR02 Idle\ndesk 0 home 0 cached 1 queued 0\n\
+        desk 27 home 7 cached 0 queued 0\nend chunks 1 lent 0 home 7 cached 1 queued 0\n",
+    );
 }
 
 /// The batch at the front has to be linked before any is taken, in whatever order the links come.
 #[test]
-fn a_batch_waits_for_those_before_it(rt: HostRuntime) -> Result<(), Fail> {
+fn a_batch_waits_for_those_before_it(rt: HostRuntime) {
     gives(
         &rt,
-        "pool 3 1 2 / adopt 0 0 / adopt 1 1 / adopt 2 2 / claim 2 15 / alloc 2 512 / \
-        alloc 2 512 / free 0 0.0 / free 1 0.1 / send 0 2 / send 1 2 / link 2 / take 2 / \
-        link 1 / link 1 / link 9 / take 2 / take 2 / take 2 / alloc 2 512",
-        "ok / ok / ok / chunk 0 / slot 0.0 / slot 0.1 / cached / cached / batch 1 1 / \
-        batch 2 1 / ok / R12 Nothing / ok / R11 NoBatch / R11 NoBatch / home 1 on 0 / \
-        home 1 on 0 / R12 Nothing / slot 0.1 / desk 2 home 7 cached 0 queued 0 / \
-        end chunks 1 lent 1 home 7 cached 0 queued 0",
-    )
+        "pool 3 1 2\nadopt 0 0\nadopt 1 1\nadopt 2 2\nclaim 2 15\nalloc 2 512\n\
+        alloc 2 512\nfree 0 0.0\nfree 1 0.1\nsend 0 2\nsend 1 2\nlink 2\ntake 2\n\
+        link 1\nlink 1\nlink 9\ntake 2\ntake 2\ntake 2\nalloc 2 512\n",
+        End::Whole,
+        "ok\nok\nok\nchunk 0\nslot 0.0\nslot 0.1\ncached\ncached\nbatch 1 1\n\
+        batch 2 1\nok\nR12 Nothing\nok\nR11 NoBatch\nR11 NoBatch\nhome 1 on 0\n\
+        home 1 on 0\nR12 Nothing\nslot 0.1\ndesk 2 home 7 cached 0 queued 0\n\
+        end chunks 1 lent 1 home 7 cached 0 queued 0\n",
+    );
 }
 
 /// Not while something is in the cache, nor while a batch of the desk isn't linked. Batches of
 /// others are no bar.
 #[test]
-fn desks_are_retired_and_adopted(rt: HostRuntime) -> Result<(), Fail> {
+fn desks_are_retired_and_adopted(rt: HostRuntime) {
     gives(
         &rt,
-        "pool 2 1 2 / adopt 0 0 / adopt 1 7 / claim 1 15 / alloc 1 512 / free 0 0.0 / \
-        retire 0 / send 0 1 / retire 0 / link 1 / retire 0 / retire 1 / take 1 / \
-        adopt 1 8 / take 1 / alloc 1 512 / adopt 1 9 / retire 0",
-        "ok / ok / chunk 0 / slot 0.0 / cached / R13 Unsettled / batch 1 1 / \
-        R13 Unsettled / ok / ok / ok / R02 Idle / ok / home 1 on 0 / slot 0.0 / \
-        R14 Held / R02 Idle / desk 1 home 7 cached 0 queued 0 / \
-        end chunks 1 lent 1 home 7 cached 0 queued 0",
-    )?;
+        "pool 2 1 2\nadopt 0 0\nadopt 1 7\nclaim 1 15\nalloc 1 512\nfree 0 0.0\n\
+        retire 0\nsend 0 1\nretire 0\nlink 1\nretire 0\nretire 1\ntake 1\n\
+        adopt 1 8\ntake 1\nalloc 1 512\nadopt 1 9\nretire 0\n",
+        End::Whole,
+        "ok\nok\nchunk 0\nslot 0.0\ncached\nR13 Unsettled\nbatch 1 1\n\
+        R13 Unsettled\nok\nok\nok\nR02 Idle\nok\nhome 1 on 0\nslot 0.0\n\
+        R14 Held\nR02 Idle\ndesk 1 home 7 cached 0 queued 0\n\
+        end chunks 1 lent 1 home 7 cached 0 queued 0\n",
+    );
     gives(
         &rt,
-        "pool 2 1 2 / adopt 0 0 / adopt 1 1 / claim 1 15 / alloc 1 512 / free 0 0.0 / \
-        send 0 1 / retire 1 / link 1 / retire 0 / adopt 1 2 / take 1",
-        "ok / ok / chunk 0 / slot 0.0 / cached / batch 1 1 / ok / ok / ok / ok / \
-        home 1 on 0 / desk 1 home 8 cached 0 queued 0 / \
-        end chunks 1 lent 0 home 8 cached 0 queued 0",
-    )
+        "pool 2 1 2\nadopt 0 0\nadopt 1 1\nclaim 1 15\nalloc 1 512\nfree 0 0.0\n\
+        send 0 1\nretire 1\nlink 1\nretire 0\nadopt 1 2\ntake 1\n",
+        End::Whole,
+        "ok\nok\nchunk 0\nslot 0.0\ncached\nbatch 1 1\nok\nok\nok\nok\n\
+        home 1 on 0\ndesk 1 home 8 cached 0 queued 0\n\
+        end chunks 1 lent 0 home 8 cached 0 queued 0\n",
+    );
 }
 
 #[test]
-fn only_lent_slots_are_freed(rt: HostRuntime) -> Result<(), Fail> {
+fn only_lent_slots_are_freed(rt: HostRuntime) {
     gives(
         &rt,
-        "pool 2 1 2 / adopt 0 0 / adopt 1 1 / claim 1 15 / alloc 1 512 / free 1 0.1 / \
-        free 0 0.0 / free 0 0.0 / free 1 0.0 / send 0 1 / free 1 0.0 / free 1 0.8 / \
-        free 1 3.0",
-        "ok / ok / chunk 0 / slot 0.0 / R07 NotLent / cached / R07 NotLent / \
-        R07 NotLent / batch 1 1 / R07 NotLent / R07 NotLent / R07 NotLent / \
-        desk 1 home 7 cached 0 queued 1 / end chunks 1 lent 0 home 7 cached 0 queued 1",
-    )
+        "pool 2 1 2\nadopt 0 0\nadopt 1 1\nclaim 1 15\nalloc 1 512\nfree 1 0.1\n\
+        free 0 0.0\nfree 0 0.0\nfree 1 0.0\nsend 0 1\nfree 1 0.0\nfree 1 0.8\n\
+        free 1 3.0\n",
+        End::Whole,
+        "ok\nok\nchunk 0\nslot 0.0\nR07 NotLent\ncached\nR07 NotLent\n\
+        R07 NotLent\nbatch 1 1\nR07 NotLent\nR07 NotLent\nR07 NotLent\n\
+        desk 1 home 7 cached 0 queued 1\nend chunks 1 lent 0 home 7 cached 0 queued 1\n",
+    );
 }
 
 /// Desk 65 is 1,1 and desk 129 is 1,2 in digits of 6 bits.
 #[test]
-fn the_larger_profile(rt: HostRuntime) -> Result<(), Fail> {
+fn the_larger_profile(rt: HostRuntime) {
     gives(
         &rt,
-        "pool2 4096 8 6 / adopt 0 0 / adopt 65 1 / adopt 129 2 / claim 65 19 / \
-        claim 129 16 / alloc 65 1024 / alloc 129 513 / free 0 0.0 / free 0 1.0 / \
-        send 0 65 / link 1 / take 65 / send 65 129 / link 2 / take 129",
-        "ok / ok / ok / chunk 0 / chunk 1 / slot 0.0 / slot 1.0 / cached / cached / \
-        batch 1 2 / ok / home 1 on 1 / batch 2 1 / ok / home 1 on 0 / \
-        desk 65 home 4 cached 0 queued 0 / desk 129 home 6 cached 0 queued 0 / \
-        end chunks 2 lent 0 home 10 cached 0 queued 0",
-    )?;
+        "pool2 4096 8 6\nadopt 0 0\nadopt 65 1\nadopt 129 2\nclaim 65 19\n\
+        claim 129 16\nalloc 65 1024\nalloc 129 513\nfree 0 0.0\nfree 0 1.0\n\
+        send 0 65\nlink 1\ntake 65\nsend 65 129\nlink 2\ntake 129\n",
+        End::Whole,
+        "ok\nok\nok\nchunk 0\nchunk 1\nslot 0.0\nslot 1.0\ncached\ncached\n\
+        batch 1 2\nok\nhome 1 on 1\nbatch 2 1\nok\nhome 1 on 0\n\
+        desk 65 home 4 cached 0 queued 0\ndesk 129 home 6 cached 0 queued 0\n\
+        end chunks 2 lent 0 home 10 cached 0 queued 0\n",
+    );
     gives(
         &rt,
-        "pool2 1 5 2 / adopt 0 0 / claim 0 17 / claim 0 18 / claim 0 20 / alloc 0 1024 / \
-        alloc 0 768 / alloc 0 897 / alloc 0 1025",
-        "ok / chunk 0 / chunk 1 / R16 BadClass / R04 NeedChunk / slot 0.0 / \
-        R04 NeedChunk / R03 TooLarge / desk 0 home 8 cached 0 queued 0 / \
-        end chunks 2 lent 1 home 8 cached 0 queued 0",
-    )
+        "pool2 1 5 2\nadopt 0 0\nclaim 0 17\nclaim 0 18\nclaim 0 20\nalloc 0 1024\n\
+        alloc 0 768\nalloc 0 897\nalloc 0 1025\n",
+        End::Whole,
+        "ok\nchunk 0\nchunk 1\nR16 BadClass\nR04 NeedChunk\nslot 0.0\n\
+        R04 NeedChunk\nR03 TooLarge\ndesk 0 home 8 cached 0 queued 0\n\
+        end chunks 2 lent 1 home 8 cached 0 queued 0\n",
+    );
 }
 
 #[test]
-fn the_smaller_profile_has_16_classes(rt: HostRuntime) -> Result<(), Fail> {
+fn the_smaller_profile_has_16_classes(rt: HostRuntime) {
     gives(
         &rt,
-        "pool 1 1 2 / adopt 0 0 / claim 0 16 / alloc 0 513",
-        "ok / R16 BadClass / R03 TooLarge / end chunks 0 lent 0 home 0 cached 0 queued 0",
-    )
+        "pool 1 1 2\nadopt 0 0\nclaim 0 16\nalloc 0 513\n",
+        End::Whole,
+        "ok\nR16 BadClass\nR03 TooLarge\nend chunks 0 lent 0 home 0 cached 0 queued 0\n",
+    );
 }
