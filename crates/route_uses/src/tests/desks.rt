@@ -1,49 +1,58 @@
 //! How buffers of 7, 11 and 27 travel from desk 0, in digits of 2 bits.
+use crate::filling::fill;
 use crate::offering::offer;
-use crate::tests::samples::{bump, empty, filled};
+use crate::tests::samples::{bump, empty, filled, filled_in, take};
 use digit_route::{Batch, Cache, Digits, RouteError};
-use slot_chain::NoMemory;
+use slot_chain::{Buf, NoMemory};
 use std::alloc::Global;
 use std::process::Abort;
+
+// Takes a buffer home, or passes it on into the cache. Says whether it is home.
+fn take_in<'r>(rt: &impl Abort, cache: &mut Cache<'r>, mut buf: Buf<'r>) -> bool {
+    if buf.owner() == cache.number() {
+        return true;
+    }
+    buf.set_forwards(buf.forwards().saturating_add(1));
+    assert!(rt; offer(cache, buf).is_none());
+    false
+}
 
 // What came home, and what was passed on into the cache.
 fn receive<'r>(rt: &impl Abort, cache: &mut Cache<'r>, batch: Batch<'r>) -> (u64, u64) {
     assert_eq!(rt; batch.address(), cache.number());
     let (mut home, mut on) = (0u64, 0u64);
     let mut chain = batch.into_chain();
-    while let Some(mut buf) = chain.pop() {
-        if buf.owner() == cache.number() {
+    while let Some(buf) = chain.pop() {
+        if take_in(rt, cache, buf) {
             home = home.saturating_add(1);
         } else {
-            buf.set_forwards(buf.forwards().saturating_add(1));
-            assert!(rt; offer(cache, buf).is_none());
             on = on.saturating_add(1);
         }
     }
     (home, on)
 }
 
-fn pass_on(rt: &impl Abort, alloc: Global) -> Result<(), NoMemory> {
-    let mut region = Vec::from_elem(alloc, 0u8, 4096)?;
-    let mut bump = bump(rt, alloc, &mut region, 15)?;
-    let mut at_0 = filled(rt, alloc, &mut bump, 2, 0, &[7, 11, 27])?;
-    let batch = at_0.take_bucket_for(7).expect(rt, "a batch");
-    assert!(rt; at_0.is_empty());
-    assert_eq!(rt; batch.len(), 3);
-
-    let mut at_7 = empty(rt, 2, 7);
-    assert_eq!(rt; receive(rt, &mut at_7, batch), (1, 2));
-    let batch = at_7.take_bucket_for(11).expect(rt, "a batch");
-    assert_eq!(rt; batch.len(), 2);
-
-    let mut at_11 = empty(rt, 2, 11);
-    assert_eq!(rt; receive(rt, &mut at_11, batch), (1, 1));
-    let batch = at_11.take_bucket_for(27).expect(rt, "a batch");
-    assert_eq!(rt; batch.len(), 1);
+// The one buffer of the last batch.
+fn check_last(rt: &impl Abort, batch: Batch<'_>) {
     let mut chain = batch.into_chain();
     let buf = chain.pop().expect(rt, "the buffer of 27");
     assert_eq!(rt; buf.owner(), 27);
     assert_eq!(rt; buf.forwards(), 2);
+}
+
+fn pass_on(rt: &impl Abort, alloc: Global) -> Result<(), NoMemory> {
+    let mut region = Vec::from_elem(alloc, 0u8, 4096)?;
+    let mut at_0 = filled_in(rt, alloc, &mut region, 15, 2, &[7, 11, 27])?;
+    let batch = take(rt, &mut at_0, 7, 3);
+    assert!(rt; at_0.is_empty());
+
+    let mut at_7 = empty(rt, 2, 7);
+    assert_eq!(rt; receive(rt, &mut at_7, batch), (1, 2));
+    let batch = take(rt, &mut at_7, 11, 2);
+
+    let mut at_11 = empty(rt, 2, 11);
+    assert_eq!(rt; receive(rt, &mut at_11, batch), (1, 1));
+    check_last(rt, take(rt, &mut at_11, 27, 1));
     Ok(())
 }
 
@@ -54,21 +63,21 @@ fn passes_buffers_on(rt: HostRuntime) {
     }
 }
 
+// It has one buffer, and gives no batch for `t`.
+fn refuse_for(rt: &impl Abort, cache: &mut Cache<'_>, t: u16, want: RouteError) {
+    assert_eq!(rt; cache.fault_for(t), Some(want), "at {t}");
+    assert_eq!(rt; cache.take_bucket_for(t).err(), Some(want), "at {t}");
+    assert_eq!(rt; cache.len(), 1);
+}
+
 fn refuse(rt: &impl Abort, alloc: Global) -> Result<(), NoMemory> {
     let mut region = Vec::from_elem(alloc, 0u8, 4096)?;
-    let mut bump = bump(rt, alloc, &mut region, 15)?;
-    let mut cache = filled(rt, alloc, &mut bump, 2, 0, &[27])?;
-    for (t, want) in [
-        (3, RouteError::NotAnOwner),
-        (2, RouteError::NothingFor),
-        (0, RouteError::ToSelf),
-    ] {
-        assert_eq!(rt; cache.fault_for(t), Some(want), "at {t}");
-        assert_eq!(rt; cache.take_bucket_for(t).err(), Some(want), "at {t}");
-        assert_eq!(rt; cache.len(), 1);
-    }
+    let mut cache = filled_in(rt, alloc, &mut region, 15, 2, &[27])?;
+    refuse_for(rt, &mut cache, 3, RouteError::NotAnOwner);
+    refuse_for(rt, &mut cache, 2, RouteError::NothingFor);
+    refuse_for(rt, &mut cache, 0, RouteError::ToSelf);
     assert!(rt; cache.fault_for(27).is_none());
-    assert_eq!(rt; cache.take_bucket_for(27).expect(rt, "a batch").len(), 1);
+    drop(take(rt, &mut cache, 27, 1));
     assert_eq!(rt; cache.fault_for(27), Some(RouteError::NothingFor));
     Ok(())
 }
@@ -83,10 +92,10 @@ fn refuses_in_order(rt: HostRuntime) {
 fn fill_to_the_limit(rt: &impl Abort, alloc: Global) -> Result<(), NoMemory> {
     let mut region = Vec::from_elem(alloc, 0u8, 4096)?;
     let mut bump = bump(rt, alloc, &mut region, 15)?;
-    let mut cache = filled(rt, alloc, &mut bump, 2, 0, &[7, 1])?;
+    let mut cache = filled(rt, alloc, &mut bump, 2, &[7, 1])?;
     assert_eq!(rt; cache.bytes(), 1024);
     assert!(rt; !cache.is_due());
-    let mut cache = filled(rt, alloc, &mut bump, 2, 0, &[7, 1, 2])?;
+    let mut cache = filled(rt, alloc, &mut bump, 2, &[7, 1, 2])?;
     assert_eq!(rt; cache.bytes(), 1536);
     assert!(rt; cache.is_due());
     let batch = cache.next_batch().expect(rt, "a batch");
@@ -110,13 +119,12 @@ fn pass_on_by_twelve_bits(rt: &impl Abort, alloc: Global) -> Result<(), NoMemory
     let mut bump = bump(rt, alloc, &mut region, 19)?;
     let digits = Digits::new2(6).expect(rt, "a width of 1 to 6");
     let mut at_0 = Cache::new(0, digits, 4096);
-    let taken = crate::filling::fill(alloc, &mut bump, &[65, 129], &mut at_0)?;
+    let taken = fill(alloc, &mut bump, &[65, 129], &mut at_0)?;
     assert_eq!(rt; taken, 2);
-    let batch = at_0.take_bucket_for(65).expect(rt, "a batch");
-    assert_eq!(rt; batch.len(), 2);
+    let batch = take(rt, &mut at_0, 65, 2);
     let mut at_65 = Cache::new(65, digits, 4096);
     assert_eq!(rt; receive(rt, &mut at_65, batch), (1, 1));
-    assert_eq!(rt; at_65.take_bucket_for(129).expect(rt, "a batch").len(), 1);
+    drop(take(rt, &mut at_65, 129, 1));
     Ok(())
 }
 

@@ -13,20 +13,24 @@ struct Row {
     common: u32,
 }
 
+// The number has these digits, least first, and no other.
+fn check_number(rt: &impl Abort, digits: Digits, number: u16, want: &[u16]) {
+    assert_eq!(rt; digits.count() as usize, want.len());
+    let mut at = 0u32;
+    for digit in want {
+        assert_eq!(rt; digits.digit(number, at), *digit, "digit {at} of {number}");
+        at = at.saturating_add(1);
+    }
+    assert_eq!(rt; digits.digit(number, u32::MAX), 0);
+}
+
 fn check(rt: &impl Abort, row: &Row) {
     let digits = row.digits.expect(rt, "a width of 1 to 6");
     let (desk, owner) = row.numbers;
-    assert_eq!(rt; digits.count() as usize, row.desk.len());
-    for (j, (a, o)) in row.desk.iter().zip(row.owner).enumerate() {
-        assert_eq!(rt; digits.digit(desk, j as u32), *a, "digit {j} of {desk}");
-        assert_eq!(rt; digits.digit(owner, j as u32), *o, "digit {j} of {owner}");
-    }
-    assert_eq!(rt;
-        digits.common(desk, owner),
-        row.common,
-        "{desk} and {owner}"
-    );
-    assert_eq!(rt; digits.digit(owner, u32::MAX), 0);
+    check_number(rt, digits, desk, row.desk);
+    check_number(rt, digits, owner, row.owner);
+    let common = digits.common(desk, owner);
+    assert_eq!(rt; common, row.common, "{desk} and {owner}");
     laws::symmetric(digits, desk, owner);
 }
 
@@ -95,6 +99,13 @@ fn reads_digits(rt: HostRuntime) {
     }
 }
 
+// Digits of `width` bits, of which a number has `count`.
+fn check_count(rt: &impl Abort, digits: Option<Digits>, width: u32, profile: Profile, count: u32) {
+    let digits = digits.expect(rt, "a width of 1 to 6");
+    assert_eq!(rt; digits.count(), count, "digits of {width} bits");
+    assert_eq!(rt; digits.profile(), profile);
+}
+
 #[test]
 fn counts_digits(rt: HostRuntime) {
     for (width, pool, pool2) in [
@@ -105,12 +116,8 @@ fn counts_digits(rt: HostRuntime) {
         (5, 2, 3),
         (6, 1, 2),
     ] {
-        let digits = Digits::new(width).expect(&rt, "a width of 1 to 6");
-        assert_eq!(rt; digits.count(), pool, "6 bits by {width}");
-        assert_eq!(rt; digits.profile(), Profile::Pool);
-        let digits = Digits::new2(width).expect(&rt, "a width of 1 to 6");
-        assert_eq!(rt; digits.count(), pool2, "12 bits by {width}");
-        assert_eq!(rt; digits.profile(), Profile::Pool2);
+        check_count(&rt, Digits::new(width), width, Profile::Pool, pool);
+        check_count(&rt, Digits::new2(width), width, Profile::Pool2, pool2);
     }
     for width in [0, 7, u32::MAX] {
         assert!(rt; Digits::new(width).is_none());
