@@ -89,21 +89,28 @@ fn refuses_in_order(rt: HostRuntime) {
     }
 }
 
+// How many bytes the cache has, and whether it is due.
+fn check_bytes(rt: &impl Abort, cache: &Cache<'_>, bytes: u64, due: bool) {
+    assert_eq!(rt; cache.bytes(), bytes);
+    assert_eq!(rt; cache.is_due(), due);
+}
+
+// Takes a batch of one buffer out of a cache that is due, and puts it back.
+fn take_and_put_back(rt: &impl Abort, cache: &mut Cache<'_>) {
+    check_bytes(rt, cache, 1536, true);
+    let batch = cache.next_batch().expect(rt, "a batch");
+    check_bytes(rt, cache, 1024, false);
+    cache.put_back(batch);
+    check_bytes(rt, cache, 1536, true);
+}
+
 fn fill_to_the_limit(rt: &impl Abort, alloc: Global) -> Result<(), NoMemory> {
     let mut region = Vec::from_elem(alloc, 0u8, 4096)?;
     let mut bump = bump(rt, alloc, &mut region, 15)?;
-    let mut cache = filled(rt, alloc, &mut bump, 2, &[7, 1])?;
-    assert_eq!(rt; cache.bytes(), 1024);
-    assert!(rt; !cache.is_due());
+    let cache = filled(rt, alloc, &mut bump, 2, &[7, 1])?;
+    check_bytes(rt, &cache, 1024, false);
     let mut cache = filled(rt, alloc, &mut bump, 2, &[7, 1, 2])?;
-    assert_eq!(rt; cache.bytes(), 1536);
-    assert!(rt; cache.is_due());
-    let batch = cache.next_batch().expect(rt, "a batch");
-    assert_eq!(rt; cache.bytes(), 1024);
-    assert!(rt; !cache.is_due());
-    cache.put_back(batch);
-    assert_eq!(rt; cache.bytes(), 1536);
-    assert!(rt; cache.is_due());
+    take_and_put_back(rt, &mut cache);
     Ok(())
 }
 
@@ -114,15 +121,21 @@ fn is_due_above_the_limit(rt: HostRuntime) {
     }
 }
 
+// An empty cache of the profile with 4,096 desks.
+fn empty_of_many<'r>(rt: &impl Abort, desk: u16) -> Cache<'r> {
+    let digits = Digits::new2(6).expect(rt, "a width of 1 to 6");
+    assert!(rt; desk < 4096, "a desk's number");
+    Cache::new(desk, digits, 4096)
+}
+
 fn pass_on_by_twelve_bits(rt: &impl Abort, alloc: Global) -> Result<(), NoMemory> {
     let mut region = Vec::from_elem(alloc, 0u8, 4096)?;
     let mut bump = bump(rt, alloc, &mut region, 19)?;
-    let digits = Digits::new2(6).expect(rt, "a width of 1 to 6");
-    let mut at_0 = Cache::new(0, digits, 4096);
+    let mut at_0 = empty_of_many(rt, 0);
     let taken = fill(alloc, &mut bump, &[65, 129], &mut at_0)?;
     assert_eq!(rt; taken, 2);
     let batch = take(rt, &mut at_0, 65, 2);
-    let mut at_65 = Cache::new(65, digits, 4096);
+    let mut at_65 = empty_of_many(rt, 65);
     assert_eq!(rt; receive(rt, &mut at_65, batch), (1, 1));
     drop(take(rt, &mut at_65, 129, 1));
     Ok(())
