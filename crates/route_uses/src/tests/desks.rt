@@ -17,8 +17,8 @@ fn take_in<'r>(rt: &impl Abort, cache: &mut Cache<'r>, mut buf: Buf<'r>) -> bool
     false
 }
 
-// What came home, and what was passed on into the cache.
-fn receive<'r>(rt: &impl Abort, cache: &mut Cache<'r>, batch: Batch<'r>) -> (u64, u64) {
+// So many buffers of the batch come home, and so many are passed on into the cache.
+fn receive<'r>(rt: &impl Abort, cache: &mut Cache<'r>, batch: Batch<'r>, want: (u64, u64)) {
     assert_eq!(rt; batch.address(), cache.number());
     let (mut home, mut on) = (0u64, 0u64);
     let mut chain = batch.into_chain();
@@ -29,7 +29,7 @@ fn receive<'r>(rt: &impl Abort, cache: &mut Cache<'r>, batch: Batch<'r>) -> (u64
             on = on.saturating_add(1);
         }
     }
-    (home, on)
+    assert_eq!(rt; (home, on), want);
 }
 
 // The one buffer of the last batch.
@@ -40,19 +40,20 @@ fn check_last(rt: &impl Abort, batch: Batch<'_>) {
     assert_eq!(rt; buf.forwards(), 2);
 }
 
-fn pass_on(rt: &impl Abort, alloc: Global) -> Result<(), NoMemory> {
-    let mut region = Vec::from_elem(alloc, 0u8, 4096)?;
-    let mut at_0 = filled_in(rt, alloc, &mut region, 15, 2, &[7, 11, 27])?;
+// From desk 0 to 7, to 11, to 27.
+fn travel(rt: &impl Abort, mut at_0: Cache<'_>) {
     let batch = take(rt, &mut at_0, 7, 3);
     assert!(rt; at_0.is_empty());
-
     let mut at_7 = empty(rt, 2, 7);
-    assert_eq!(rt; receive(rt, &mut at_7, batch), (1, 2));
-    let batch = take(rt, &mut at_7, 11, 2);
-
+    receive(rt, &mut at_7, batch, (1, 2));
     let mut at_11 = empty(rt, 2, 11);
-    assert_eq!(rt; receive(rt, &mut at_11, batch), (1, 1));
+    receive(rt, &mut at_11, take(rt, &mut at_7, 11, 2), (1, 1));
     check_last(rt, take(rt, &mut at_11, 27, 1));
+}
+
+fn pass_on(rt: &impl Abort, alloc: Global) -> Result<(), NoMemory> {
+    let mut region = Vec::from_elem(alloc, 0u8, 4096)?;
+    travel(rt, filled_in(rt, alloc, &mut region, 15, 2, &[7, 11, 27])?);
     Ok(())
 }
 
@@ -63,22 +64,30 @@ fn passes_buffers_on(rt: HostRuntime) {
     }
 }
 
-// It has one buffer, and gives no batch for `t`.
+fn check_fault(rt: &impl Abort, fault: Option<RouteError>, t: u16, want: RouteError) {
+    assert_eq!(rt; fault, Some(want), "at {t}");
+}
+
+// The cache gives no batch for `t`, and keeps its one buffer.
 fn refuse_for(rt: &impl Abort, cache: &mut Cache<'_>, t: u16, want: RouteError) {
-    assert_eq!(rt; cache.fault_for(t), Some(want), "at {t}");
-    assert_eq!(rt; cache.take_bucket_for(t).err(), Some(want), "at {t}");
+    check_fault(rt, cache.fault_for(t), t, want);
+    check_fault(rt, cache.take_bucket_for(t).err(), t, want);
     assert_eq!(rt; cache.len(), 1);
 }
 
-fn refuse(rt: &impl Abort, alloc: Global) -> Result<(), NoMemory> {
-    let mut region = Vec::from_elem(alloc, 0u8, 4096)?;
-    let mut cache = filled_in(rt, alloc, &mut region, 15, 2, &[27])?;
+// A cache with one buffer, of 27.
+fn refuse_all(rt: &impl Abort, mut cache: Cache<'_>) {
     refuse_for(rt, &mut cache, 3, RouteError::NotAnOwner);
     refuse_for(rt, &mut cache, 2, RouteError::NothingFor);
     refuse_for(rt, &mut cache, 0, RouteError::ToSelf);
     assert!(rt; cache.fault_for(27).is_none());
     drop(take(rt, &mut cache, 27, 1));
-    assert_eq!(rt; cache.fault_for(27), Some(RouteError::NothingFor));
+    check_fault(rt, cache.fault_for(27), 27, RouteError::NothingFor);
+}
+
+fn refuse(rt: &impl Abort, alloc: Global) -> Result<(), NoMemory> {
+    let mut region = Vec::from_elem(alloc, 0u8, 4096)?;
+    refuse_all(rt, filled_in(rt, alloc, &mut region, 15, 2, &[27])?);
     Ok(())
 }
 
@@ -128,16 +137,20 @@ fn empty_of_many<'r>(rt: &impl Abort, desk: u16) -> Cache<'r> {
     Cache::new(desk, digits, 4096)
 }
 
+// From desk 0 to 65, to 129.
+fn travel_by_twelve_bits(rt: &impl Abort, mut at_0: Cache<'_>) {
+    let mut at_65 = empty_of_many(rt, 65);
+    receive(rt, &mut at_65, take(rt, &mut at_0, 65, 2), (1, 1));
+    drop(take(rt, &mut at_65, 129, 1));
+}
+
 fn pass_on_by_twelve_bits(rt: &impl Abort, alloc: Global) -> Result<(), NoMemory> {
     let mut region = Vec::from_elem(alloc, 0u8, 4096)?;
     let mut bump = bump(rt, alloc, &mut region, 19)?;
     let mut at_0 = empty_of_many(rt, 0);
     let taken = fill(alloc, &mut bump, &[65, 129], &mut at_0)?;
     assert_eq!(rt; taken, 2);
-    let batch = take(rt, &mut at_0, 65, 2);
-    let mut at_65 = empty_of_many(rt, 65);
-    assert_eq!(rt; receive(rt, &mut at_65, batch), (1, 1));
-    drop(take(rt, &mut at_65, 129, 1));
+    travel_by_twelve_bits(rt, at_0);
     Ok(())
 }
 

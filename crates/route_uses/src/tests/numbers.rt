@@ -13,15 +13,19 @@ struct Row {
     common: u32,
 }
 
+fn check_digit(rt: &impl Abort, digits: Digits, number: u16, at: u32, want: u16) {
+    assert_eq!(rt; digits.digit(number, at), want, "digit {at} of {number}");
+}
+
 // The number has these digits, least first, and no other.
 fn check_number(rt: &impl Abort, digits: Digits, number: u16, want: &[u16]) {
     assert_eq!(rt; digits.count() as usize, want.len());
     let mut at = 0u32;
     for digit in want {
-        assert_eq!(rt; digits.digit(number, at), *digit, "digit {at} of {number}");
+        check_digit(rt, digits, number, at, *digit);
         at = at.saturating_add(1);
     }
-    assert_eq!(rt; digits.digit(number, u32::MAX), 0);
+    check_digit(rt, digits, number, u32::MAX, 0);
 }
 
 fn check(rt: &impl Abort, row: &Row) {

@@ -21,9 +21,8 @@ fn wanted(address: u16, want: &[Want]) -> Option<Want> {
 fn check_batch(rt: &impl Abort, batch: Batch<'_>, round: u32, want: &[Want]) {
     let address = batch.address();
     let (in_round, _, count) = wanted(address, want).expect(rt, "an owner as address");
-    assert_eq!(rt; round, in_round, "the round of {address}");
-    assert_eq!(rt; batch.sender(), 0);
-    assert_eq!(rt; batch.len(), count, "the batch to {address}");
+    let shown = (round, batch.sender(), batch.len());
+    assert_eq!(rt; shown, (in_round, 0, count), "the batch to {address}");
 }
 
 // Posts as many batches as are wanted.
@@ -100,14 +99,17 @@ fn put_third_back<'r>(rt: &impl Abort, mut posting: Posting<'r>) -> Cache<'r> {
     posting.put_back(batch)
 }
 
+// What is left of four buffers are the two of 32.
+fn check_left(rt: &impl Abort, mut cache: Cache<'_>) {
+    assert_eq!(rt; (cache.len(), cache.bytes()), (2, 32));
+    drop(take(rt, &mut cache, 32, 2));
+    assert!(rt; cache.posting().end().is_empty());
+}
+
 fn put_back(rt: &impl Abort, alloc: Global) -> Result<(), NoMemory> {
     let mut region = Vec::from_elem(alloc, 0u8, 4096)?;
     let cache = filled_in(rt, alloc, &mut region, 0, 1, &[32, 32, 1, 2])?;
-    let mut cache = put_third_back(rt, cache.posting());
-    assert_eq!(rt; cache.len(), 2);
-    assert_eq!(rt; cache.bytes(), 32);
-    drop(take(rt, &mut cache, 32, 2));
-    assert!(rt; cache.posting().end().is_empty());
+    check_left(rt, put_third_back(rt, cache.posting()));
     Ok(())
 }
 
