@@ -1,6 +1,6 @@
 //! What is written through buffers is what the region holds when its borrow ends.
 use crate::filling::mark_region;
-use crate::tests::filled;
+use crate::tests::{filled, same};
 use crate::writing::{clear, copy_in, mark_top, stamped};
 use region_cut::class_for;
 use slot_chain::{Buf, Chain, NoMemory};
@@ -40,7 +40,7 @@ fn write_all(rt: &impl Abort, alloc: Global) -> Result<(), NoMemory> {
     let class = class_for(48).expect(rt, "a class of 48 bytes");
     let mut region = Vec::from_elem(alloc, 201u8, 2 * 4096 + 100)?;
     let chain = filled(alloc, &mut region, class, 0)?;
-    assert_eq!(rt; chain.len(), 170);
+    same(rt, "the slots", chain.len(), 170);
     write_each(rt, chain);
     let want = [
         (0, 0),
@@ -73,19 +73,19 @@ fn check_text(rt: &impl Abort, buf: &Buf<'_>, want: &[u8]) {
 
 fn write_text(rt: &impl Abort, buf: &mut Buf<'_>, text: &[u8]) {
     let size = buf.bytes().len();
-    assert_eq!(rt; text.len(), size);
+    assert!(rt; text.len() == size);
     copy_in(buf, text);
 }
 
 // A buffer of 16 bytes shows what was written to it last, and ends with zeros.
 fn rewrite(rt: &impl Abort, mut buf: Buf<'_>) {
     check_text(rt, &buf, &[7, 3, 3, 3, 3, 3, 3, 3, 3, 3, 3, 3, 3, 3, 3, 3]);
-    assert_eq!(rt; buf.bytes().len(), 16);
+    same(rt, "the bytes", buf.bytes().len() as u64, 16);
     write_text(rt, &mut buf, b"sixteen bytes...");
     check_text(rt, &buf, b"sixteen bytes...");
     let mut buf = stamped(buf, 2, 83);
     check_text(rt, &buf, b"Sixteen bytes...");
-    assert_eq!(rt; buf.forwards(), 2);
+    same(rt, "the hops", u64::from(buf.forwards()), 2);
     clear(&mut buf);
     check_text(rt, &buf, &[0; 16]);
 }

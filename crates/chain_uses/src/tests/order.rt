@@ -1,6 +1,6 @@
 //! The order of a chain's buffers, and what each of them shows.
 use crate::filling::fill_part;
-use crate::tests::parts;
+use crate::tests::{parts, same};
 use crate::walking::{count_owned, list_slots};
 use region_cut::{Class, Slot};
 use slot_chain::{Buf, Chain, NoMemory, Tag};
@@ -70,22 +70,24 @@ fn check_popped(
 
 // The last slot of the second chunk.
 fn check_last(rt: &impl Abort, buf: Buf<'_>) {
-    assert_eq!(rt; buf.slot(), Slot { chunk: 1, index: 7 });
-    assert_eq!(rt; buf.class().number(), 15);
-    assert_eq!(rt; buf.owner(), 4095);
-    assert_eq!(rt; buf.forwards(), 0);
+    let slot = buf.slot();
+    same(rt, "the chunk", u64::from(slot.chunk), 1);
+    same(rt, "the index", u64::from(slot.index), 7);
+    same(rt, "the class", u64::from(buf.class().number()), 15);
+    same(rt, "the owner", u64::from(buf.owner()), 4095);
+    same(rt, "the hops", u64::from(buf.forwards()), 0);
 }
 
 fn take_last(rt: &impl Abort, mut second: Chain<'_>) {
     check_last(rt, second.pop().expect(rt, "the last slot"));
-    assert_eq!(rt; second.len(), 7);
+    same(rt, "the slots that are left", second.len(), 7);
 }
 
 fn take_all(rt: &impl Abort, alloc: Global) -> Result<(), NoMemory> {
     let mut region = Vec::from_elem(alloc, 0u8, 2 * 4096)?;
     let (first, second) = chains(rt, alloc, &mut region)?;
-    assert_eq!(rt; first.len(), 8);
-    assert_eq!(rt; first.bytes_total(), 4096);
+    same(rt, "the slots", first.len(), 8);
+    same(rt, "the bytes", first.bytes_total(), 4096);
     check_popped(rt, alloc, first, &[0])?;
     take_last(rt, second);
     Ok(())
@@ -101,13 +103,13 @@ fn last_in_is_first_out(rt: HostRuntime) {
 // Appends the second to the first, an empty one, and then the first to the second.
 fn append_both<'r>(rt: &impl Abort, first: &mut Chain<'r>, second: &mut Chain<'r>) {
     first.append(second);
-    assert_eq!(rt; first.len(), 16);
+    same(rt, "the slots of both", first.len(), 16);
     assert!(rt; second.is_empty());
     first.append(second);
-    assert_eq!(rt; first.len(), 16);
+    same(rt, "the slots with none", first.len(), 16);
     second.append(first);
     assert!(rt; first.is_empty());
-    assert_eq!(rt; second.bytes_total(), 8192);
+    same(rt, "the bytes of both", second.bytes_total(), 8192);
 }
 
 fn append_twice(rt: &impl Abort, alloc: Global) -> Result<(), NoMemory> {
@@ -138,9 +140,9 @@ fn check_listed(
 }
 
 fn check_owned(rt: &impl Abort, chain: &Chain<'_>) {
-    assert_eq!(rt; count_owned(chain, 7), 8);
-    assert_eq!(rt; count_owned(chain, 4095), 8);
-    assert_eq!(rt; count_owned(chain, 8), 0);
+    same(rt, "those of 7", count_owned(chain, 7), 8);
+    same(rt, "those of 4095", count_owned(chain, 4095), 8);
+    same(rt, "those of 8", count_owned(chain, 8), 0);
 }
 
 // On top is the last slot of the second chunk.

@@ -1,7 +1,7 @@
 //! How buffers of 7, 11 and 27 travel from desk 0, in digits of 2 bits.
 use crate::filling::fill;
 use crate::offering::offer;
-use crate::tests::samples::{bump, empty, filled, filled_in, take};
+use crate::tests::samples::{bump, empty, filled, filled_in, same, same_at, take};
 use digit_route::{Batch, Cache, Digits, RouteError};
 use slot_chain::{Buf, NoMemory};
 use std::alloc::Global;
@@ -18,26 +18,32 @@ fn take_in<'r>(rt: &impl Abort, cache: &mut Cache<'r>, mut buf: Buf<'r>) -> bool
 }
 
 // So many buffers of the batch come home, and so many are passed on into the cache.
-fn receive<'r>(rt: &impl Abort, cache: &mut Cache<'r>, batch: Batch<'r>, want: (u64, u64)) {
-    assert_eq!(rt; batch.address(), cache.number());
-    let (mut home, mut on) = (0u64, 0u64);
+fn receive<'r>(rt: &impl Abort, cache: &mut Cache<'r>, batch: Batch<'r>, home: u64, on: u64) {
+    same(
+        rt,
+        "the address",
+        u64::from(batch.address()),
+        u64::from(cache.number()),
+    );
+    let (mut came, mut left) = (0u64, 0u64);
     let mut chain = batch.into_chain();
     while let Some(buf) = chain.pop() {
         if take_in(rt, cache, buf) {
-            home = home.saturating_add(1);
+            came = came.saturating_add(1);
         } else {
-            on = on.saturating_add(1);
+            left = left.saturating_add(1);
         }
     }
-    assert_eq!(rt; (home, on), want);
+    same(rt, "buffers at home", came, home);
+    same(rt, "buffers passed on", left, on);
 }
 
 // The one buffer of the last batch.
 fn check_last(rt: &impl Abort, batch: Batch<'_>) {
     let mut chain = batch.into_chain();
     let buf = chain.pop().expect(rt, "the buffer of 27");
-    assert_eq!(rt; buf.owner(), 27);
-    assert_eq!(rt; buf.forwards(), 2);
+    same(rt, "the owner", u64::from(buf.owner()), 27);
+    same(rt, "the hops", u64::from(buf.forwards()), 2);
 }
 
 // From desk 0 to 7, to 11, to 27.
@@ -45,9 +51,9 @@ fn travel(rt: &impl Abort, mut at_0: Cache<'_>) {
     let batch = take(rt, &mut at_0, 7, 3);
     assert!(rt; at_0.is_empty());
     let mut at_7 = empty(rt, 2, 7);
-    receive(rt, &mut at_7, batch, (1, 2));
+    receive(rt, &mut at_7, batch, 1, 2);
     let mut at_11 = empty(rt, 2, 11);
-    receive(rt, &mut at_11, take(rt, &mut at_7, 11, 2), (1, 1));
+    receive(rt, &mut at_11, take(rt, &mut at_7, 11, 2), 1, 1);
     check_last(rt, take(rt, &mut at_11, 27, 1));
 }
 
@@ -72,7 +78,7 @@ fn check_fault(rt: &impl Abort, fault: Option<RouteError>, t: u16, want: RouteEr
 fn refuse_for(rt: &impl Abort, cache: &mut Cache<'_>, t: u16, want: RouteError) {
     check_fault(rt, cache.fault_for(t), t, want);
     check_fault(rt, cache.take_bucket_for(t).err(), t, want);
-    assert_eq!(rt; cache.len(), 1);
+    same_at(rt, "buffers after that for", t, cache.len(), 1);
 }
 
 // A cache with one buffer, of 27.
@@ -100,8 +106,8 @@ fn refuses_in_order(rt: HostRuntime) {
 
 // How many bytes the cache has, and whether it is due.
 fn check_bytes(rt: &impl Abort, cache: &Cache<'_>, bytes: u64, due: bool) {
-    assert_eq!(rt; cache.bytes(), bytes);
-    assert_eq!(rt; cache.is_due(), due);
+    same(rt, "the bytes", cache.bytes(), bytes);
+    assert!(rt; cache.is_due() == due);
 }
 
 // Takes a batch of one buffer out of a cache that is due, and puts it back.
@@ -140,7 +146,7 @@ fn empty_of_many<'r>(rt: &impl Abort, desk: u16) -> Cache<'r> {
 // From desk 0 to 65, to 129.
 fn travel_by_twelve_bits(rt: &impl Abort, mut at_0: Cache<'_>) {
     let mut at_65 = empty_of_many(rt, 65);
-    receive(rt, &mut at_65, take(rt, &mut at_0, 65, 2), (1, 1));
+    receive(rt, &mut at_65, take(rt, &mut at_0, 65, 2), 1, 1);
     drop(take(rt, &mut at_65, 129, 1));
 }
 
@@ -149,7 +155,7 @@ fn pass_on_by_twelve_bits(rt: &impl Abort, alloc: Global) -> Result<(), NoMemory
     let mut bump = bump(rt, alloc, &mut region, 19)?;
     let mut at_0 = empty_of_many(rt, 0);
     let taken = fill(alloc, &mut bump, &[65, 129], &mut at_0)?;
-    assert_eq!(rt; taken, 2);
+    same(rt, "buffers taken", taken, 2);
     travel_by_twelve_bits(rt, at_0);
     Ok(())
 }

@@ -15,8 +15,8 @@ fn with_one(alloc: Global) -> Result<Vec<Slot>, NoMemory> {
     Ok(slots)
 }
 
-fn is_as_before(rt: &impl Abort, slots: &[Slot]) {
-    assert_eq!(rt; slots, [OTHER].as_slice());
+fn same_slots(rt: &impl Abort, found: &[Slot], wanted: &[Slot]) {
+    assert_eq!(rt; found, wanted);
 }
 
 fn check(rt: &impl Abort, slots: &mut Vec<Slot>) {
@@ -29,13 +29,13 @@ fn check(rt: &impl Abort, slots: &mut Vec<Slot>) {
         Slot { chunk: 0, index: 4 },
         OTHER,
     ];
-    assert_eq!(rt; slots.as_slice(), want.as_slice());
+    same_slots(rt, slots.as_slice(), &want);
 }
 
 fn list_cache(rt: &impl Abort, alloc: Global, cache: &Cache<'_>) -> Result<(), NoMemory> {
     let mut slots = with_one(alloc)?;
     if cache.list_slots(&mut slots).is_err() {
-        is_as_before(rt, slots.as_slice());
+        same_slots(rt, slots.as_slice(), &[OTHER]);
         cache.list_slots(&mut slots)?;
     }
     check(rt, &mut slots);
@@ -45,7 +45,7 @@ fn list_cache(rt: &impl Abort, alloc: Global, cache: &Cache<'_>) -> Result<(), N
 fn list_batch(rt: &impl Abort, alloc: Global, batch: &Batch<'_>) -> Result<(), NoMemory> {
     let mut slots = with_one(alloc)?;
     if batch.list_slots(&mut slots).is_err() {
-        is_as_before(rt, slots.as_slice());
+        same_slots(rt, slots.as_slice(), &[OTHER]);
         batch.list_slots(&mut slots)?;
     }
     check(rt, &mut slots);

@@ -1,4 +1,5 @@
 //! Digits of numbers, and how many two numbers share.
+use crate::tests::samples::same_at;
 use digit_route::{Digits, laws};
 use region_cut::Profile;
 use std::process::Abort;
@@ -19,7 +20,13 @@ fn check_digit(rt: &impl Abort, digits: Digits, number: u16, at: u32, want: u16)
 
 // The number has these digits, least first, and no other.
 fn check_number(rt: &impl Abort, digits: Digits, number: u16, want: &[u16]) {
-    assert_eq!(rt; digits.count() as usize, want.len());
+    same_at(
+        rt,
+        "digits of",
+        number,
+        u64::from(digits.count()),
+        want.len() as u64,
+    );
     let mut at = 0u32;
     for digit in want {
         check_digit(rt, digits, number, at, *digit);
@@ -28,13 +35,16 @@ fn check_number(rt: &impl Abort, digits: Digits, number: u16, want: &[u16]) {
     check_digit(rt, digits, number, u32::MAX, 0);
 }
 
+fn check_common(rt: &impl Abort, digits: Digits, desk: u16, owner: u16, want: u32) {
+    assert_eq!(rt; digits.common(desk, owner), want, "{desk} and {owner}");
+}
+
 fn check(rt: &impl Abort, row: &Row) {
     let digits = row.digits.expect(rt, "a width of 1 to 6");
     let (desk, owner) = row.numbers;
     check_number(rt, digits, desk, row.desk);
     check_number(rt, digits, owner, row.owner);
-    let common = digits.common(desk, owner);
-    assert_eq!(rt; common, row.common, "{desk} and {owner}");
+    check_common(rt, digits, desk, owner, row.common);
     laws::symmetric(digits, desk, owner);
 }
 

@@ -1,5 +1,5 @@
 //! Postings in rounds.
-use crate::tests::samples::{filled_in, take};
+use crate::tests::samples::{filled_in, same, same_at, take};
 use digit_route::{Batch, Cache, Posting};
 use slot_chain::NoMemory;
 use std::alloc::Global;
@@ -21,8 +21,15 @@ fn wanted(address: u16, want: &[Want]) -> Option<Want> {
 fn check_batch(rt: &impl Abort, batch: Batch<'_>, round: u32, want: &[Want]) {
     let address = batch.address();
     let (in_round, _, count) = wanted(address, want).expect(rt, "an owner as address");
-    let shown = (round, batch.sender(), batch.len());
-    assert_eq!(rt; shown, (in_round, 0, count), "the batch to {address}");
+    same_at(
+        rt,
+        "the round of",
+        address,
+        u64::from(round),
+        u64::from(in_round),
+    );
+    same_at(rt, "the sender to", address, u64::from(batch.sender()), 0);
+    same_at(rt, "the batch to", address, batch.len(), count);
 }
 
 // Posts as many batches as are wanted.
@@ -46,11 +53,11 @@ fn post(
 ) -> Result<(), NoMemory> {
     let mut region = Vec::from_elem(alloc, 0u8, 4096)?;
     let mut posting = filled_in(rt, alloc, &mut region, 0, width, owners)?.posting();
-    assert_eq!(rt; posting.round(), 0);
-    assert_eq!(rt; posting.moves(), 0);
+    same(rt, "the first round", u64::from(posting.round()), 0);
+    same(rt, "the moves at first", posting.moves(), 0);
     check_posting(rt, &mut posting, want);
     assert!(rt; posting.next_batch().is_none());
-    assert_eq!(rt; posting.moves(), moves);
+    same(rt, "the moves", posting.moves(), moves);
     Ok(())
 }
 
@@ -101,7 +108,8 @@ fn put_third_back<'r>(rt: &impl Abort, mut posting: Posting<'r>) -> Cache<'r> {
 
 // What is left of four buffers are the two of 32.
 fn check_left(rt: &impl Abort, mut cache: Cache<'_>) {
-    assert_eq!(rt; (cache.len(), cache.bytes()), (2, 32));
+    same(rt, "buffers left", cache.len(), 2);
+    same(rt, "bytes left", cache.bytes(), 32);
     drop(take(rt, &mut cache, 32, 2));
     assert!(rt; cache.posting().end().is_empty());
 }

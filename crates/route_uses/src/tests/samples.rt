@@ -1,4 +1,4 @@
-//! Caches to test with, and the batches of them.
+//! Caches to test with, and the batches of them; and how numbers are compared.
 ghost use Rattle.std.specs.Prelude.{◌≡◌, ◌<◌, []};
 
 use crate::filling::fill;
@@ -7,6 +7,16 @@ use region_cut::{Bump, Class, Part, cut};
 use slot_chain::NoMemory;
 use std::alloc::Global;
 use std::process::Abort;
+
+/// Both are the same. Where they are not, `what` says which value it is.
+pub fn same(rt: &impl Abort, what: &str, found: u64, wanted: u64) {
+    assert_eq!(rt; found, wanted, "{what}");
+}
+
+/// The same for a value of the desk `at`.
+pub fn same_at(rt: &impl Abort, what: &str, at: u16, found: u64, wanted: u64) {
+    assert_eq!(rt; found, wanted, "{what} {at}");
+}
 
 // The chunks of a region that has few.
 fn parts<'r>(alloc: Global, region: &'r mut [u8]) -> Result<Vec<Part<'r>>, NoMemory> {
@@ -45,7 +55,7 @@ pub fn filled<'r>(
 ) -> Result<Cache<'r>, NoMemory> {
     let mut cache = empty(rt, width, 0);
     let taken = fill(alloc, bump, owners, &mut cache)?;
-    assert_eq!(rt; taken, owners.len() as u64);
+    same(rt, "buffers taken", taken, owners.len() as u64);
     Ok(cache)
 }
 
@@ -65,6 +75,6 @@ pub fn filled_in<'r>(
 /// The batch for `t`, which has so many buffers.
 pub fn take<'r>(rt: &impl Abort, cache: &mut Cache<'r>, t: u16, count: u64) -> Batch<'r> {
     let batch = cache.take_bucket_for(t).expect(rt, "a batch");
-    assert_eq!(rt; batch.len(), count, "the batch for {t}");
+    same_at(rt, "the batch for", t, batch.len(), count);
     batch
 }

@@ -1,6 +1,6 @@
 //! Postings to the end, into sinks with much and with little room.
 use crate::shelf::Shelf;
-use crate::tests::samples::filled_in;
+use crate::tests::samples::{filled_in, same};
 use digit_route::Cache;
 use slot_chain::NoMemory;
 use std::alloc::Global;
@@ -16,7 +16,12 @@ fn post<'r>(
 ) -> Result<(Cache<'r>, u64), NoMemory> {
     let mut shelf = Shelf::new(alloc, room)?;
     let posted = cache.post_all(&mut shelf);
-    assert_eq!(rt; shelf.batches.len(), given);
+    same(
+        rt,
+        "batches given",
+        shelf.batches.len() as u64,
+        given as u64,
+    );
     Ok(posted)
 }
 
@@ -25,7 +30,7 @@ fn post_all(rt: &impl Abort, alloc: Global) -> Result<(), NoMemory> {
     let cache = filled_in(rt, alloc, &mut region, 0, 2, &[1, 2, 3, 16, 32])?;
     let (cache, moves) = post(rt, alloc, cache, 5, 5)?;
     assert!(rt; cache.is_empty());
-    assert_eq!(rt; moves, 4);
+    same(rt, "the moves", moves, 4);
     Ok(())
 }
 
@@ -41,7 +46,7 @@ fn post_some(rt: &impl Abort, alloc: Global, room: usize, left: usize) -> Result
     let mut region = Vec::from_elem(alloc, 0u8, 4096)?;
     let cache = filled_in(rt, alloc, &mut region, 0, 2, &[1, 2, 3, 16, 32])?;
     let (cache, _) = post(rt, alloc, cache, room, room)?;
-    assert_eq!(rt; cache.len(), left as u64);
+    same(rt, "buffers left", cache.len(), left as u64);
     let (cache, _) = post(rt, alloc, cache, 5, left)?;
     assert!(rt; cache.is_empty());
     Ok(())
