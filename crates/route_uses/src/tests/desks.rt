@@ -7,14 +7,19 @@ use slot_chain::{Buf, NoMemory};
 use std::alloc::Global;
 use std::process::Abort;
 
-// Takes a buffer home, or passes it on into the cache. Says whether it is home.
-fn take_in<'r>(rt: &impl Abort, cache: &mut Cache<'r>, mut buf: Buf<'r>) -> bool {
-    if buf.owner() == cache.number() {
-        return true;
-    }
+// Passes a buffer on into the cache.
+fn put_on<'r>(rt: &impl Abort, cache: &mut Cache<'r>, mut buf: Buf<'r>) {
     buf.set_forwards(buf.forwards().saturating_add(1));
     assert!(rt; offer(cache, buf).is_none());
-    false
+}
+
+// Takes a buffer home, or passes it on into the cache. Says whether it is home.
+fn take_in<'r>(rt: &impl Abort, cache: &mut Cache<'r>, buf: Buf<'r>) -> bool {
+    let is_home = buf.owner() == cache.number();
+    if !is_home {
+        put_on(rt, cache, buf);
+    }
+    is_home
 }
 
 // So many buffers of the batch come home, and so many are passed on into the cache.
@@ -46,14 +51,26 @@ fn check_last(rt: &impl Abort, batch: Batch<'_>) {
     same(rt, "the hops", u64::from(buf.forwards()), 2);
 }
 
+// The batch of `count` buffers for the desk of the cache `to` goes there.
+fn send<'r>(
+    rt: &impl Abort,
+    from: &mut Cache<'r>,
+    to: &mut Cache<'r>,
+    count: u64,
+    home: u64,
+    on: u64,
+) {
+    let batch = take(rt, from, to.number(), count);
+    receive(rt, to, batch, home, on);
+}
+
 // From desk 0 to 7, to 11, to 27.
 fn travel(rt: &impl Abort, mut at_0: Cache<'_>) {
-    let batch = take(rt, &mut at_0, 7, 3);
-    assert!(rt; at_0.is_empty());
     let mut at_7 = empty(rt, 2, 7);
-    receive(rt, &mut at_7, batch, 1, 2);
+    send(rt, &mut at_0, &mut at_7, 3, 1, 2);
+    assert!(rt; at_0.is_empty());
     let mut at_11 = empty(rt, 2, 11);
-    receive(rt, &mut at_11, take(rt, &mut at_7, 11, 2), 1, 1);
+    send(rt, &mut at_7, &mut at_11, 2, 1, 1);
     check_last(rt, take(rt, &mut at_11, 27, 1));
 }
 
@@ -146,7 +163,7 @@ fn empty_of_many<'r>(rt: &impl Abort, desk: u16) -> Cache<'r> {
 // From desk 0 to 65, to 129.
 fn travel_by_twelve_bits(rt: &impl Abort, mut at_0: Cache<'_>) {
     let mut at_65 = empty_of_many(rt, 65);
-    receive(rt, &mut at_65, take(rt, &mut at_0, 65, 2), 1, 1);
+    send(rt, &mut at_0, &mut at_65, 2, 1, 1);
     drop(take(rt, &mut at_65, 129, 1));
 }
 
