@@ -3,6 +3,7 @@ use crate::filling::fill;
 use crate::offering::offer;
 use crate::tests::samples::{bump, empty, filled, filled_in, same, same_at, take};
 use digit_route::{Batch, Cache, Digits, RouteError};
+use region_cut::Bump;
 use slot_chain::{Buf, NoMemory};
 use std::alloc::Global;
 use std::process::Abort;
@@ -128,22 +129,24 @@ fn check_bytes(rt: &impl Abort, cache: &Cache<'_>, bytes: u64, due: bool) {
 }
 
 // Takes a batch of one buffer out of a cache that is due, and puts it back.
-fn take_and_put_back(rt: &impl Abort, cache: &mut Cache<'_>) {
-    check_bytes(rt, cache, 1536, true);
+fn take_and_put_back(rt: &impl Abort, mut cache: Cache<'_>) {
+    check_bytes(rt, &cache, 1536, true);
     let batch = cache.next_batch().expect(rt, "a batch");
-    check_bytes(rt, cache, 1024, false);
+    check_bytes(rt, &cache, 1024, false);
     cache.put_back(batch);
-    check_bytes(rt, cache, 1536, true);
+    check_bytes(rt, &cache, 1536, true);
+}
+
+fn fill_both(rt: &impl Abort, alloc: Global, bump: &mut Bump<'_>) -> Result<(), NoMemory> {
+    check_bytes(rt, &filled(rt, alloc, bump, 2, &[7, 1])?, 1024, false);
+    take_and_put_back(rt, filled(rt, alloc, bump, 2, &[7, 1, 2])?);
+    Ok(())
 }
 
 fn fill_to_the_limit(rt: &impl Abort, alloc: Global) -> Result<(), NoMemory> {
     let mut region = Vec::from_elem(alloc, 0u8, 4096)?;
     let mut bump = bump(rt, alloc, &mut region, 15)?;
-    let cache = filled(rt, alloc, &mut bump, 2, &[7, 1])?;
-    check_bytes(rt, &cache, 1024, false);
-    let mut cache = filled(rt, alloc, &mut bump, 2, &[7, 1, 2])?;
-    take_and_put_back(rt, &mut cache);
-    Ok(())
+    fill_both(rt, alloc, &mut bump)
 }
 
 #[test]

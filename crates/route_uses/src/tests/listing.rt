@@ -52,12 +52,16 @@ fn list_batch(rt: &impl Abort, alloc: Global, batch: &Batch<'_>) -> Result<(), N
     Ok(())
 }
 
+// Lists the cache, and then the batch that has all of it.
+fn list_both(rt: &impl Abort, alloc: Global, mut cache: Cache<'_>) -> Result<(), NoMemory> {
+    list_cache(rt, alloc, &cache)?;
+    list_batch(rt, alloc, &take(rt, &mut cache, 7, 5))
+}
+
 fn list_all(rt: &impl Abort, alloc: Global) -> Result<(), NoMemory> {
     let mut region = Vec::from_elem(alloc, 0u8, 4096)?;
-    let mut cache = filled_in(rt, alloc, &mut region, 0, 2, &[7, 11, 27, 3, 15])?;
-    list_cache(rt, alloc, &cache)?;
-    let batch = take(rt, &mut cache, 7, 5);
-    list_batch(rt, alloc, &batch)
+    let cache = filled_in(rt, alloc, &mut region, 0, 2, &[7, 11, 27, 3, 15])?;
+    list_both(rt, alloc, cache)
 }
 
 // It passes whichever allocation is refused, since the second time none is.

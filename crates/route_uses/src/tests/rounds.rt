@@ -43,6 +43,15 @@ fn check_posting(rt: &impl Abort, posting: &mut Posting<'_>, want: &[Want]) {
     }
 }
 
+// Posts all, in so many moves.
+fn check_all(rt: &impl Abort, mut posting: Posting<'_>, want: &[Want], moves: u64) {
+    same(rt, "the first round", u64::from(posting.round()), 0);
+    same(rt, "the moves at first", posting.moves(), 0);
+    check_posting(rt, &mut posting, want);
+    assert!(rt; posting.next_batch().is_none());
+    same(rt, "the moves", posting.moves(), moves);
+}
+
 fn post(
     rt: &impl Abort,
     alloc: Global,
@@ -52,12 +61,8 @@ fn post(
     moves: u64,
 ) -> Result<(), NoMemory> {
     let mut region = Vec::from_elem(alloc, 0u8, 4096)?;
-    let mut posting = filled_in(rt, alloc, &mut region, 0, width, owners)?.posting();
-    same(rt, "the first round", u64::from(posting.round()), 0);
-    same(rt, "the moves at first", posting.moves(), 0);
-    check_posting(rt, &mut posting, want);
-    assert!(rt; posting.next_batch().is_none());
-    same(rt, "the moves", posting.moves(), moves);
+    let cache = filled_in(rt, alloc, &mut region, 0, width, owners)?;
+    check_all(rt, cache.posting(), want, moves);
     Ok(())
 }
 

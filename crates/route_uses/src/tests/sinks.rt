@@ -25,13 +25,17 @@ fn post<'r>(
     Ok(posted)
 }
 
-fn post_all(rt: &impl Abort, alloc: Global) -> Result<(), NoMemory> {
-    let mut region = Vec::from_elem(alloc, 0u8, 4096)?;
-    let cache = filled_in(rt, alloc, &mut region, 0, 2, &[1, 2, 3, 16, 32])?;
+fn post_at_once(rt: &impl Abort, alloc: Global, cache: Cache<'_>) -> Result<(), NoMemory> {
     let (cache, moves) = post(rt, alloc, cache, 5, 5)?;
     assert!(rt; cache.is_empty());
     same(rt, "the moves", moves, 4);
     Ok(())
+}
+
+fn post_all(rt: &impl Abort, alloc: Global) -> Result<(), NoMemory> {
+    let mut region = Vec::from_elem(alloc, 0u8, 4096)?;
+    let cache = filled_in(rt, alloc, &mut region, 0, 2, &[1, 2, 3, 16, 32])?;
+    post_at_once(rt, alloc, cache)
 }
 
 #[test]
@@ -42,14 +46,24 @@ fn posts_all(rt: HostRuntime) {
 }
 
 // Of five batches as many are left as the first shelf has no room for.
-fn post_some(rt: &impl Abort, alloc: Global, room: usize, left: usize) -> Result<(), NoMemory> {
-    let mut region = Vec::from_elem(alloc, 0u8, 4096)?;
-    let cache = filled_in(rt, alloc, &mut region, 0, 2, &[1, 2, 3, 16, 32])?;
+fn post_twice(
+    rt: &impl Abort,
+    alloc: Global,
+    cache: Cache<'_>,
+    room: usize,
+    left: usize,
+) -> Result<(), NoMemory> {
     let (cache, _) = post(rt, alloc, cache, room, room)?;
     same(rt, "buffers left", cache.len(), left as u64);
     let (cache, _) = post(rt, alloc, cache, 5, left)?;
     assert!(rt; cache.is_empty());
     Ok(())
+}
+
+fn post_some(rt: &impl Abort, alloc: Global, room: usize, left: usize) -> Result<(), NoMemory> {
+    let mut region = Vec::from_elem(alloc, 0u8, 4096)?;
+    let cache = filled_in(rt, alloc, &mut region, 0, 2, &[1, 2, 3, 16, 32])?;
+    post_twice(rt, alloc, cache, room, left)
 }
 
 #[test]
