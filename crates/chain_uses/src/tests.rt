@@ -12,6 +12,12 @@ use crate::filling::fill_region;
 use region_cut::{Class, Part, cut};
 use slot_chain::{Chain, NoMemory};
 use std::alloc::Global;
+use std::process::Abort;
+
+// Both are the same. Where they are not, `what` says which value it is.
+fn same(rt: &impl Abort, what: &str, found: u64, wanted: u64) {
+    assert_eq!(rt; found, wanted, "{what}");
+}
 
 // The chunks of a region that has few.
 fn parts<'r>(alloc: Global, region: &'r mut [u8]) -> Result<Vec<Part<'r>>, NoMemory> {

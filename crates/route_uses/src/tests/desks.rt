@@ -1,49 +1,83 @@
 //! How buffers of 7, 11 and 27 travel from desk 0, in digits of 2 bits.
+use crate::filling::fill;
 use crate::offering::offer;
-use crate::tests::samples::{bump, empty, filled};
+use crate::tests::samples::{bump, empty, filled, filled_in, same, same_at, take};
 use digit_route::{Batch, Cache, Digits, RouteError};
-use slot_chain::NoMemory;
+use region_cut::Bump;
+use slot_chain::{Buf, NoMemory};
 use std::alloc::Global;
 use std::process::Abort;
 
-// What came home, and what was passed on into the cache.
-fn receive<'r>(rt: &impl Abort, cache: &mut Cache<'r>, batch: Batch<'r>) -> (u64, u64) {
-    assert_eq!(rt; batch.address(), cache.number());
-    let (mut home, mut on) = (0u64, 0u64);
+// Passes a buffer on into the cache.
+fn put_on<'r>(rt: &impl Abort, cache: &mut Cache<'r>, mut buf: Buf<'r>) {
+    buf.set_forwards(buf.forwards().saturating_add(1));
+    assert!(rt; offer(cache, buf).is_none());
+}
+
+// Takes a buffer home, or passes it on into the cache. Says whether it is home.
+fn take_in<'r>(rt: &impl Abort, cache: &mut Cache<'r>, buf: Buf<'r>) -> bool {
+    let is_home = buf.owner() == cache.number();
+    if !is_home {
+        put_on(rt, cache, buf);
+    }
+    is_home
+}
+
+// So many buffers of the batch come home, and so many are passed on into the cache.
+fn receive<'r>(rt: &impl Abort, cache: &mut Cache<'r>, batch: Batch<'r>, home: u64, on: u64) {
+    same(
+        rt,
+        "the address",
+        u64::from(batch.address()),
+        u64::from(cache.number()),
+    );
+    let (mut came, mut left) = (0u64, 0u64);
     let mut chain = batch.into_chain();
-    while let Some(mut buf) = chain.pop() {
-        if buf.owner() == cache.number() {
-            home = home.saturating_add(1);
+    while let Some(buf) = chain.pop() {
+        if take_in(rt, cache, buf) {
+            came = came.saturating_add(1);
         } else {
-            buf.set_forwards(buf.forwards().saturating_add(1));
-            assert!(rt; offer(cache, buf).is_none());
-            on = on.saturating_add(1);
+            left = left.saturating_add(1);
         }
     }
-    (home, on)
+    same(rt, "buffers at home", came, home);
+    same(rt, "buffers passed on", left, on);
+}
+
+// The one buffer of the last batch.
+fn check_last(rt: &impl Abort, batch: Batch<'_>) {
+    let mut chain = batch.into_chain();
+    let buf = chain.pop().expect(rt, "the buffer of 27");
+    same(rt, "the owner", u64::from(buf.owner()), 27);
+    same(rt, "the hops", u64::from(buf.forwards()), 2);
+}
+
+// The batch of `count` buffers for the desk of the cache `to` goes there.
+fn send<'r>(
+    rt: &impl Abort,
+    from: &mut Cache<'r>,
+    to: &mut Cache<'r>,
+    count: u64,
+    home: u64,
+    on: u64,
+) {
+    let batch = take(rt, from, to.number(), count);
+    receive(rt, to, batch, home, on);
+}
+
+// From desk 0 to 7, to 11, to 27.
+fn travel(rt: &impl Abort, mut at_0: Cache<'_>) {
+    let mut at_7 = empty(rt, 2, 7);
+    send(rt, &mut at_0, &mut at_7, 3, 1, 2);
+    assert!(rt; at_0.is_empty());
+    let mut at_11 = empty(rt, 2, 11);
+    send(rt, &mut at_7, &mut at_11, 2, 1, 1);
+    check_last(rt, take(rt, &mut at_11, 27, 1));
 }
 
 fn pass_on(rt: &impl Abort, alloc: Global) -> Result<(), NoMemory> {
     let mut region = Vec::from_elem(alloc, 0u8, 4096)?;
-    let mut bump = bump(rt, alloc, &mut region, 15)?;
-    let mut at_0 = filled(rt, alloc, &mut bump, 2, 0, &[7, 11, 27])?;
-    let batch = at_0.take_bucket_for(7).expect(rt, "a batch");
-    assert!(rt; at_0.is_empty());
-    assert_eq!(rt; batch.len(), 3);
-
-    let mut at_7 = empty(rt, 2, 7);
-    assert_eq!(rt; receive(rt, &mut at_7, batch), (1, 2));
-    let batch = at_7.take_bucket_for(11).expect(rt, "a batch");
-    assert_eq!(rt; batch.len(), 2);
-
-    let mut at_11 = empty(rt, 2, 11);
-    assert_eq!(rt; receive(rt, &mut at_11, batch), (1, 1));
-    let batch = at_11.take_bucket_for(27).expect(rt, "a batch");
-    assert_eq!(rt; batch.len(), 1);
-    let mut chain = batch.into_chain();
-    let buf = chain.pop().expect(rt, "the buffer of 27");
-    assert_eq!(rt; buf.owner(), 27);
-    assert_eq!(rt; buf.forwards(), 2);
+    travel(rt, filled_in(rt, alloc, &mut region, 15, 2, &[7, 11, 27])?);
     Ok(())
 }
 
@@ -54,22 +88,30 @@ fn passes_buffers_on(rt: HostRuntime) {
     }
 }
 
+fn check_fault(rt: &impl Abort, fault: Option<RouteError>, t: u16, want: RouteError) {
+    assert_eq!(rt; fault, Some(want), "at {t}");
+}
+
+// The cache gives no batch for `t`, and keeps its one buffer.
+fn refuse_for(rt: &impl Abort, cache: &mut Cache<'_>, t: u16, want: RouteError) {
+    check_fault(rt, cache.fault_for(t), t, want);
+    check_fault(rt, cache.take_bucket_for(t).err(), t, want);
+    same_at(rt, "buffers after that for", t, cache.len(), 1);
+}
+
+// A cache with one buffer, of 27.
+fn refuse_all(rt: &impl Abort, mut cache: Cache<'_>) {
+    refuse_for(rt, &mut cache, 3, RouteError::NotAnOwner);
+    refuse_for(rt, &mut cache, 2, RouteError::NothingFor);
+    refuse_for(rt, &mut cache, 0, RouteError::ToSelf);
+    assert!(rt; cache.fault_for(27).is_none());
+    drop(take(rt, &mut cache, 27, 1));
+    check_fault(rt, cache.fault_for(27), 27, RouteError::NothingFor);
+}
+
 fn refuse(rt: &impl Abort, alloc: Global) -> Result<(), NoMemory> {
     let mut region = Vec::from_elem(alloc, 0u8, 4096)?;
-    let mut bump = bump(rt, alloc, &mut region, 15)?;
-    let mut cache = filled(rt, alloc, &mut bump, 2, 0, &[27])?;
-    for (t, want) in [
-        (3, RouteError::NotAnOwner),
-        (2, RouteError::NothingFor),
-        (0, RouteError::ToSelf),
-    ] {
-        assert_eq!(rt; cache.fault_for(t), Some(want), "at {t}");
-        assert_eq!(rt; cache.take_bucket_for(t).err(), Some(want), "at {t}");
-        assert_eq!(rt; cache.len(), 1);
-    }
-    assert!(rt; cache.fault_for(27).is_none());
-    assert_eq!(rt; cache.take_bucket_for(27).expect(rt, "a batch").len(), 1);
-    assert_eq!(rt; cache.fault_for(27), Some(RouteError::NothingFor));
+    refuse_all(rt, filled_in(rt, alloc, &mut region, 15, 2, &[27])?);
     Ok(())
 }
 
@@ -80,22 +122,31 @@ fn refuses_in_order(rt: HostRuntime) {
     }
 }
 
+// How many bytes the cache has, and whether it is due.
+fn check_bytes(rt: &impl Abort, cache: &Cache<'_>, bytes: u64, due: bool) {
+    same(rt, "the bytes", cache.bytes(), bytes);
+    assert!(rt; cache.is_due() == due);
+}
+
+// Takes a batch of one buffer out of a cache that is due, and puts it back.
+fn take_and_put_back(rt: &impl Abort, mut cache: Cache<'_>) {
+    check_bytes(rt, &cache, 1536, true);
+    let batch = cache.next_batch().expect(rt, "a batch");
+    check_bytes(rt, &cache, 1024, false);
+    cache.put_back(batch);
+    check_bytes(rt, &cache, 1536, true);
+}
+
+fn fill_both(rt: &impl Abort, alloc: Global, bump: &mut Bump<'_>) -> Result<(), NoMemory> {
+    check_bytes(rt, &filled(rt, alloc, bump, 2, &[7, 1])?, 1024, false);
+    take_and_put_back(rt, filled(rt, alloc, bump, 2, &[7, 1, 2])?);
+    Ok(())
+}
+
 fn fill_to_the_limit(rt: &impl Abort, alloc: Global) -> Result<(), NoMemory> {
     let mut region = Vec::from_elem(alloc, 0u8, 4096)?;
     let mut bump = bump(rt, alloc, &mut region, 15)?;
-    let mut cache = filled(rt, alloc, &mut bump, 2, 0, &[7, 1])?;
-    assert_eq!(rt; cache.bytes(), 1024);
-    assert!(rt; !cache.is_due());
-    let mut cache = filled(rt, alloc, &mut bump, 2, 0, &[7, 1, 2])?;
-    assert_eq!(rt; cache.bytes(), 1536);
-    assert!(rt; cache.is_due());
-    let batch = cache.next_batch().expect(rt, "a batch");
-    assert_eq!(rt; cache.bytes(), 1024);
-    assert!(rt; !cache.is_due());
-    cache.put_back(batch);
-    assert_eq!(rt; cache.bytes(), 1536);
-    assert!(rt; cache.is_due());
-    Ok(())
+    fill_both(rt, alloc, &mut bump)
 }
 
 #[test]
@@ -105,18 +156,27 @@ fn is_due_above_the_limit(rt: HostRuntime) {
     }
 }
 
+// An empty cache of the profile with 4,096 desks.
+fn empty_of_many<'r>(rt: &impl Abort, desk: u16) -> Cache<'r> {
+    let digits = Digits::new2(6).expect(rt, "a width of 1 to 6");
+    assert!(rt; desk < 4096, "a desk's number");
+    Cache::new(desk, digits, 4096)
+}
+
+// From desk 0 to 65, to 129.
+fn travel_by_twelve_bits(rt: &impl Abort, mut at_0: Cache<'_>) {
+    let mut at_65 = empty_of_many(rt, 65);
+    send(rt, &mut at_0, &mut at_65, 2, 1, 1);
+    drop(take(rt, &mut at_65, 129, 1));
+}
+
 fn pass_on_by_twelve_bits(rt: &impl Abort, alloc: Global) -> Result<(), NoMemory> {
     let mut region = Vec::from_elem(alloc, 0u8, 4096)?;
     let mut bump = bump(rt, alloc, &mut region, 19)?;
-    let digits = Digits::new2(6).expect(rt, "a width of 1 to 6");
-    let mut at_0 = Cache::new(0, digits, 4096);
-    let taken = crate::filling::fill(alloc, &mut bump, &[65, 129], &mut at_0)?;
-    assert_eq!(rt; taken, 2);
-    let batch = at_0.take_bucket_for(65).expect(rt, "a batch");
-    assert_eq!(rt; batch.len(), 2);
-    let mut at_65 = Cache::new(65, digits, 4096);
-    assert_eq!(rt; receive(rt, &mut at_65, batch), (1, 1));
-    assert_eq!(rt; at_65.take_bucket_for(129).expect(rt, "a batch").len(), 1);
+    let mut at_0 = empty_of_many(rt, 0);
+    let taken = fill(alloc, &mut bump, &[65, 129], &mut at_0)?;
+    same(rt, "buffers taken", taken, 2);
+    travel_by_twelve_bits(rt, at_0);
     Ok(())
 }
 

@@ -1,12 +1,23 @@
 //! Lists of slots, also where their growth is refused. Run these with each allocation failing in turn.
-use crate::filling::fill;
-use crate::tests::samples::empty;
-use region_cut::{Class, Slot, cut};
+use crate::tests::samples::{filled_in, take};
+use digit_route::{Batch, Cache};
+use region_cut::Slot;
 use slot_chain::NoMemory;
 use std::alloc::Global;
 use std::process::Abort;
 
 const OTHER: Slot = Slot { chunk: 7, index: 7 };
+
+// A list that has a slot already. It has room for two, and has to grow for the others.
+fn with_one(alloc: Global) -> Result<Vec<Slot>, NoMemory> {
+    let mut slots = Vec::with_capacity(alloc, 2)?;
+    slots.push(OTHER)?;
+    Ok(slots)
+}
+
+fn same_slots(rt: &impl Abort, found: &[Slot], wanted: &[Slot]) {
+    assert_eq!(rt; found, wanted);
+}
 
 fn check(rt: &impl Abort, slots: &mut Vec<Slot>) {
     slots.as_mut_slice().sort_unstable();
@@ -18,37 +29,39 @@ fn check(rt: &impl Abort, slots: &mut Vec<Slot>) {
         Slot { chunk: 0, index: 4 },
         OTHER,
     ];
-    assert_eq!(rt; slots.as_slice(), want.as_slice());
+    same_slots(rt, slots.as_slice(), &want);
 }
 
-fn list_all(rt: &impl Abort, alloc: Global) -> Result<(), NoMemory> {
-    let mut region = Vec::from_elem(alloc, 0u8, 4096)?;
-    let Ok(mut parts) = cut(alloc, &mut region) else {
-        return Err(NoMemory);
-    };
-    let mut bump = parts.pop().expect(rt, "a chunk").bump(Class::FIRST);
-    let mut cache = empty(rt, 2, 0);
-    let _taken = fill(alloc, &mut bump, &[7, 11, 27, 3, 15], &mut cache)?;
-
-    // The list has room for two slots, and has to grow for the others.
-    let mut slots = Vec::with_capacity(alloc, 2)?;
-    slots.push(OTHER)?;
+fn list_cache(rt: &impl Abort, alloc: Global, cache: &Cache<'_>) -> Result<(), NoMemory> {
+    let mut slots = with_one(alloc)?;
     if cache.list_slots(&mut slots).is_err() {
-        assert_eq!(rt; slots.as_slice(), [OTHER].as_slice());
+        same_slots(rt, slots.as_slice(), &[OTHER]);
         cache.list_slots(&mut slots)?;
     }
     check(rt, &mut slots);
+    Ok(())
+}
 
-    let batch = cache.take_bucket_for(7).expect(rt, "a batch");
-    assert_eq!(rt; batch.len(), 5);
-    let mut slots = Vec::with_capacity(alloc, 2)?;
-    slots.push(OTHER)?;
+fn list_batch(rt: &impl Abort, alloc: Global, batch: &Batch<'_>) -> Result<(), NoMemory> {
+    let mut slots = with_one(alloc)?;
     if batch.list_slots(&mut slots).is_err() {
-        assert_eq!(rt; slots.as_slice(), [OTHER].as_slice());
+        same_slots(rt, slots.as_slice(), &[OTHER]);
         batch.list_slots(&mut slots)?;
     }
     check(rt, &mut slots);
     Ok(())
+}
+
+// Lists the cache, and then the batch that has all of it.
+fn list_both(rt: &impl Abort, alloc: Global, mut cache: Cache<'_>) -> Result<(), NoMemory> {
+    list_cache(rt, alloc, &cache)?;
+    list_batch(rt, alloc, &take(rt, &mut cache, 7, 5))
+}
+
+fn list_all(rt: &impl Abort, alloc: Global) -> Result<(), NoMemory> {
+    let mut region = Vec::from_elem(alloc, 0u8, 4096)?;
+    let cache = filled_in(rt, alloc, &mut region, 0, 2, &[7, 11, 27, 3, 15])?;
+    list_both(rt, alloc, cache)
 }
 
 // It passes whichever allocation is refused, since the second time none is.

@@ -1,4 +1,5 @@
 //! Digits of numbers, and how many two numbers share.
+use crate::tests::samples::same_at;
 use digit_route::{Digits, laws};
 use region_cut::Profile;
 use std::process::Abort;
@@ -13,20 +14,37 @@ struct Row {
     common: u32,
 }
 
+fn check_digit(rt: &impl Abort, digits: Digits, number: u16, at: u32, want: u16) {
+    assert_eq!(rt; digits.digit(number, at), want, "digit {at} of {number}");
+}
+
+// The number has these digits, least first, and no other.
+fn check_number(rt: &impl Abort, digits: Digits, number: u16, want: &[u16]) {
+    same_at(
+        rt,
+        "digits of",
+        number,
+        u64::from(digits.count()),
+        want.len() as u64,
+    );
+    let mut at = 0u32;
+    for digit in want {
+        check_digit(rt, digits, number, at, *digit);
+        at = at.saturating_add(1);
+    }
+    check_digit(rt, digits, number, u32::MAX, 0);
+}
+
+fn check_common(rt: &impl Abort, digits: Digits, desk: u16, owner: u16, want: u32) {
+    assert_eq!(rt; digits.common(desk, owner), want, "{desk} and {owner}");
+}
+
 fn check(rt: &impl Abort, row: &Row) {
     let digits = row.digits.expect(rt, "a width of 1 to 6");
     let (desk, owner) = row.numbers;
-    assert_eq!(rt; digits.count() as usize, row.desk.len());
-    for (j, (a, o)) in row.desk.iter().zip(row.owner).enumerate() {
-        assert_eq!(rt; digits.digit(desk, j as u32), *a, "digit {j} of {desk}");
-        assert_eq!(rt; digits.digit(owner, j as u32), *o, "digit {j} of {owner}");
-    }
-    assert_eq!(rt;
-        digits.common(desk, owner),
-        row.common,
-        "{desk} and {owner}"
-    );
-    assert_eq!(rt; digits.digit(owner, u32::MAX), 0);
+    check_number(rt, digits, desk, row.desk);
+    check_number(rt, digits, owner, row.owner);
+    check_common(rt, digits, desk, owner, row.common);
     laws::symmetric(digits, desk, owner);
 }
 
@@ -95,6 +113,13 @@ fn reads_digits(rt: HostRuntime) {
     }
 }
 
+// Digits of `width` bits, of which a number has `count`.
+fn check_count(rt: &impl Abort, digits: Option<Digits>, width: u32, profile: Profile, count: u32) {
+    let digits = digits.expect(rt, "a width of 1 to 6");
+    assert_eq!(rt; digits.count(), count, "digits of {width} bits");
+    assert_eq!(rt; digits.profile(), profile);
+}
+
 #[test]
 fn counts_digits(rt: HostRuntime) {
     for (width, pool, pool2) in [
@@ -105,12 +130,8 @@ fn counts_digits(rt: HostRuntime) {
         (5, 2, 3),
         (6, 1, 2),
     ] {
-        let digits = Digits::new(width).expect(&rt, "a width of 1 to 6");
-        assert_eq!(rt; digits.count(), pool, "6 bits by {width}");
-        assert_eq!(rt; digits.profile(), Profile::Pool);
-        let digits = Digits::new2(width).expect(&rt, "a width of 1 to 6");
-        assert_eq!(rt; digits.count(), pool2, "12 bits by {width}");
-        assert_eq!(rt; digits.profile(), Profile::Pool2);
+        check_count(&rt, Digits::new(width), width, Profile::Pool, pool);
+        check_count(&rt, Digits::new2(width), width, Profile::Pool2, pool2);
     }
     for width in [0, 7, u32::MAX] {
         assert!(rt; Digits::new(width).is_none());

@@ -1,6 +1,6 @@
 //! Postings in rounds.
-use crate::tests::samples::{bump, filled};
-use digit_route::Posting;
+use crate::tests::samples::{filled_in, same, same_at, take};
+use digit_route::{Batch, Cache, Posting};
 use slot_chain::NoMemory;
 use std::alloc::Global;
 use std::process::Abort;
@@ -8,13 +8,48 @@ use std::process::Abort;
 // A batch that has to come: its round, its address and how many buffers it has.
 type Want = (u32, u16, u64);
 
-fn wanted(rt: &impl Abort, posting: &Posting<'_>, address: u16, want: &[Want]) -> u64 {
-    let (round, _, count) = want
-        .iter()
-        .find(|row| row.1 == address)
-        .expect(rt, "an owner as address");
-    assert_eq!(rt; posting.round(), *round, "the round of {address}");
-    *count
+fn wanted(address: u16, want: &[Want]) -> Option<Want> {
+    for row in want {
+        if row.1 == address {
+            return Some(*row);
+        }
+    }
+    None
+}
+
+// Checks a batch of the round, and lets it go.
+fn check_batch(rt: &impl Abort, batch: Batch<'_>, round: u32, want: &[Want]) {
+    let address = batch.address();
+    let (in_round, _, count) = wanted(address, want).expect(rt, "an owner as address");
+    same_at(
+        rt,
+        "the round of",
+        address,
+        u64::from(round),
+        u64::from(in_round),
+    );
+    same_at(rt, "the sender to", address, u64::from(batch.sender()), 0);
+    same_at(rt, "the batch to", address, batch.len(), count);
+}
+
+// Posts as many batches as are wanted.
+fn check_posting(rt: &impl Abort, posting: &mut Posting<'_>, want: &[Want]) {
+    let mut round = 0;
+    for _ in want {
+        let batch = posting.next_batch().expect(rt, "a batch");
+        assert!(rt; round <= posting.round());
+        round = posting.round();
+        check_batch(rt, batch, round, want);
+    }
+}
+
+// Posts all, in so many moves.
+fn check_all(rt: &impl Abort, mut posting: Posting<'_>, want: &[Want], moves: u64) {
+    same(rt, "the first round", u64::from(posting.round()), 0);
+    same(rt, "the moves at first", posting.moves(), 0);
+    check_posting(rt, &mut posting, want);
+    assert!(rt; posting.next_batch().is_none());
+    same(rt, "the moves", posting.moves(), moves);
 }
 
 fn post(
@@ -26,21 +61,8 @@ fn post(
     moves: u64,
 ) -> Result<(), NoMemory> {
     let mut region = Vec::from_elem(alloc, 0u8, 4096)?;
-    let mut bump = bump(rt, alloc, &mut region, 0)?;
-    let mut posting = filled(rt, alloc, &mut bump, width, 0, owners)?.posting();
-    assert_eq!(rt; posting.round(), 0);
-    assert_eq!(rt; posting.moves(), 0);
-    let mut round = 0;
-    for _ in want {
-        let batch = posting.next_batch().expect(rt, "a batch");
-        assert!(rt; round <= posting.round());
-        round = posting.round();
-        let count = wanted(rt, &posting, batch.address(), want);
-        assert_eq!(rt; batch.sender(), 0);
-        assert_eq!(rt; batch.len(), count, "the batch to {}", batch.address());
-    }
-    assert!(rt; posting.next_batch().is_none());
-    assert_eq!(rt; posting.moves(), moves);
+    let cache = filled_in(rt, alloc, &mut region, 0, width, owners)?;
+    check_all(rt, cache.posting(), want, moves);
     Ok(())
 }
 
@@ -81,19 +103,26 @@ fn six_bits(rt: HostRuntime) {
     );
 }
 
-fn put_back(rt: &impl Abort, alloc: Global) -> Result<(), NoMemory> {
-    let mut region = Vec::from_elem(alloc, 0u8, 4096)?;
-    let mut bump = bump(rt, alloc, &mut region, 0)?;
-    let mut posting = filled(rt, alloc, &mut bump, 1, 0, &[32, 32, 1, 2])?.posting();
+// Lets the first two batches go, and puts the third back.
+fn put_third_back<'r>(rt: &impl Abort, mut posting: Posting<'r>) -> Cache<'r> {
     drop(posting.next_batch());
     drop(posting.next_batch());
     let batch = posting.next_batch().expect(rt, "the batch to 32");
-    let mut cache = posting.put_back(batch);
-    assert_eq!(rt; cache.len(), 2);
-    assert_eq!(rt; cache.bytes(), 32);
-    let batch = cache.take_bucket_for(32).expect(rt, "the batch to 32");
-    assert_eq!(rt; batch.len(), 2);
+    posting.put_back(batch)
+}
+
+// What is left of four buffers are the two of 32.
+fn check_left(rt: &impl Abort, mut cache: Cache<'_>) {
+    same(rt, "buffers left", cache.len(), 2);
+    same(rt, "bytes left", cache.bytes(), 32);
+    drop(take(rt, &mut cache, 32, 2));
     assert!(rt; cache.posting().end().is_empty());
+}
+
+fn put_back(rt: &impl Abort, alloc: Global) -> Result<(), NoMemory> {
+    let mut region = Vec::from_elem(alloc, 0u8, 4096)?;
+    let cache = filled_in(rt, alloc, &mut region, 0, 1, &[32, 32, 1, 2])?;
+    check_left(rt, put_third_back(rt, cache.posting()));
     Ok(())
 }
 

@@ -1,20 +1,41 @@
 //! Postings to the end, into sinks with much and with little room.
 use crate::shelf::Shelf;
-use crate::tests::samples::{bump, filled};
+use crate::tests::samples::{filled_in, same};
+use digit_route::Cache;
 use slot_chain::NoMemory;
 use std::alloc::Global;
 use std::process::Abort;
 
+// Posts onto a shelf with so much room, which has to take `given` batches. Gives what is left, and the moves.
+fn post<'r>(
+    rt: &impl Abort,
+    alloc: Global,
+    cache: Cache<'r>,
+    room: usize,
+    given: usize,
+) -> Result<(Cache<'r>, u64), NoMemory> {
+    let mut shelf = Shelf::new(alloc, room)?;
+    let posted = cache.post_all(&mut shelf);
+    same(
+        rt,
+        "batches given",
+        shelf.batches.len() as u64,
+        given as u64,
+    );
+    Ok(posted)
+}
+
+fn post_at_once(rt: &impl Abort, alloc: Global, cache: Cache<'_>) -> Result<(), NoMemory> {
+    let (cache, moves) = post(rt, alloc, cache, 5, 5)?;
+    assert!(rt; cache.is_empty());
+    same(rt, "the moves", moves, 4);
+    Ok(())
+}
+
 fn post_all(rt: &impl Abort, alloc: Global) -> Result<(), NoMemory> {
     let mut region = Vec::from_elem(alloc, 0u8, 4096)?;
-    let mut bump = bump(rt, alloc, &mut region, 0)?;
-    let cache = filled(rt, alloc, &mut bump, 2, 0, &[1, 2, 3, 16, 32])?;
-    let mut shelf = Shelf::new(alloc, 5)?;
-    let (cache, moves) = cache.post_all(&mut shelf);
-    assert!(rt; cache.is_empty());
-    assert_eq!(rt; moves, 4);
-    assert_eq!(rt; shelf.batches.len(), 5);
-    Ok(())
+    let cache = filled_in(rt, alloc, &mut region, 0, 2, &[1, 2, 3, 16, 32])?;
+    post_at_once(rt, alloc, cache)
 }
 
 #[test]
@@ -25,19 +46,24 @@ fn posts_all(rt: HostRuntime) {
 }
 
 // Of five batches as many are left as the first shelf has no room for.
-fn post_some(rt: &impl Abort, alloc: Global, room: usize, left: usize) -> Result<(), NoMemory> {
-    let mut region = Vec::from_elem(alloc, 0u8, 4096)?;
-    let mut bump = bump(rt, alloc, &mut region, 0)?;
-    let cache = filled(rt, alloc, &mut bump, 2, 0, &[1, 2, 3, 16, 32])?;
-    let mut shelf = Shelf::new(alloc, room)?;
-    let (cache, _) = cache.post_all(&mut shelf);
-    assert_eq!(rt; shelf.batches.len(), room);
-    assert_eq!(rt; cache.len(), left as u64);
-    let mut shelf = Shelf::new(alloc, 5)?;
-    let (cache, _) = cache.post_all(&mut shelf);
-    assert_eq!(rt; shelf.batches.len(), left);
+fn post_twice(
+    rt: &impl Abort,
+    alloc: Global,
+    cache: Cache<'_>,
+    room: usize,
+    left: usize,
+) -> Result<(), NoMemory> {
+    let (cache, _) = post(rt, alloc, cache, room, room)?;
+    same(rt, "buffers left", cache.len(), left as u64);
+    let (cache, _) = post(rt, alloc, cache, 5, left)?;
     assert!(rt; cache.is_empty());
     Ok(())
+}
+
+fn post_some(rt: &impl Abort, alloc: Global, room: usize, left: usize) -> Result<(), NoMemory> {
+    let mut region = Vec::from_elem(alloc, 0u8, 4096)?;
+    let cache = filled_in(rt, alloc, &mut region, 0, 2, &[1, 2, 3, 16, 32])?;
+    post_twice(rt, alloc, cache, room, left)
 }
 
 #[test]
