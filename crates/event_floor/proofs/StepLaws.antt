@@ -1,5 +1,5 @@
 -- What the calls of the parts of a floor come to, in the words of its steps.
-use Rattle.std.proofs.Common.{◌≡◌, ℕ, ◌+◌, ◌<◌, ◌≤◌, List, [], ◌∷◌, ◌++◌, length, refl, sym, ◌∙◌, subst}
+use Rattle.std.proofs.Common.{◌≡◌, ℕ, ◌+◌, ◌<◌, ◌≤◌, List, [], ◌∷◌, ◌++◌, length, set, refl, sym, ap, ◌∙◌, subst}
 use Rattle.std.specs.Prelude.{Option, Some, None}
 use Rattle.std.specs.List.{slice_get}
 use Rattle.region_cut.specs.Parts.{name_of, bytes_of}
@@ -16,7 +16,7 @@ use Rattle.pool_desk.specs.declared.counts.Counts.{Counts}
 use Rattle.event_floor.specs.declared.seat.Seat.TheVariants.{Held}
 use Rattle.event_floor.specs.Chunks.{ChunksSeen}
 use Rattle.event_floor.specs.Seats.{IsNumbered}
-use Rattle.event_floor.specs.Posted.{Posted, SendsInto, LeavesFront, inbox_at}
+use Rattle.event_floor.specs.Posted.{Posted, SendsTo, LeavesFront, inbox_at}
 use Rattle.event_floor.specs.Floors.{FloorSeen, IsHeld, with_desk, with_inbox, last_number}
 use Rattle.event_floor.specs.Steps.{Refuses, DrawsChunk, SendsBatch, TakesFront, Routes, class_limit}
 use Rattle.event_floor.specs.Answers.{route_refusal}
@@ -53,22 +53,23 @@ gives_at : (digits : Scheme) (limit a : ℕ) (d : DeskState) (b : BatchState) (n
 gives_at digits limit a d b new n g =
     subst (λ (z : ℕ). Gives digits z d.cached b new) n.0 (subst (λ (z : Scheme). Gives z d.number d.cached b new) n.2 g)
 
-pub sends_batch : (v : FloorSeen) (a t number count : ℕ) (d d' : DeskState) (ps : List Posted) → Routes v a t d None → v.next ≤ last_number → number ≡ v.next
-    → IsNumbered v.digits v.limit a (Held d) → SendsInto d t number count (inbox_at v.inboxes t) d' ps
-    → SendsBatch v a t number count (record (with_inbox (with_desk v a d') t ps) { next = v.next + 1 })
-sends_batch v a t number count d d' ps routes unspent is n s = record {
-  before = d;
-  after = d';
-  batch = s.batch;
-  routes = routes;
-  unspent = unspent;
-  is_next = is;
-  address = s.address;
-  gives = gives_at v.digits v.limit a d s.batch d'.cached n s.gives;
-  same_desk = s.same_desk;
-  counted = s.counted;
-  same = rw s.posted refl;
-}
+pub sends_batch : (v w : FloorSeen) (a t count : ℕ) (d d' : DeskState) (inboxes : List (List Posted)) → v ≡ w → Routes v a t d None → v.next ≤ last_number
+    → IsNumbered v.digits v.limit a (Held d) → SendsTo d t v.next count v.inboxes d' inboxes
+    → SendsBatch w a t v.next count (record (with_desk v a d') { inboxes = inboxes; next = v.next + 1 })
+sends_batch v w a t count d d' inboxes same routes unspent n s =
+    subst (λ (z : FloorSeen). SendsBatch z a t v.next count (record (with_desk v a d') { inboxes = inboxes; next = v.next + 1 })) same (record {
+      before = d;
+      after = d';
+      batch = s.sends.batch;
+      routes = routes;
+      unspent = unspent;
+      is_next = refl;
+      address = s.sends.address;
+      gives = gives_at v.digits v.limit a d s.sends.batch d'.cached n s.sends.gives;
+      same_desk = s.sends.same_desk;
+      counted = s.sends.counted;
+      same = ap (λ (z : List (List Posted)). record (with_desk v a d') { inboxes = z; next = v.next + 1 }) (s.same ∙ ap (set v.inboxes t) s.sends.posted);
+    })
 
 -- why a desk has no batch is why the floor refuses to send
 refuses_for : (v : FloorSeen) (a t : ℕ) (d : DeskState) (fault : RouteError) → Routes v a t d (Some fault) → Refuses v (Send a t) (route_refusal fault)
@@ -76,9 +77,10 @@ refuses_for v a t d ToSelf r = (d, r)
 refuses_for v a t d NothingFor r = (d, r)
 refuses_for v a t d NotAnOwner r = (d, r)
 
-pub send_refused : (v : FloorSeen) (a t : ℕ) (d : DeskState) (fault : RouteError) (refusal : Refusal) → Routes v a t d (Some fault) → refusal ≡ route_refusal fault
-    → Refuses v (Send a t) refusal
-send_refused v a t d fault refusal r is = subst (λ (z : Refusal). Refuses v (Send a t) z) (sym is) (refuses_for v a t d fault r)
+pub send_refused : (v w : FloorSeen) (a t : ℕ) (d : DeskState) (fault : RouteError) (refusal : Refusal) → v ≡ w → Routes v a t d (Some fault)
+    → refusal ≡ route_refusal fault → Refuses w (Send a t) refusal
+send_refused v w a t d fault refusal same r is =
+    subst (λ (y : FloorSeen). Refuses y (Send a t) refusal) same (subst (λ (z : Refusal). Refuses v (Send a t) z) (sym is) (refuses_for v a t d fault r))
 
 pub takes_front : (v : FloorSeen) (b : ℕ) (d d' : DeskState) (batch : BatchState) (x rest : List Posted) (counts : Counts) → IsHeld v b d → inbox_at v.inboxes b ≡ x
     → LeavesFront batch x rest → Handles d batch.items d' → Counted d.number batch.items counts
