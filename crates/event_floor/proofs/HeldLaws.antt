@@ -5,8 +5,6 @@ use Rattle.std.specs.Prelude.{Option, Result, Ok, Err, OnErr, Bool, true, IsTrue
 use Rattle.slot_chain.specs.Buffer.{Buffer}
 use Rattle.digit_route.specs.Digits.{Scheme}
 use Rattle.pool_desk.specs.Desks.{IdleState, DeskState}
-use Rattle.event_floor.specs.declared.refusal.Refusal.{Refusal}
-use Rattle.event_floor.specs.declared.reply.Reply.{Reply}
 use Rattle.event_floor.specs.declared.seat.Seat.{Seat}
 use Rattle.event_floor.specs.declared.seat.Seat.TheVariants.{Idle, Held}
 use Rattle.event_floor.specs.Posted.{Posted}
@@ -38,10 +36,6 @@ floor_kept {digits} {limit} {chunks} {desks} {lent} {inboxes} {next} a x y f rea
 pub view_kept : (v w : FloorSeen) (a : ℕ) (x y : Seat) → v ≡ w → x ≡ get_or v.desks a x → x ≡ y → with_seat v a y ≡ w
 view_kept v w a x y same read is = ap (λ (z : List Seat). record v { desks = z }) (put_back v.desks a x y read is) ∙ same
 
-pub view_kept_on_err : (r : Result Reply Refusal) (v w : FloorSeen) (a : ℕ) (x y : Seat) → v ≡ w → x ≡ get_or v.desks a x → x ≡ y → OnErr r (with_seat v a y ≡ w)
-view_kept_on_err (Ok reply) v w a x y same read is = tt
-view_kept_on_err (Err refusal) v w a x y same read is = view_kept v w a x y same read is
-
 -- the desks stay as many
 pub count_kept : (v w : FloorSeen) (a : ℕ) (y : Seat) → v ≡ w → desk_count (with_seat v a y) ≡ desk_count w
 count_kept v w a y same = length-set v.desks a y ∙ ap (λ (z : FloorSeen). desk_count z) same
@@ -49,3 +43,8 @@ count_kept v w a y same = length-set v.desks a y ∙ ap (λ (z : FloorSeen). des
 -- a test that failed
 pub not_so : {P : Type 0} (test : Bool) → (P → IsTrue test) → test ≡ false → P → ⊥
 not_so test means failed p = let t : test ≡ true = means p in cc
+
+-- what holds, holds of a refusal
+pub on_err : {T E : Type 0} {P : Type 0} (r : Result T E) → P → OnErr r P
+on_err (Ok x) p = tt
+on_err (Err e) p = p

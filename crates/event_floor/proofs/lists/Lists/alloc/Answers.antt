@@ -5,7 +5,7 @@ use Rattle.event_floor.specs.declared.seat.Seat.TheVariants.{Held}
 use Rattle.event_floor.specs.Floors.{AreOwned, no_desk}
 use Rattle.event_floor.proofs.SeatLaws.{alloc_seated, alloc_placed}
 use Rattle.event_floor.proofs.FloorLaws.{floor_settled, floor_seat, floor_lent, owned_set, place_within, desk_read, seated_at}
-use Rattle.event_floor.proofs.HeldLaws.{within, too_few, is_idle, floor_kept, view_kept, view_kept_on_err, count_kept}
+use Rattle.event_floor.proofs.HeldLaws.{within, too_few, is_idle, floor_kept, view_kept, on_err, count_kept}
 use Rattle.event_floor.proofs.StepLaws.{alloc_refused, lends_slot}
 use Rattle.event_floor.proofs.lists.Lists.alloc.Goals as goal
 
@@ -78,7 +78,7 @@ returns-in_err-buf-clause-refuses c =
 pub returns-in_err-buf-clause-unchanged : goal.returns-in_err-buf-clause-unchanged
 returns-in_err-buf-clause-unchanged c =
     let same : c.index_mut.result.now ≡ Held c.alloc.new.self = c.in-Held.is ∙ ap (λ (d : DeskState). Held d) (sym c.in_err-buf.ensures.1) in
-    view_kept_on_err c.from_residual.result _ _ c.args.a _ _ c.self.view_is c.index_mut.ensures.value same
+    on_err c.from_residual.result (view_kept _ _ c.args.a _ _ c.self.view_is c.index_mut.ensures.value same)
 
 pub returns-in_err-buf-clause-desks : goal.returns-in_err-buf-clause-desks
 returns-in_err-buf-clause-desks c =
