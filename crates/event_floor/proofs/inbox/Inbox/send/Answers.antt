@@ -12,16 +12,14 @@ returns-in_err-try_reserve-clause-refused c = on_err c.from_residual.result (c.i
 
 pub invariant_of-self-in-Ok : goal.invariant_of-self-in-Ok
 invariant_of-self-in-Ok c =
-    let ps = c.self.inside.batches.items in
     let p = sent_as c.args.number c.in-Ok.batch in
-    let posted : c.push_back_reserved.new.self.items ≡ ps ++ p ∷ [] =
-    c.push_back_reserved.ensures.items ∙ (ap (λ z. z ++ c.new.result ∷ []) c.in_ok-try_reserve.ensures.items ∙ ap (λ (z : Posted). ps ++ z ∷ []) c.new.ensures) in
+    let posted : c.push_back_reserved.new.self.items ≡ c.self.inside.batches.items ++ p ∷ [] =
+    c.push_back_reserved.ensures.items ∙ (ap (λ z. z ++ c.new.result ∷ []) c.in_ok-try_reserve.ensures.items ∙ ap (λ (z : Posted). c.self.inside.batches.items ++ z ∷ []) c.new.ensures) in
     subst (λ z. NumbersRise z) (sym posted)
-    (rises_sent ps p c.self.invariant (subst (λ z. All (λ (q : Posted). q.number < c.args.number) z) (sym c.self.view_is) c.requires.later))
+    (rises_sent c.self.inside.batches.items p c.self.invariant (subst (λ z. All (λ (q : Posted). q.number < c.args.number) z) (sym c.self.view_is) c.requires.later))
 
 pub returns-clause-sends : goal.returns-clause-sends
 returns-clause-sends c =
-    let now = c.args.self.now in
     let batch = c.in-Ok.ensures in
     record {
       batch = c.in-Ok.batch;
@@ -30,5 +28,5 @@ returns-clause-sends c =
       same_desk = batch.same;
       counted = c.len-count.ensures;
       posted = c.push_back_reserved.ensures.items
-          ∙ (ap (λ z. z ++ c.new.result ∷ []) (c.in_ok-try_reserve.ensures.items ∙ c.self.view_is) ∙ ap (λ (z : Posted). now ++ z ∷ []) c.new.ensures);
+          ∙ (ap (λ z. z ++ c.new.result ∷ []) (c.in_ok-try_reserve.ensures.items ∙ c.self.view_is) ∙ ap (λ (z : Posted). c.args.self.now ++ z ∷ []) c.new.ensures);
     }
