@@ -112,7 +112,6 @@ owned_set n place lent o own l here i =
     ⊎_elim (λ (same : _ × (i ≡ place)). rw same.1 (rw (get_or-set_same lent place o None l) here))
     (λ (other : _ × (i ≢ place)). rw (get_or-set_other lent place i o None other.1) (own i)) (eqb_tells i place)
 
-
 none_at : (P : Buffer → Type 0) (count i : ℕ) → IfSome (get_or (replicate count None) i None) P
 none_at P zero i = tt
 none_at P (suc count) zero = tt
