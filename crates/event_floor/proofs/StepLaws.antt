@@ -35,7 +35,8 @@ use Rattle.event_floor.specs.declared.refusal.Refusal.{Refusal}
 
 pub draws_chunk : (v w : FloorSeen) (a class k n : ℕ) (d d' : DeskState) (p : Part) (old new : ChunksSeen)
     → v ≡ w → IsHeld v a d → n ≡ class → class < class_limit v → v.chunks ≡ length old.parts → v.parts ≡ old.parts → v.drawn ≡ old.drawn
-    → p.chunk ≡ length old.drawn → slice_get old.parts p.chunk ≡ Some (name_of p) → length old.drawn < length old.parts → v.undrawn ≡ old.undrawn → old.undrawn ≡ bytes_of p ∷ new.undrawn → new ≡ record old { drawn = old.drawn ++ record { owner = a; class = n } ∷ []; undrawn = new.undrawn }
+    → p.chunk ≡ length old.drawn → slice_get old.parts p.chunk ≡ Some (name_of p) → length old.drawn < length old.parts → v.undrawn ≡ old.undrawn
+    → old.undrawn ≡ bytes_of p ∷ new.undrawn → new ≡ record old { drawn = old.drawn ++ record { owner = a; class = n } ∷ []; undrawn = new.undrawn }
     → Claims d p n d' → k ≡ p.chunk → DrawsChunk w a class k (record (with_desk v a d') { chunks = length new.parts; parts = new.parts; drawn = new.drawn; undrawn = new.undrawn })
 draws_chunk v w a class k n d d' p old new same held same_class few chunks parts drawn next name left undrawn first is claims k_is =
     subst (λ (z : FloorSeen). DrawsChunk z a class k (record (with_desk v a d') { chunks = length new.parts; parts = new.parts; drawn = new.drawn; undrawn = new.undrawn })) same (record {
@@ -92,7 +93,8 @@ pub takes_back : (v w : FloorSeen) (a chunk index : ℕ) (d d' : DeskState) (b :
     → Does w (Free a (chunk, index)) reply (record (with_desk v a d') { lent = lent })
 takes_back v w a chunk index d d' b f reply lent same held was slot took frees is =
     let new = record (with_desk v a d') { lent = lent } in
-    subst (λ (z : FloorSeen). Does z (Free a (chunk, index)) reply new) same (subst (λ (z : Reply). Does v (Free a (chunk, index)) z new) (sym is) (freed_reply v new a chunk index f (record {
+    subst (λ (z : FloorSeen). Does z (Free a (chunk, index)) reply new) same (subst (λ (z : Reply). Does v (Free a (chunk, index)) z new) (sym is)
+    (freed_reply v new a chunk index f (record {
       before = d;
       after = d';
       buffer = b;

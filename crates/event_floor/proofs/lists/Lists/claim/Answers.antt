@@ -31,7 +31,8 @@ returns-clause-does c =
     let seat = seated_at c.args.a c.in-Held.desk f there held in
     let few = c.in-Some.ensures in
     let drew = c.in-Some-draw.ensures in
-    draws_chunk _ _ _ _ _ _ _ _ _ c.self.inside.chunks c.draw.new.self c.self.view_is (there, held) few.0 few.1 refl refl refl drew.0 drew.1 drew.2 refl drew.3 drew.4 c.in-Ok.ensures c.chunk-chunk.ensures
+    draws_chunk _ _ _ _ _ _ _ _ _ c.self.inside.chunks c.draw.new.self c.self.view_is (there, held) few.0 few.1
+    refl refl refl drew.0 drew.1 drew.2 refl drew.3 drew.4 c.in-Ok.ensures c.chunk-chunk.ensures
 
 pub claim-requires : goal.claim-requires
 claim-requires c =

@@ -20,8 +20,10 @@ invariant_of-self c = floor_kept c.args.a _ _ c.self.invariant c.index_mut.ensur
 pub returns-in_default-clause-refuses : goal.returns-in_default-clause-refuses
 returns-in_default-clause-refuses c =
     let there = within _ _ _ _ c.if-a-len.false c.len.ensures c.self.inside.desks.ok.0 in
-    let there_too = within _ _ _ _ c.if-t-len.false c.len-else-a-len.ensures c.self.inside.desks.ok.0 in
-    ((c.in_default.field-0, is_idle _ _ c.args.a _ _ c.self.view_is there c.index_mut.ensures.value c.in_default.is), subst (λ (v : FloorSeen). c.args.t < desk_count v) c.self.view_is there_too)
+    let there_too = within _ _ _ _ c.if-t-len.false c.len-else-a-len.ensures c.self.inside.desks.ok.0 in (
+      (c.in_default.field-0, is_idle _ _ c.args.a _ _ c.self.view_is there c.index_mut.ensures.value c.in_default.is),
+      subst (λ (v : FloorSeen). c.args.t < desk_count v) c.self.view_is there_too,
+    )
 
 pub returns-in_default-clause-unchanged : goal.returns-in_default-clause-unchanged
 returns-in_default-clause-unchanged c =
@@ -41,7 +43,8 @@ returns-in-Some-clause-refuses c =
     let there_too = within _ _ _ _ c.if-t-len.false c.len-else-a-len.ensures c.self.inside.desks.ok.0 in
     let held : get_or c.self.inside.desks.items c.args.a no_desk ≡ Held c.in-Held.desk = desk_read _ _ _ _ there c.index_mut.ensures.value c.in-Held.is in
     let seat = seated_at c.args.a c.in-Held.desk c.self.invariant there held in
-    send_refused _ _ c.args.a c.args.t c.in-Held.desk c.in-Some.fault _ c.self.view_is ((there, held), there_too, fault_at _ _ _ c.in-Held.desk c.args.t (Some c.in-Some.fault) seat.numbered c.in-Some.ensures) c.from.ensures
+    send_refused _ _ c.args.a c.args.t c.in-Held.desk c.in-Some.fault _ c.self.view_is
+    ((there, held), there_too, fault_at _ _ _ c.in-Held.desk c.args.t (Some c.in-Some.fault) seat.numbered c.in-Some.ensures) c.from.ensures
 
 pub returns-in-Some-clause-unchanged : goal.returns-in-Some-clause-unchanged
 returns-in-Some-clause-unchanged c =
