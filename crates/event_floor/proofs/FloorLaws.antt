@@ -1,5 +1,5 @@
 -- A floor with another desk, another table, or another inbox, is a floor.
-use Rattle.std.proofs.Common.{◌≡◌, ◌≢◌, ℕ, zero, suc, ◌+◌, ◌*◌, ◌^◌, ◌<◌, ◌≤◌, Bool, List, [], ◌∷◌, ◌++◌, length, get_or, set, refl, sym, ◌∙◌, subst, arith, All, ⊎_elim, eqb, true, false}
+use Rattle.std.proofs.Common.{◌≡◌, ◌≢◌, ℕ, zero, suc, ◌+◌, ◌*◌, ◌^◌, ◌<◌, ◌≤◌, Bool, List, [], ◌∷◌, ◌++◌, length, get_or, set, refl, sym, ◌∙◌, subst, add-one, arith, All, ⊎_elim, eqb, true, false}
 use Rattle.std.specs.Prelude.{Option, Some, None, IfSome, replicate, if◌then◌else◌, nat_lt}
 use Rattle.std.proofs.lemmas.Bool.Decides.{eqb_tells}
 use Rattle.std.proofs.lemmas.List.{get_or-set_same, get_or-set_other, length-set, length-append, length-replicate, get_or_append_left, get_or_read, get_or-replicate}
@@ -15,7 +15,7 @@ use Rattle.pool_desk.specs.Desks.{DeskState, profile_at}
 use Rattle.event_floor.specs.declared.seat.Seat.{Seat}
 use Rattle.event_floor.specs.declared.seat.Seat.TheVariants.{Idle, Held}
 use Rattle.event_floor.specs.Seats.{new_desk, idle_seats, HasPlace}
-use Rattle.event_floor.specs.Lent.{lent_at}
+use Rattle.event_floor.specs.Lent.{AreInPlace, lent_at, place_of}
 use Rattle.event_floor.specs.Posted.{Posted, inbox_at}
 use Rattle.event_floor.specs.Floors.{AreOwned, IsKnown, IsSeated, IsPostedTo, IsFloorOf, IsFloor, no_desk, last_number}
 
@@ -112,10 +112,16 @@ owned_set n place lent o own l here i =
     ⊎_elim (λ (same : _ × (i ≡ place)). rw same.1 (rw (get_or-set_same lent place o None l) here))
     (λ (other : _ × (i ≢ place)). rw (get_or-set_other lent place i o None other.1) (own i)) (eqb_tells i place)
 
+none_at : (P : Buffer → Type 0) (count i : ℕ) → IfSome (get_or (replicate count None) i None) P
+none_at P zero i = tt
+none_at P (suc count) zero = tt
+none_at P (suc count) (suc i) = none_at P count i
+
 nothing_owned : (n count : ℕ) → AreOwned n (replicate count None)
-nothing_owned n zero i = tt
-nothing_owned n (suc count) zero = tt
-nothing_owned n (suc count) (suc i) = nothing_owned n count i
+nothing_owned n count i = none_at (λ (b : Buffer). b.owner < n) count i
+
+pub nothing_placed : (count : ℕ) → AreInPlace (replicate count None)
+nothing_placed count i = none_at (λ (b : Buffer). (place_of b.slot ≡ i) × (b.slot.index < 256)) count i
 
 owner_of : (n : ℕ) (test : Bool) (o : Option Buffer) (b : Buffer) → IfSome o (λ (b : Buffer). b.owner < n) → (if test then o else None) ≡ Some b → b.owner < n
 owner_of n true o b own is = subst (λ (z : Option Buffer). IfSome z (λ (b : Buffer). b.owner < n)) is own
@@ -179,6 +185,10 @@ pub idle_seats_length : (digits : Scheme) (limit n : ℕ) → length (idle_seats
 unfolding idle_seats
 idle_seats_length digits limit zero = refl
 idle_seats_length digits limit (suc n) = let h = idle_seats_length digits limit n in length-append (idle_seats digits limit n) _ ∙ omega (arith, h)
+
+pub idle_seats_more : (digits : Scheme) (limit n : ℕ) → idle_seats digits limit n ++ Idle (new_desk digits limit n) ∷ [] ≡ idle_seats digits limit (n + 1)
+unfolding idle_seats
+idle_seats_more digits limit n = rw add-one refl
 
 idle_seats_at : (digits : Scheme) (limit n a : ℕ) → a < n → get_or (idle_seats digits limit n) a no_desk ≡ Idle (new_desk digits limit a)
 unfolding idle_seats

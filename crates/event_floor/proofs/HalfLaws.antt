@@ -1,18 +1,18 @@
 -- The index of the batches that still have to be linked, after one comes and after one goes.
-use Rattle.std.proofs.Common.{◌≡◌, ◌≢◌, ℕ, not, ◌+◌, ◌-◌, ◌<◌, ◌≤◌, Bool, true, false, cond, List, [], ◌∷◌, length, get_or, set, refl, sym, ◌∙◌, subst, ap, arith, ⊎_elim, eqb, IsPermutation}
+use Rattle.std.proofs.Common.{◌≡◌, ◌≢◌, ℕ, not, ◌+◌, ◌-◌, ◌<◌, ◌≤◌, Bool, true, false, cond, List, [], ◌∷◌, length, get_or, set, replicate, refl, sym, ◌∙◌, subst, ap, arith, ⊎_elim, eqb, IsPermutation}
 use Rattle.std.specs.Prelude.{Option, Some, None, IfSome, MatchBool, nat_eq}
 use Rattle.std.specs.List.{IsDistinct}
 use Rattle.std.specs.Map.{lookup, keys_of, values_of, remove_entry}
 use Rattle.std.specs.Option.{option_map, unwrap_or}
 use Rattle.std.proofs.lemmas.Bool.Decides.{eqb_tells}
 use Rattle.std.proofs.lemmas.Cmp.{nat_eq_equiv}
-use Rattle.std.proofs.lemmas.List.{get_or-set_same, get_or-set_other, get_or_read, length-set}
+use Rattle.std.proofs.lemmas.List.{get_or-set_same, get_or-set_other, get_or_read, get_or-replicate, length-set, length-replicate}
 use Rattle.std.proofs.lemmas.List.Sums.{sum_by-cons, count_by-le-length}
 use Rattle.std.proofs.lemmas.Map.{lookup-none}
 use Rattle.std.proofs.lemmas.Map.Entries.{length-values_of, lookup_head, lookup_tail, none_past_head, sum_by_values_permutation, sum_by-remove_entry}
 use Rattle.std.proofs.lemmas.Map.Keys.{IsDistinct-tail}
 use Rattle.event_floor.specs.declared.halves.Half.{Half}
-use Rattle.event_floor.specs.Halves.{AreCounted, sent_by}
+use Rattle.event_floor.specs.Halves.{HalvesSeen, AreCounted, sent_by}
 
 -- a batch counts once for its sender, and not for the others
 abbrev weight : ℕ → Half → ℕ
@@ -132,3 +132,18 @@ tells_sent sender x es distinct is =
     let Told = λ (b : Bool). MatchBool (not b) (SentOne sender es) ((n : ℕ) (h : Half) → lookup (nat_eq n) es ≡ Some h → h.sender ≢ sender) in
     ⊎_elim (λ (none : (eqb x 0 ≡ true) × (x ≡ 0)). subst Told (sym none.0) (sent_none sender es (sym is ∙ none.1)))
     (λ (some : (eqb x 0 ≡ false) × (x ≢ 0)). let ne = some.1 in subst Told (sym some.0) (sent_some sender es distinct (omega (arith, is, ne)))) (eqb_tells x 0)
+
+-- with no batch, the count of each desk is 0
+pub none_counted : (n : ℕ) (es : List (ℕ × Half)) (counts : List ℕ) → es ≡ [] → counts ≡ replicate n 0 → AreCounted counts es
+unfolding IsDistinct
+none_counted n es counts none zeros = rw (none, zeros) (record {
+  distinct = tt;
+  senders = λ number. tt;
+  counted = λ sender l. get_or-replicate n sender 0 0 (subst (λ z. sender < z) (length-replicate n 0) l);
+})
+
+pub none_seen : (n desks : ℕ) (es : List (ℕ × Half)) (counts : List ℕ) → es ≡ [] → counts ≡ replicate n 0 → n ≡ desks
+    → let v : HalvesSeen = record { desks = length counts; entries = es } in v ≡ record { desks = desks; entries = [] }
+none_seen n desks es counts none zeros all =
+    ap (λ (z : List (ℕ × Half)). let v : HalvesSeen = record { desks = length counts; entries = z } in v) none
+    ∙ ap (λ (z : ℕ). let v : HalvesSeen = record { desks = z; entries = [] } in v) (ap length zeros ∙ (length-replicate n 0 ∙ all))

@@ -1,10 +1,10 @@
 -- The inboxes and the index of those of their batches that still have to be linked, after one is sent, linked or taken.
-use Rattle.std.proofs.Common.{◌≡◌, ◌≢◌, ℕ, zero, suc, ◌<◌, ◌≤◌, Bool, true, false, cond, List, [], ◌∷◌, ◌++◌, length, get_or, set, refl, sym, ◌∙◌, subst, ap, arith, All, ◌⊎◌, inl, inr, ⊎_elim, eqb}
+use Rattle.std.proofs.Common.{◌≡◌, ◌≢◌, ℕ, zero, suc, ◌<◌, ◌≤◌, Bool, true, false, cond, List, [], ◌∷◌, ◌++◌, length, get_or, set, replicate, refl, sym, ◌∙◌, subst, ap, arith, All, ◌⊎◌, inl, inr, ⊎_elim, eqb}
 use Rattle.std.specs.Prelude.{Option, Some, None, MatchOption, MatchBool, nat_eq}
 use Rattle.std.specs.Option.{unwrap_or}
 use Rattle.std.proofs.lemmas.Bool.{cases_lt}
 use Rattle.std.proofs.lemmas.Bool.Decides.{eqb_tells}
-use Rattle.std.proofs.lemmas.List.{get_or_default, get_or-set_same, get_or-set_other, set-get_or, get_or_append_left, length-set, length-append}
+use Rattle.std.proofs.lemmas.List.{get_or_default, get_or-set_same, get_or-set_other, set-get_or, get_or_append_left, get_or-replicate, length-set, length-append, length-replicate}
 use Rattle.std.proofs.Math.Seq.{get_or-append_seam}
 use Rattle.digit_route.specs.States.{BatchState}
 use Rattle.event_floor.specs.declared.halves.Half.{Half}
@@ -251,3 +251,15 @@ tells_half old v sender true index (n, h, found, is) =
     (h.inbox, l, (k, batch_at (inbox_at old h.inbox) k, m, get_or_default (inbox_at old h.inbox) k (batch_at (inbox_at old h.inbox) k) no_batch m, (sent ∙ is, half.1)))
 tells_half old v sender false index none = λ b l k d m half.
     none (get_or (inbox_at old b) k d).number (Entry (get_or (inbox_at old b) k d).sender b) (half_known old v b k _ d index l m (refl, half.1)) half.0
+
+-- so many inboxes with no batch, and nothing in the index
+pub index_new : (count : ℕ) → IsIndexOf (replicate count []) (record { desks = count; entries = [] })
+index_new count = record {
+  desks = sym (length-replicate {A = List Posted} count []);
+  waits = λ number h found. absurd (cc);
+  known = λ number sender inbox (m, (k, l, half, is)).
+      let n : inbox < count = subst (λ z. inbox < z) (length-replicate {A = List Posted} count []) m in
+      let none : inbox_at (replicate count []) inbox ≡ [] = get_or-replicate {A = List Posted} count inbox [] [] n in
+      let e : k < 0 = subst (λ (z : List Posted). k < length z) none l in
+      absurd (omega (arith, e));
+}

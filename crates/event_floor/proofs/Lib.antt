@@ -2,6 +2,7 @@ pub mod ChunkLaws
 pub mod EndLaws
 pub mod FloorLaws
 pub mod HalfLaws
+pub mod HeldLaws
 pub mod IndexLaws
 pub mod ListLaws
 pub mod PostLaws

@@ -1,8 +1,9 @@
 -- Inboxes along which the numbers rise.
-use Rattle.std.proofs.Common.{◌≡◌, ◌≢◌, ℕ, ◌<◌, ◌≤◌, List, length, get_or, sym, ◌∙◌, subst, arith, All, ⊎_elim}
+use Rattle.std.proofs.Common.{◌≡◌, ◌≢◌, ℕ, ◌<◌, ◌≤◌, List, [], ◌∷◌, ◌++◌, length, get_or, sym, ◌∙◌, subst, arith, All, ⊎_elim}
 use Rattle.std.proofs.lemmas.Bool.{cases_lt}
 use Rattle.std.proofs.lemmas.Bool.Decides.{eqb_tells}
-use Rattle.std.proofs.lemmas.List.{get_or_read}
+use Rattle.std.proofs.lemmas.List.{get_or_read, get_or_append_left, length-append}
+use Rattle.std.proofs.Math.Seq.{get_or-append_seam}
 use Rattle.std.specs.Prelude.{Bool, true, false, IsTrue, ◌↔◌}
 use Rattle.std.specs.List.Sorted.{IsNonDecreasingBy}
 use Rattle.event_floor.specs.Posted.{Posted, NumbersRise, IsHalf}
@@ -32,3 +33,12 @@ not_half ps number i x answer asked denied read d l half =
     let says : answer ≡ true = asked.1 (subst (λ z. IsHalf number z) (sym (get_or_read ps i x l read d)) half) in
     let both : false ≡ true = sym denied ∙ says in
     absurd (cc)
+
+-- a batch with a greater number than all others goes behind them
+pub rises_sent : (ps : List Posted) (p : Posted) → NumbersRise ps → All (λ (q : Posted). q.number < p.number) ps → NumbersRise (ps ++ p ∷ [])
+rises_sent ps p h below i j d l m =
+    let long = length-append ps (p ∷ []) in
+    ⊎_elim (λ (k : j < length ps).
+    rw (get_or_append_left ps (p ∷ []) d i (omega (arith, l, k)), get_or_append_left ps (p ∷ []) d j k) (h i j d l k))
+    (λ (k : length ps ≤ j). let is : j ≡ length ps = omega (arith, m, k, long) in let n : i < length ps = omega (arith, l, is) in
+    rw is (rw (get_or-append_seam ps p [] d, get_or_append_left ps (p ∷ []) d i n) (below i d n))) (cases_lt j (length ps))

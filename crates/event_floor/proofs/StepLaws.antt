@@ -1,46 +1,109 @@
 -- What the calls of the parts of a floor come to, in the words of its steps.
-use Rattle.std.proofs.Common.{◌≡◌, ℕ, ◌+◌, ◌<◌, ◌≤◌, List, [], ◌∷◌, ◌++◌, length, refl, sym, ◌∙◌, subst}
-use Rattle.std.specs.Prelude.{Option, Some, None}
+use Rattle.std.proofs.Common.{◌≡◌, ℕ, ◌+◌, ◌<◌, ◌≤◌, List, [], ◌∷◌, ◌++◌, length, set, refl, sym, ap, ◌∙◌, subst}
+use Rattle.std.specs.Prelude.{Option, Some, None, Result, Ok, Err, IfErr}
+use Rattle.std.specs.Result.{IsErrAnd}
 use Rattle.std.specs.List.{slice_get}
 use Rattle.region_cut.specs.Parts.{name_of, bytes_of}
+use Rattle.region_cut.specs.Classes.{largest_of}
 use Rattle.region_cut.specs.declared.part.Part.{Part}
+use Rattle.region_cut.specs.declared.slot.Slot.{Slot}
 use Rattle.slot_chain.specs.Buffer.{Buffer}
 use Rattle.digit_route.specs.declared.error.RouteError.{RouteError}
 use Rattle.digit_route.specs.declared.error.RouteError.TheVariants.{ToSelf, NothingFor, NotAnOwner}
 use Rattle.digit_route.specs.Digits.{Scheme}
+use Rattle.digit_route.specs.Profiles.{profile_of}
 use Rattle.digit_route.specs.Route.{RouteFault}
 use Rattle.digit_route.specs.States.{BatchState, Gives}
 use Rattle.pool_desk.specs.Desks.{DeskState}
-use Rattle.pool_desk.specs.Steps.{Claims, Handles, Counted}
+use Rattle.pool_desk.specs.Steps.{Claims, Allocs, AllocFault, Frees, Handles, Counted}
+use Rattle.pool_desk.specs.declared.error.DeskError.{DeskError}
+use Rattle.pool_desk.specs.declared.error.DeskError.TheVariants.{TooLarge, NeedChunk, NotNeeded, Unsettled, NoMemory}
+use Rattle.pool_desk.specs.declared.freed.Freed.{Freed}
+use Rattle.pool_desk.specs.declared.freed.Freed.TheVariants.{Home, Cached, Due}
 use Rattle.pool_desk.specs.declared.counts.Counts.{Counts}
 use Rattle.event_floor.specs.declared.seat.Seat.TheVariants.{Held}
 use Rattle.event_floor.specs.Chunks.{ChunksSeen}
 use Rattle.event_floor.specs.Seats.{IsNumbered}
-use Rattle.event_floor.specs.Posted.{Posted, SendsInto, LeavesFront, inbox_at}
-use Rattle.event_floor.specs.Floors.{FloorSeen, IsHeld, with_desk, with_inbox, last_number}
-use Rattle.event_floor.specs.Steps.{Refuses, DrawsChunk, SendsBatch, TakesFront, Routes, class_limit}
-use Rattle.event_floor.specs.Answers.{route_refusal}
-use Rattle.event_floor.specs.declared.request.Request.TheVariants.{Send}
+use Rattle.event_floor.specs.Posted.{Posted, SendsTo, TakesFrom}
+use Rattle.event_floor.specs.Floors.{FloorSeen, IsHeld, with_desk, last_number}
+use Rattle.event_floor.specs.Steps.{Refuses, Does, DrawsChunk, LendsSlot, TakesBack, SendsBatch, TakesFront, Routes, class_limit}
+use Rattle.event_floor.specs.Answers.{reply_of, refusal_of, route_refusal}
+use Rattle.event_floor.specs.Lent.{lent_at, place_of}
+use Rattle.event_floor.specs.declared.request.Request.TheVariants.{Alloc, Free, Send}
+use Rattle.event_floor.specs.declared.reply.Reply.{Reply}
 use Rattle.event_floor.specs.declared.refusal.Refusal.{Refusal}
 
-pub draws_chunk : (v : FloorSeen) (a class k n : ℕ) (d d' : DeskState) (p : Part) (old new : ChunksSeen)
-    → IsHeld v a d → n ≡ class → class < class_limit v → v.chunks ≡ length old.parts → v.parts ≡ old.parts → v.drawn ≡ old.drawn
-    → p.chunk ≡ length old.drawn → slice_get old.parts p.chunk ≡ Some (name_of p) → length old.drawn < length old.parts → v.undrawn ≡ old.undrawn → old.undrawn ≡ bytes_of p ∷ new.undrawn → new ≡ record old { drawn = old.drawn ++ record { owner = a; class = n } ∷ []; undrawn = new.undrawn }
-    → Claims d p n d' → k ≡ p.chunk → DrawsChunk v a class k (record (with_desk v a d') { chunks = length new.parts; parts = new.parts; drawn = new.drawn; undrawn = new.undrawn })
-draws_chunk v a class k n d d' p old new held same_class few chunks parts drawn next name left undrawn first is claims k_is = record {
-  before = d;
-  after = d';
-  part = p;
-  held = held;
-  is_class = few;
-  is_next = rw drawn (k_is ∙ next);
-  undrawn = rw (chunks, k_is, next) left;
-  is_part = sym k_is;
-  has_name = rw (k_is, parts) name;
-  first = undrawn ∙ first;
-  claims = rw same_class at claims;
-  same = rw (is, same_class, drawn, parts, chunks) refl;
-}
+pub draws_chunk : (v w : FloorSeen) (a class k n : ℕ) (d d' : DeskState) (p : Part) (old new : ChunksSeen)
+    → v ≡ w → IsHeld v a d → n ≡ class → class < class_limit v → v.chunks ≡ length old.parts → v.parts ≡ old.parts → v.drawn ≡ old.drawn
+    → p.chunk ≡ length old.drawn → slice_get old.parts p.chunk ≡ Some (name_of p) → length old.drawn < length old.parts → v.undrawn ≡ old.undrawn
+    → old.undrawn ≡ bytes_of p ∷ new.undrawn → new ≡ record old { drawn = old.drawn ++ record { owner = a; class = n } ∷ []; undrawn = new.undrawn }
+    → Claims d p n d' → k ≡ p.chunk → DrawsChunk w a class k (record (with_desk v a d') { chunks = length new.parts; parts = new.parts; drawn = new.drawn; undrawn = new.undrawn })
+draws_chunk v w a class k n d d' p old new same held same_class few chunks parts drawn next name left undrawn first is claims k_is =
+    subst (λ (z : FloorSeen). DrawsChunk z a class k (record (with_desk v a d') { chunks = length new.parts; parts = new.parts; drawn = new.drawn; undrawn = new.undrawn })) same (record {
+      before = d;
+      after = d';
+      part = p;
+      held = held;
+      is_class = few;
+      is_next = rw drawn (k_is ∙ next);
+      undrawn = rw (chunks, k_is, next) left;
+      is_part = sym k_is;
+      has_name = rw (k_is, parts) name;
+      first = undrawn ∙ first;
+      claims = rw same_class at claims;
+      same = rw (is, same_class, drawn, parts, chunks) refl;
+    })
+
+-- why a desk lends nothing is why the floor refuses to lend
+alloc_fault : (v : FloorSeen) (a size : ℕ) (d : DeskState) (e : DeskError) → IsHeld v a d → IsNumbered v.digits v.limit a (Held d) → AllocFault d size e
+    → Refuses v (Alloc a size) (refusal_of e)
+alloc_fault v a size d TooLarge held n f = ((d, held), subst (λ (z : Scheme). largest_of (profile_of z.bits) < size) n.2 f.0)
+alloc_fault v a size d (NeedChunk class) held n f = (d, class, held, f)
+alloc_fault v a size d NotNeeded held n f = absurd f
+alloc_fault v a size d Unsettled held n f = absurd f
+alloc_fault v a size d NoMemory held n f = (d, held, f)
+
+pub alloc_refused : (v w : FloorSeen) (a size : ℕ) (d : DeskState) (e : DeskError) (r : Result Reply Refusal) → v ≡ w → IsHeld v a d → IsNumbered v.digits v.limit a (Held d)
+    → AllocFault d size e → IsErrAnd r (λ refusal. refusal ≡ refusal_of e) → IfErr r (λ refusal. Refuses w (Alloc a size) refusal)
+alloc_refused v w a size d e (Ok reply) same held n f is = tt
+alloc_refused v w a size d e (Err refusal) same held n f is =
+    subst (λ (z : FloorSeen). Refuses z (Alloc a size) refusal) same (subst (λ z. Refuses v (Alloc a size) z) (sym is) (alloc_fault v a size d e held n f))
+
+pub lends_slot : (v w : FloorSeen) (a size : ℕ) (slot : Slot) (d d' : DeskState) (b : Buffer) (lent : List (Option Buffer)) → v ≡ w → IsHeld v a d → Allocs d size (Ok b) d'
+    → slot ≡ b.slot → lent ≡ set v.lent (place_of b.slot) (Some b) → LendsSlot w a size slot (record (with_desk v a d') { lent = lent })
+lends_slot v w a size slot d d' b lent same held allocs is put =
+    subst (λ (z : FloorSeen). LendsSlot z a size slot (record (with_desk v a d') { lent = lent })) same (record {
+      before = d;
+      after = d';
+      buffer = b;
+      held = held;
+      allocs = allocs;
+      is_slot = sym is;
+      same = ap (λ (z : List (Option Buffer)). record (with_desk v a d') { lent = z }) (put ∙ ap (λ (z : Slot). set v.lent (place_of z) (Some b)) (sym is));
+    })
+
+-- what becomes of a freed buffer is what the floor replies
+freed_reply : (v new : FloorSeen) (a chunk index : ℕ) (f : Freed) → TakesBack v a chunk index f new → Does v (Free a (chunk, index)) (reply_of f) new
+freed_reply v new a chunk index Home t = t
+freed_reply v new a chunk index Cached t = t
+freed_reply v new a chunk index Due t = t
+
+pub takes_back : (v w : FloorSeen) (a chunk index : ℕ) (d d' : DeskState) (b : Buffer) (f : Freed) (reply : Reply) (lent : List (Option Buffer)) → v ≡ w → IsHeld v a d
+    → lent_at v.lent chunk index ≡ Some b → b.slot ≡ record { chunk = chunk; index = index } → lent ≡ set v.lent (place_of b.slot) None → Frees d b f d' → reply ≡ reply_of f
+    → Does w (Free a (chunk, index)) reply (record (with_desk v a d') { lent = lent })
+takes_back v w a chunk index d d' b f reply lent same held was slot took frees is =
+    let new = record (with_desk v a d') { lent = lent } in
+    subst (λ (z : FloorSeen). Does z (Free a (chunk, index)) reply new) same (subst (λ (z : Reply). Does v (Free a (chunk, index)) z new) (sym is)
+    (freed_reply v new a chunk index f (record {
+      before = d;
+      after = d';
+      buffer = b;
+      held = held;
+      was_lent = was;
+      is_slot = slot;
+      frees = frees;
+      same = ap (λ (z : List (Option Buffer)). record (with_desk v a d') { lent = z }) took;
+    })))
 
 -- a desk in its seat reads numbers as the floor does, and has the seat's number
 pub fault_at : (digits : Scheme) (limit a : ℕ) (d : DeskState) (t : ℕ) (fault : Option RouteError) → IsNumbered digits limit a (Held d)
@@ -53,22 +116,23 @@ gives_at : (digits : Scheme) (limit a : ℕ) (d : DeskState) (b : BatchState) (n
 gives_at digits limit a d b new n g =
     subst (λ (z : ℕ). Gives digits z d.cached b new) n.0 (subst (λ (z : Scheme). Gives z d.number d.cached b new) n.2 g)
 
-pub sends_batch : (v : FloorSeen) (a t number count : ℕ) (d d' : DeskState) (ps : List Posted) → Routes v a t d None → v.next ≤ last_number → number ≡ v.next
-    → IsNumbered v.digits v.limit a (Held d) → SendsInto d t number count (inbox_at v.inboxes t) d' ps
-    → SendsBatch v a t number count (record (with_inbox (with_desk v a d') t ps) { next = v.next + 1 })
-sends_batch v a t number count d d' ps routes unspent is n s = record {
-  before = d;
-  after = d';
-  batch = s.batch;
-  routes = routes;
-  unspent = unspent;
-  is_next = is;
-  address = s.address;
-  gives = gives_at v.digits v.limit a d s.batch d'.cached n s.gives;
-  same_desk = s.same_desk;
-  counted = s.counted;
-  same = rw s.posted refl;
-}
+pub sends_batch : (v w : FloorSeen) (a t count : ℕ) (d d' : DeskState) (inboxes : List (List Posted)) → v ≡ w → Routes v a t d None → v.next ≤ last_number
+    → IsNumbered v.digits v.limit a (Held d) → SendsTo d t v.next count v.inboxes d' inboxes
+    → SendsBatch w a t v.next count (record (with_desk v a d') { inboxes = inboxes; next = v.next + 1 })
+sends_batch v w a t count d d' inboxes same routes unspent n s =
+    subst (λ (z : FloorSeen). SendsBatch z a t v.next count (record (with_desk v a d') { inboxes = inboxes; next = v.next + 1 })) same (record {
+      before = d;
+      after = d';
+      batch = s.sends.batch;
+      routes = routes;
+      unspent = unspent;
+      is_next = refl;
+      address = s.sends.address;
+      gives = gives_at v.digits v.limit a d s.sends.batch d'.cached n s.sends.gives;
+      same_desk = s.sends.same_desk;
+      counted = s.sends.counted;
+      same = ap (λ (z : List (List Posted)). record (with_desk v a d') { inboxes = z; next = v.next + 1 }) (s.same ∙ ap (set v.inboxes t) s.sends.posted);
+    })
 
 -- why a desk has no batch is why the floor refuses to send
 refuses_for : (v : FloorSeen) (a t : ℕ) (d : DeskState) (fault : RouteError) → Routes v a t d (Some fault) → Refuses v (Send a t) (route_refusal fault)
@@ -76,22 +140,24 @@ refuses_for v a t d ToSelf r = (d, r)
 refuses_for v a t d NothingFor r = (d, r)
 refuses_for v a t d NotAnOwner r = (d, r)
 
-pub send_refused : (v : FloorSeen) (a t : ℕ) (d : DeskState) (fault : RouteError) (refusal : Refusal) → Routes v a t d (Some fault) → refusal ≡ route_refusal fault
-    → Refuses v (Send a t) refusal
-send_refused v a t d fault refusal r is = subst (λ (z : Refusal). Refuses v (Send a t) z) (sym is) (refuses_for v a t d fault r)
+pub send_refused : (v w : FloorSeen) (a t : ℕ) (d : DeskState) (fault : RouteError) (refusal : Refusal) → v ≡ w → Routes v a t d (Some fault)
+    → refusal ≡ route_refusal fault → Refuses w (Send a t) refusal
+send_refused v w a t d fault refusal same r is =
+    subst (λ (y : FloorSeen). Refuses y (Send a t) refusal) same (subst (λ (z : Refusal). Refuses v (Send a t) z) (sym is) (refuses_for v a t d fault r))
 
-pub takes_front : (v : FloorSeen) (b : ℕ) (d d' : DeskState) (batch : BatchState) (x rest : List Posted) (counts : Counts) → IsHeld v b d → inbox_at v.inboxes b ≡ x
-    → LeavesFront batch x rest → Handles d batch.items d' → Counted d.number batch.items counts
-    → TakesFront v b counts.home counts.on (with_inbox (with_desk v b d') b rest)
-takes_front v b d d' batch x rest counts held is left handles counted = record {
-  before = d;
-  after = d';
-  front = left.front;
-  rest = rest;
-  held = held;
-  is_front = is ∙ left.is_front;
-  linked = left.linked;
-  handles = subst (λ z. Handles d z d') left.items handles;
-  counted = subst (λ z. Counted d.number z counts) left.items counted;
-  same = refl;
-}
+pub takes_front : (v w : FloorSeen) (b : ℕ) (d d' : DeskState) (batch : BatchState) (inboxes : List (List Posted)) (counts : Counts) → v ≡ w → IsHeld v b d
+    → TakesFrom batch b v.inboxes inboxes → Handles d batch.items d' → Counted d.number batch.items counts
+    → TakesFront w b counts.home counts.on (record (with_desk v b d') { inboxes = inboxes })
+takes_front v w b d d' batch inboxes counts same held took handles counted =
+    subst (λ (z : FloorSeen). TakesFront z b counts.home counts.on (record (with_desk v b d') { inboxes = inboxes })) same (record {
+      before = d;
+      after = d';
+      front = took.leaves.front;
+      rest = took.rest;
+      held = held;
+      is_front = took.leaves.is_front;
+      linked = took.leaves.linked;
+      handles = subst (λ z. Handles d z d') took.leaves.items handles;
+      counted = subst (λ z. Counted d.number z counts) took.leaves.items counted;
+      same = ap (λ (z : List (List Posted)). record (with_desk v b d') { inboxes = z }) took.same;
+    })

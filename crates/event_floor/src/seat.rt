@@ -40,39 +40,48 @@ pub(crate) fn empty_seats<'r>(
 }
 
 /// Gives an idle desk to a worker. A held one stays as it is.
-pub(crate) fn hold(seat: &mut Seat<'_>, digits: Digits, worker: u32)
+pub(crate) fn hold<'r>(seat: &mut Seat<'r>, digits: Digits, worker: u32)
     requires { 0 < 2 ^ digits.bits }
     ensures { seat.new ≡ held_by worker seat.old }
 {
     // the desk moves by value, and an empty one keeps its place for that time
     let empty = IdleDesk::new(0, digits, 0);
-    match mem::replace(seat, Seat::Idle(empty)) {
-        Seat::Idle(desk) => drop(mem::replace(seat, Seat::Held(desk.adopt(worker)))),
-        Seat::Held(desk) => drop(mem::replace(seat, Seat::Held(desk))),
+    let desk = mem::replace(seat, Seat::Idle(empty));
+    drop(mem::replace(seat, adopted(desk, worker)));
+}
+
+/// The desk in the hands of the worker. A held one stays as it is.
+fn adopted<'r>(seat: Seat<'r>, worker: u32) -> Seat<'r>
+    ensures { result ≡ held_by worker seat.entry }
+{
+    match seat {
+        Seat::Idle(desk) => Seat::Held(desk.adopt(worker)),
+        Seat::Held(desk) => Seat::Held(desk),
     }
 }
 
 /// Takes a held desk from its worker, unless its cache has a buffer; then, and where it is idle, it stays as it is.
-pub(crate) fn release(seat: &mut Seat<'_>, digits: Digits) -> bool
+pub(crate) fn release<'r>(seat: &mut Seat<'r>, digits: Digits) -> bool
     requires { 0 < 2 ^ digits.bits }
     ensures { Releases seat.old result seat.new }
 {
     let empty = IdleDesk::new(0, digits, 0);
-    match mem::replace(seat, Seat::Idle(empty)) {
+    let desk = mem::replace(seat, Seat::Idle(empty));
+    let (released, desk) = released(desk);
+    drop(mem::replace(seat, desk));
+    released
+}
+
+/// Whether the desk is released, and the desk then.
+fn released<'r>(seat: Seat<'r>) -> (bool, Seat<'r>)
+    ensures { Releases seat.entry result.0 result.1 }
+{
+    match seat {
         Seat::Held(desk) => match desk.retire() {
-            Ok(idle) => {
-                drop(mem::replace(seat, Seat::Idle(idle)));
-                true
-            }
-            Err(desk) => {
-                drop(mem::replace(seat, Seat::Held(desk)));
-                false
-            }
+            Ok(idle) => (true, Seat::Idle(idle)),
+            Err(desk) => (false, Seat::Held(desk)),
         },
-        Seat::Idle(desk) => {
-            drop(mem::replace(seat, Seat::Idle(desk)));
-            false
-        }
+        Seat::Idle(desk) => (false, Seat::Idle(desk)),
     }
 }
 

@@ -1,14 +1,17 @@
-use Rattle.std.proofs.Common.{◌≡◌, ◌<◌, ◌∙◌, ap, sym, subst, length, get_or, arith}
+use Rattle.std.proofs.Common.{◌≡◌, ◌<◌, ◌∙◌, refl, ap, sym, subst, length, get_or}
 use Rattle.std.proofs.lemmas.List.{length-set}
+use Rattle.pool_desk.specs.Desks.{DeskState}
 use Rattle.event_floor.specs.declared.seat.Seat.TheVariants.{Held}
 use Rattle.event_floor.specs.Floors.{AreOwned, no_desk}
 use Rattle.event_floor.proofs.SeatLaws.{alloc_seated, alloc_placed}
 use Rattle.event_floor.proofs.FloorLaws.{floor_settled, floor_seat, floor_lent, owned_set, place_within, desk_read, seated_at}
+use Rattle.event_floor.proofs.HeldLaws.{within, too_few, is_idle, floor_kept, view_kept, on_err, count_kept}
+use Rattle.event_floor.proofs.StepLaws.{alloc_refused, lends_slot}
 use Rattle.event_floor.proofs.lists.Lists.alloc.Goals as goal
 
 pub put-requires-clause-within : goal.put-requires-clause-within
 put-requires-clause-within c =
-    let there : c.args.a < length c.self.inside.desks.items = omega (arith, c.if-place-len.false, c.len.ensures, c.self.inside.desks.ok) in
+    let there = within _ _ _ _ c.if-place-len.false c.len.ensures c.self.inside.desks.ok.0 in
     let held : get_or c.self.inside.desks.items c.args.a no_desk ≡ Held c.in-Held.desk = desk_read _ _ _ _ there c.index_mut.ensures.value c.in-Held.is in
     let f = c.self.invariant in
     let seat = seated_at c.args.a c.in-Held.desk f there held in
@@ -17,7 +20,7 @@ put-requires-clause-within c =
 
 pub put-requires-clause-index : goal.put-requires-clause-index
 put-requires-clause-index c =
-    let there : c.args.a < length c.self.inside.desks.items = omega (arith, c.if-place-len.false, c.len.ensures, c.self.inside.desks.ok) in
+    let there = within _ _ _ _ c.if-place-len.false c.len.ensures c.self.inside.desks.ok.0 in
     let held : get_or c.self.inside.desks.items c.args.a no_desk ≡ Held c.in-Held.desk = desk_read _ _ _ _ there c.index_mut.ensures.value c.in-Held.is in
     let f = c.self.invariant in
     let seat = seated_at c.args.a c.in-Held.desk f there held in
@@ -25,7 +28,7 @@ put-requires-clause-index c =
 
 pub invariant_of-self-2 : goal.invariant_of-self-2
 invariant_of-self-2 c =
-    let there : c.args.a < length c.self.inside.desks.items = omega (arith, c.if-place-len.false, c.len.ensures, c.self.inside.desks.ok) in
+    let there = within _ _ _ _ c.if-place-len.false c.len.ensures c.self.inside.desks.ok.0 in
     let held : get_or c.self.inside.desks.items c.args.a no_desk ≡ Held c.in-Held.desk = desk_read _ _ _ _ there c.index_mut.ensures.value c.in-Held.is in
     let f = c.self.invariant in
     let seat = seated_at c.args.a c.in-Held.desk f there held in
@@ -34,3 +37,59 @@ invariant_of-self-2 c =
     floor_settled (floor_seat c.args.a _
     (floor_lent _ f (ap length c.put.ensures ∙ length-set _ _ _) (subst (λ z. AreOwned (length c.self.inside.desks.items) z) (sym c.put.ensures) own)) there
     (alloc_seated _ _ _ _ _ _ _ _ _ seat c.in_ok-buf.ensures))
+
+pub returns-then-place-len-clause-refuses : goal.returns-then-place-len-clause-refuses
+returns-then-place-len-clause-refuses c =
+    too_few _ _ c.args.a _ _ c.self.view_is c.if-place-len.true c.len.ensures c.self.inside.desks.ok.0
+
+pub index_mut-requires : goal.index_mut-requires
+index_mut-requires c =
+    subst (λ z. c.args.a < z) c.len.ensures c.if-place-len.false
+
+pub invariant_of-self : goal.invariant_of-self
+invariant_of-self c =
+    floor_kept c.args.a _ _ c.self.invariant c.index_mut.ensures.value refl
+
+pub returns-in_default-clause-refuses : goal.returns-in_default-clause-refuses
+returns-in_default-clause-refuses c =
+    let there = within _ _ _ _ c.if-place-len.false c.len.ensures c.self.inside.desks.ok.0 in
+    (c.in_default.field-0, is_idle _ _ c.args.a _ _ c.self.view_is there c.index_mut.ensures.value c.in_default.is)
+
+pub returns-in_default-clause-unchanged : goal.returns-in_default-clause-unchanged
+returns-in_default-clause-unchanged c =
+    view_kept _ _ c.args.a _ _ c.self.view_is c.index_mut.ensures.value refl
+
+pub returns-in_default-clause-desks : goal.returns-in_default-clause-desks
+returns-in_default-clause-desks c =
+    count_kept _ _ c.args.a c.index_mut.result.now c.self.view_is
+
+pub invariant_of-self-in_err-buf : goal.invariant_of-self-in_err-buf
+invariant_of-self-in_err-buf c =
+    let same : c.index_mut.result.now ≡ Held c.alloc.new.self = c.in-Held.is ∙ ap (λ (d : DeskState). Held d) (sym c.in_err-buf.ensures.1) in
+    floor_kept c.args.a _ _ c.self.invariant c.index_mut.ensures.value same
+
+pub returns-in_err-buf-clause-refuses : goal.returns-in_err-buf-clause-refuses
+returns-in_err-buf-clause-refuses c =
+    let there = within _ _ _ _ c.if-place-len.false c.len.ensures c.self.inside.desks.ok.0 in
+    let held : get_or c.self.inside.desks.items c.args.a no_desk ≡ Held c.in-Held.desk = desk_read _ _ _ _ there c.index_mut.ensures.value c.in-Held.is in
+    let seat = seated_at c.args.a c.in-Held.desk c.self.invariant there held in
+    alloc_refused _ _ c.args.a c.args.size c.in-Held.desk _ c.from_residual.result c.self.view_is (there, held) seat.numbered c.in_err-buf.ensures.0 c.from_residual.ensures.1
+
+pub returns-in_err-buf-clause-unchanged : goal.returns-in_err-buf-clause-unchanged
+returns-in_err-buf-clause-unchanged c =
+    let same : c.index_mut.result.now ≡ Held c.alloc.new.self = c.in-Held.is ∙ ap (λ (d : DeskState). Held d) (sym c.in_err-buf.ensures.1) in
+    on_err c.from_residual.result (view_kept _ _ c.args.a _ _ c.self.view_is c.index_mut.ensures.value same)
+
+pub returns-in_err-buf-clause-desks : goal.returns-in_err-buf-clause-desks
+returns-in_err-buf-clause-desks c =
+    count_kept _ _ c.args.a (Held c.alloc.new.self) c.self.view_is
+
+pub returns-clause-does : goal.returns-clause-does
+returns-clause-does c =
+    let there = within _ _ _ _ c.if-place-len.false c.len.ensures c.self.inside.desks.ok.0 in
+    let held : get_or c.self.inside.desks.items c.args.a no_desk ≡ Held c.in-Held.desk = desk_read _ _ _ _ there c.index_mut.ensures.value c.in-Held.is in
+    lends_slot _ _ c.args.a c.args.size _ c.in-Held.desk c.alloc.new.self c.in_ok-buf.buf c.put.new.self c.self.view_is (there, held) c.in_ok-buf.ensures c.slot-slot.ensures c.put.ensures
+
+pub returns-clause-desks : goal.returns-clause-desks
+returns-clause-desks c =
+    count_kept _ _ c.args.a (Held c.alloc.new.self) c.self.view_is

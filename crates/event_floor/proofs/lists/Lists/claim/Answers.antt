@@ -1,15 +1,19 @@
-use Rattle.std.proofs.Common.{◌≡◌, ◌<◌, refl, ap, sym, length, get_or, arith}
+use Rattle.std.proofs.Common.{◌≡◌, ◌<◌, refl, ap, sym, subst, get_or}
+use Rattle.event_floor.specs.declared.refusal.Refusal.TheVariants.{BadClass, NotNeeded, NoChunk}
+use Rattle.event_floor.specs.declared.request.Request.TheVariants.{Claim}
 use Rattle.event_floor.specs.declared.seat.Seat.TheVariants.{Held}
-use Rattle.event_floor.specs.Floors.{no_desk}
+use Rattle.event_floor.specs.Floors.{FloorSeen, no_desk}
 use Rattle.event_floor.specs.Chunks.{ChunksSeen}
+use Rattle.event_floor.specs.Steps.{Refuses, HasHome}
 use Rattle.event_floor.proofs.SeatLaws.{claim_seated}
 use Rattle.event_floor.proofs.FloorLaws.{floor_settled, floor_seat, desk_read, seated_at, uses_class, few_classes}
+use Rattle.event_floor.proofs.HeldLaws.{within, too_few, is_idle, floor_kept, view_kept, count_kept, not_so}
 use Rattle.event_floor.proofs.StepLaws.{draws_chunk}
 use Rattle.event_floor.proofs.lists.Lists.claim.Goals as goal
 
 pub invariant_of-self-2 : goal.invariant_of-self-2
 invariant_of-self-2 c =
-    let there : c.args.a < length c.self.inside.desks.items = omega (arith, c.if-place-len.false, c.len.ensures, c.self.inside.desks.ok) in
+    let there = within _ _ _ _ c.if-place-len.false c.len.ensures c.self.inside.desks.ok.0 in
     let held : get_or c.self.inside.desks.items c.args.a no_desk ≡ Held c.in-Held.desk = desk_read _ _ _ _ there c.index_mut.ensures.value c.in-Held.is in
     let f = c.self.invariant in
     let seat = seated_at c.args.a c.in-Held.desk f there held in
@@ -21,20 +25,112 @@ invariant_of-self-2 c =
 
 pub returns-clause-does : goal.returns-clause-does
 returns-clause-does c =
-    let there : c.args.a < length c.self.inside.desks.items = omega (arith, c.if-place-len.false, c.len.ensures, c.self.inside.desks.ok) in
+    let there = within _ _ _ _ c.if-place-len.false c.len.ensures c.self.inside.desks.ok.0 in
     let held : get_or c.self.inside.desks.items c.args.a no_desk ≡ Held c.in-Held.desk = desk_read _ _ _ _ there c.index_mut.ensures.value c.in-Held.is in
     let f = c.self.invariant in
     let seat = seated_at c.args.a c.in-Held.desk f there held in
     let few = c.in-Some.ensures in
     let drew = c.in-Some-draw.ensures in
-    rw (← c.self.view_is)
-    (draws_chunk _ _ _ _ _ _ _ _ c.self.inside.chunks c.draw.new.self (there, held) few.0 few.1 refl refl refl drew.0 drew.1 drew.2 refl drew.3 drew.4 c.in-Ok.ensures c.chunk-chunk.ensures)
+    draws_chunk _ _ _ _ _ _ _ _ _ c.self.inside.chunks c.draw.new.self c.self.view_is (there, held) few.0 few.1
+    refl refl refl drew.0 drew.1 drew.2 refl drew.3 drew.4 c.in-Ok.ensures c.chunk-chunk.ensures
 
 pub claim-requires : goal.claim-requires
 claim-requires c =
-    let there : c.args.a < length c.self.inside.desks.items = omega (arith, c.if-place-len.false, c.len.ensures, c.self.inside.desks.ok) in
+    let there = within _ _ _ _ c.if-place-len.false c.len.ensures c.self.inside.desks.ok.0 in
     let held : get_or c.self.inside.desks.items c.args.a no_desk ≡ Held c.in-Held.desk = desk_read _ _ _ _ there c.index_mut.ensures.value c.in-Held.is in
     let f = c.self.invariant in
     let seat = seated_at c.args.a c.in-Held.desk f there held in
     let few = c.in-Some.ensures in
     uses_class c.in-Held.desk _ seat (rw (sym few.0) at few.1)
+
+pub returns-then-place-len-clause-refuses : goal.returns-then-place-len-clause-refuses
+returns-then-place-len-clause-refuses c =
+    too_few _ _ c.args.a _ _ c.self.view_is c.if-place-len.true c.len.ensures c.self.inside.desks.ok.0
+
+pub index_mut-requires : goal.index_mut-requires
+index_mut-requires c =
+    subst (λ z. c.args.a < z) c.len.ensures c.if-place-len.false
+
+pub invariant_of-self : goal.invariant_of-self
+invariant_of-self c =
+    floor_kept c.args.a _ _ c.self.invariant c.index_mut.ensures.value refl
+
+pub returns-in_default-clause-refuses : goal.returns-in_default-clause-refuses
+returns-in_default-clause-refuses c =
+    let there = within _ _ _ _ c.if-place-len.false c.len.ensures c.self.inside.desks.ok.0 in
+    (c.in_default.field-0, is_idle _ _ c.args.a _ _ c.self.view_is there c.index_mut.ensures.value c.in_default.is)
+
+pub returns-in_default-clause-unchanged : goal.returns-in_default-clause-unchanged
+returns-in_default-clause-unchanged c =
+    view_kept _ _ c.args.a _ _ c.self.view_is c.index_mut.ensures.value refl
+
+pub returns-in_default-clause-desks : goal.returns-in_default-clause-desks
+returns-in_default-clause-desks c =
+    count_kept _ _ c.args.a c.index_mut.result.now c.self.view_is
+
+pub invariant_of-self-in_default-class_of : goal.invariant_of-self-in_default-class_of
+invariant_of-self-in_default-class_of c =
+    floor_kept c.args.a _ _ c.self.invariant c.index_mut.ensures.value c.in-Held.is
+
+pub returns-in_default-class_of-clause-unchanged : goal.returns-in_default-class_of-clause-unchanged
+returns-in_default-class_of-clause-unchanged c =
+    view_kept _ _ c.args.a _ _ c.self.view_is c.index_mut.ensures.value c.in-Held.is
+
+pub returns-in_default-class_of-clause-desks : goal.returns-in_default-class_of-clause-desks
+returns-in_default-class_of-clause-desks c =
+    count_kept _ _ c.args.a (Held c.in-Held.desk) c.self.view_is
+
+pub returns-in_default-class_of-clause-refuses : goal.returns-in_default-class_of-clause-refuses
+returns-in_default-class_of-clause-refuses c =
+    let there = within _ _ _ _ c.if-place-len.false c.len.ensures c.self.inside.desks.ok.0 in
+    let held : get_or c.self.inside.desks.items c.args.a no_desk ≡ Held c.in-Held.desk = desk_read _ _ _ _ there c.index_mut.ensures.value c.in-Held.is in
+    subst (λ (v : FloorSeen). Refuses v (Claim c.args.a c.args.class) BadClass) c.self.view_is
+    ((c.in-Held.desk, (there, held)), c.in_default-class_of.ensures)
+
+pub invariant_of-self-then-has_home : goal.invariant_of-self-then-has_home
+invariant_of-self-then-has_home c =
+    floor_kept c.args.a _ _ c.self.invariant c.index_mut.ensures.value c.in-Held.is
+
+pub returns-then-has_home-clause-unchanged : goal.returns-then-has_home-clause-unchanged
+returns-then-has_home-clause-unchanged c =
+    view_kept _ _ c.args.a _ _ c.self.view_is c.index_mut.ensures.value c.in-Held.is
+
+pub returns-then-has_home-clause-desks : goal.returns-then-has_home-clause-desks
+returns-then-has_home-clause-desks c =
+    count_kept _ _ c.args.a (Held c.in-Held.desk) c.self.view_is
+
+pub returns-then-has_home-clause-refuses : goal.returns-then-has_home-clause-refuses
+returns-then-has_home-clause-refuses c =
+    let there = within _ _ _ _ c.if-place-len.false c.len.ensures c.self.inside.desks.ok.0 in
+    let held : get_or c.self.inside.desks.items c.args.a no_desk ≡ Held c.in-Held.desk = desk_read _ _ _ _ there c.index_mut.ensures.value c.in-Held.is in
+    let few = c.in-Some.ensures in
+    subst (λ (v : FloorSeen). Refuses v (Claim c.args.a c.args.class) NotNeeded) c.self.view_is
+    (c.in-Held.desk, (there, held), few.1, subst (λ z. HasHome c.in-Held.desk z) few.0 (c.has_home.ensures.0 c.if-has_home.true))
+
+pub invariant_of-self-in_default-draw : goal.invariant_of-self-in_default-draw
+invariant_of-self-in_default-draw c =
+    rw c.in_default-draw.ensures.1 (floor_kept c.args.a _ _ c.self.invariant c.index_mut.ensures.value c.in-Held.is)
+
+pub returns-in_default-draw-clause-unchanged : goal.returns-in_default-draw-clause-unchanged
+returns-in_default-draw-clause-unchanged c =
+    rw c.in_default-draw.ensures.1 (view_kept _ _ c.args.a _ _ c.self.view_is c.index_mut.ensures.value c.in-Held.is)
+
+pub returns-in_default-draw-clause-desks : goal.returns-in_default-draw-clause-desks
+returns-in_default-draw-clause-desks c =
+    count_kept _ _ c.args.a (Held c.in-Held.desk) c.self.view_is
+
+pub returns-in_default-draw-clause-refuses : goal.returns-in_default-draw-clause-refuses
+returns-in_default-draw-clause-refuses c =
+    let there = within _ _ _ _ c.if-place-len.false c.len.ensures c.self.inside.desks.ok.0 in
+    let held : get_or c.self.inside.desks.items c.args.a no_desk ≡ Held c.in-Held.desk = desk_read _ _ _ _ there c.index_mut.ensures.value c.in-Held.is in
+    let few = c.in-Some.ensures in
+    subst (λ (v : FloorSeen). Refuses v (Claim c.args.a c.args.class) NoChunk) c.self.view_is
+    (c.in-Held.desk, (there, held), few.1, subst (λ z. HasHome c.in-Held.desk z → ⊥) few.0 (not_so _ c.has_home.ensures.1 c.if-has_home.false), c.in_default-draw.ensures.0)
+
+pub unreachable-requires : goal.unreachable-requires
+unreachable-requires c =
+    not_so _ c.has_home.ensures.1 c.if-has_home.false c.in-Err.ensures.1.1
+
+pub returns-clause-desks : goal.returns-clause-desks
+returns-clause-desks c =
+    count_kept _ _ c.args.a (Held c.claim.new.self) c.self.view_is

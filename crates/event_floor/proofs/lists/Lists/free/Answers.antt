@@ -1,15 +1,20 @@
-use Rattle.std.proofs.Common.{◌≡◌, ◌<◌, ◌∙◌, ap, sym, subst, length, get_or, arith}
+use Rattle.std.proofs.Common.{◌≡◌, ◌<◌, ◌∙◌, refl, ap, sym, subst, length, get_or}
 use Rattle.std.proofs.lemmas.List.{length-set}
 use Rattle.region_cut.specs.declared.slot.Slot.{Slot}
+use Rattle.event_floor.specs.declared.refusal.Refusal.TheVariants.{NotLent}
+use Rattle.event_floor.specs.declared.request.Request.TheVariants.{Free}
 use Rattle.event_floor.specs.declared.seat.Seat.TheVariants.{Held}
-use Rattle.event_floor.specs.Floors.{AreOwned, IsKnown, no_desk}
+use Rattle.event_floor.specs.Floors.{FloorSeen, AreOwned, IsKnown, no_desk}
+use Rattle.event_floor.specs.Steps.{Refuses}
 use Rattle.event_floor.proofs.SeatLaws.{free_seated}
 use Rattle.event_floor.proofs.FloorLaws.{floor_settled, floor_seat, floor_lent, owned_set, lent_owned, takes_owner, chunk_within, desk_read, seated_at}
+use Rattle.event_floor.proofs.HeldLaws.{within, too_few, is_idle, floor_kept, view_kept, count_kept}
+use Rattle.event_floor.proofs.StepLaws.{takes_back}
 use Rattle.event_floor.proofs.lists.Lists.free.Goals as goal
 
 pub invariant_of-self-2 : goal.invariant_of-self-2
 invariant_of-self-2 c =
-    let there : c.args.a < length c.self.inside.desks.items = omega (arith, c.if-place-len.false, c.len.ensures, c.self.inside.desks.ok) in
+    let there = within _ _ _ _ c.if-place-len.false c.len.ensures c.self.inside.desks.ok.0 in
     let held : get_or c.self.inside.desks.items c.args.a no_desk ≡ Held c.in-Held.desk = desk_read _ _ _ _ there c.index_mut.ensures.value c.in-Held.is in
     let f = c.self.invariant in
     let seat = seated_at c.args.a c.in-Held.desk f there held in
@@ -23,8 +28,64 @@ invariant_of-self-2 c =
 
 pub free-requires : goal.free-requires
 free-requires c =
-    let there : c.args.a < length c.self.inside.desks.items = omega (arith, c.if-place-len.false, c.len.ensures, c.self.inside.desks.ok) in
+    let there = within _ _ _ _ c.if-place-len.false c.len.ensures c.self.inside.desks.ok.0 in
     let held : get_or c.self.inside.desks.items c.args.a no_desk ≡ Held c.in-Held.desk = desk_read _ _ _ _ there c.index_mut.ensures.value c.in-Held.is in
     let f = c.self.invariant in
     let seat = seated_at c.args.a c.in-Held.desk f there held in
     takes_owner c.args.a c.in-Held.desk _ f seat (lent_owned _ _ _ _ c.in-Some.buf f.owned c.in-Some.ensures.0)
+
+pub returns-then-place-len-clause-refuses : goal.returns-then-place-len-clause-refuses
+returns-then-place-len-clause-refuses c =
+    too_few _ _ c.args.a _ _ c.self.view_is c.if-place-len.true c.len.ensures c.self.inside.desks.ok.0
+
+pub index_mut-requires : goal.index_mut-requires
+index_mut-requires c =
+    subst (λ z. c.args.a < z) c.len.ensures c.if-place-len.false
+
+pub invariant_of-self : goal.invariant_of-self
+invariant_of-self c =
+    floor_kept c.args.a _ _ c.self.invariant c.index_mut.ensures.value refl
+
+pub returns-in_default-clause-refuses : goal.returns-in_default-clause-refuses
+returns-in_default-clause-refuses c =
+    let there = within _ _ _ _ c.if-place-len.false c.len.ensures c.self.inside.desks.ok.0 in
+    (c.in_default.field-0, is_idle _ _ c.args.a _ _ c.self.view_is there c.index_mut.ensures.value c.in_default.is)
+
+pub returns-in_default-clause-unchanged : goal.returns-in_default-clause-unchanged
+returns-in_default-clause-unchanged c =
+    view_kept _ _ c.args.a _ _ c.self.view_is c.index_mut.ensures.value refl
+
+pub returns-in_default-clause-desks : goal.returns-in_default-clause-desks
+returns-in_default-clause-desks c =
+    count_kept _ _ c.args.a c.index_mut.result.now c.self.view_is
+
+pub invariant_of-self-in_default-take : goal.invariant_of-self-in_default-take
+invariant_of-self-in_default-take c =
+    rw c.in_default-take.ensures.1 (floor_kept c.args.a _ _ c.self.invariant c.index_mut.ensures.value c.in-Held.is)
+
+pub returns-in_default-take-clause-refuses : goal.returns-in_default-take-clause-refuses
+returns-in_default-take-clause-refuses c =
+    let there = within _ _ _ _ c.if-place-len.false c.len.ensures c.self.inside.desks.ok.0 in
+    let held : get_or c.self.inside.desks.items c.args.a no_desk ≡ Held c.in-Held.desk = desk_read _ _ _ _ there c.index_mut.ensures.value c.in-Held.is in
+    subst (λ (v : FloorSeen). Refuses v (Free c.args.a (c.args.chunk, c.args.index)) NotLent) c.self.view_is
+    ((c.in-Held.desk, (there, held)), c.in_default-take.ensures.0)
+
+pub returns-in_default-take-clause-unchanged : goal.returns-in_default-take-clause-unchanged
+returns-in_default-take-clause-unchanged c =
+    rw c.in_default-take.ensures.1 (view_kept _ _ c.args.a _ _ c.self.view_is c.index_mut.ensures.value c.in-Held.is)
+
+pub returns-in_default-take-clause-desks : goal.returns-in_default-take-clause-desks
+returns-in_default-take-clause-desks c =
+    count_kept _ _ c.args.a (Held c.in-Held.desk) c.self.view_is
+
+pub returns-clause-does : goal.returns-clause-does
+returns-clause-does c =
+    let there = within _ _ _ _ c.if-place-len.false c.len.ensures c.self.inside.desks.ok.0 in
+    let held : get_or c.self.inside.desks.items c.args.a no_desk ≡ Held c.in-Held.desk = desk_read _ _ _ _ there c.index_mut.ensures.value c.in-Held.is in
+    let took = c.in-Some.ensures in
+    takes_back _ _ c.args.a c.args.chunk c.args.index c.in-Held.desk c.free.new.self c.in-Some.buf c.free.result _ c.take.new.self c.self.view_is (there, held)
+    took.0 took.1 took.4 c.free.ensures c.from.ensures
+
+pub returns-clause-desks : goal.returns-clause-desks
+returns-clause-desks c =
+    count_kept _ _ c.args.a (Held c.free.new.self) c.self.view_is

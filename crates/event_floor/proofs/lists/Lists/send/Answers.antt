@@ -1,50 +1,145 @@
-use Rattle.std.proofs.Common.{◌≡◌, ◌<◌, length, get_or, arith}
-use Rattle.std.specs.Prelude.{Some}
+use Rattle.std.proofs.Common.{◌≡◌, ◌<◌, ◌≤◌, ◌∙◌, refl, length, get_or, ap, sym, subst, arith}
+use Rattle.std.specs.Prelude.{Some, None}
+use Rattle.pool_desk.specs.Desks.{DeskState}
 use Rattle.event_floor.specs.declared.seat.Seat.TheVariants.{Held}
-use Rattle.event_floor.specs.Floors.{FloorSeen, no_desk}
+use Rattle.event_floor.specs.Floors.{FloorSeen, desk_count, last_number, no_desk}
+use Rattle.event_floor.specs.Steps.{MeetsFault}
 use Rattle.event_floor.proofs.SeatLaws.{send_seated}
 use Rattle.event_floor.proofs.FloorLaws.{floor_settled, floor_seat, floor_inbox, floor_next, desk_read, seated_at}
+use Rattle.event_floor.proofs.HeldLaws.{within, is_idle, floor_kept, view_kept, count_kept}
 use Rattle.event_floor.proofs.PostLaws.{sent_posted}
-use Rattle.event_floor.proofs.StepLaws.{fault_at, send_refused}
+use Rattle.event_floor.proofs.StepLaws.{fault_at, send_refused, sends_batch}
 use Rattle.event_floor.proofs.lists.Lists.send.Goals as goal
+
+pub index_mut-requires : goal.index_mut-requires
+index_mut-requires c = subst (λ z. c.args.a < z) c.len.ensures c.if-a-len.false
+
+pub invariant_of-self : goal.invariant_of-self
+invariant_of-self c = floor_kept c.args.a _ _ c.self.invariant c.index_mut.ensures.value refl
+
+pub returns-in_default-clause-refuses : goal.returns-in_default-clause-refuses
+returns-in_default-clause-refuses c =
+    let there = within _ _ _ _ c.if-a-len.false c.len.ensures c.self.inside.desks.ok.0 in
+    let there_too = within _ _ _ _ c.if-t-len.false c.len-else-a-len.ensures c.self.inside.desks.ok.0 in (
+      (c.in_default.field-0, is_idle _ _ c.args.a _ _ c.self.view_is there c.index_mut.ensures.value c.in_default.is),
+      subst (λ (v : FloorSeen). c.args.t < desk_count v) c.self.view_is there_too,
+    )
+
+pub returns-in_default-clause-unchanged : goal.returns-in_default-clause-unchanged
+returns-in_default-clause-unchanged c =
+    view_kept _ _ c.args.a _ _ c.self.view_is c.index_mut.ensures.value refl
+
+pub returns-in_default-clause-desks : goal.returns-in_default-clause-desks
+returns-in_default-clause-desks c =
+    count_kept _ _ c.args.a c.index_mut.result.now c.self.view_is
+
+pub invariant_of-self-in-Some : goal.invariant_of-self-in-Some
+invariant_of-self-in-Some c =
+    floor_kept c.args.a _ _ c.self.invariant c.index_mut.ensures.value c.in-Held.is
 
 pub returns-in-Some-clause-refuses : goal.returns-in-Some-clause-refuses
 returns-in-Some-clause-refuses c =
-    let there : c.args.a < length c.self.inside.desks.items = omega (arith, c.if-a-len.false, c.len.ensures, c.self.inside.desks.ok) in
+    let there = within _ _ _ _ c.if-a-len.false c.len.ensures c.self.inside.desks.ok.0 in
+    let there_too = within _ _ _ _ c.if-t-len.false c.len-else-a-len.ensures c.self.inside.desks.ok.0 in
     let held : get_or c.self.inside.desks.items c.args.a no_desk ≡ Held c.in-Held.desk = desk_read _ _ _ _ there c.index_mut.ensures.value c.in-Held.is in
-    let f = c.self.invariant in
-    let seat = seated_at c.args.a c.in-Held.desk f there held in
-    let there_too : c.args.t < length c.self.inside.desks.items = omega (arith, c.if-t-len.false, c.len-else-a-len.ensures, c.self.inside.desks.ok) in
-    let v : FloorSeen = record {
-      digits = c.self.inside.digits;
-      limit = c.self.inside.limit;
-      chunks = length c.self.inside.chunks.parts;
-      parts = c.self.inside.chunks.parts;
-      drawn = c.self.inside.chunks.drawn;
-      undrawn = c.self.inside.chunks.undrawn;
-      desks = c.self.inside.desks.items;
-      lent = c.self.inside.lent;
-      inboxes = c.self.inside.inboxes;
-      next = c.self.inside.next;
-    } in
-    rw (← c.self.view_is)
-    (send_refused v c.args.a c.args.t c.in-Held.desk c.in-Some.fault _ ((there, held), there_too, fault_at _ _ _ c.in-Held.desk c.args.t (Some c.in-Some.fault) seat.numbered c.in-Some.ensures) c.from.ensures)
+    let seat = seated_at c.args.a c.in-Held.desk c.self.invariant there held in
+    send_refused _ _ c.args.a c.args.t c.in-Held.desk c.in-Some.fault _ c.self.view_is
+    ((there, held), there_too, fault_at _ _ _ c.in-Held.desk c.args.t (Some c.in-Some.fault) seat.numbered c.in-Some.ensures) c.from.ensures
 
-pub invariant_of-self-in-Ok : goal.invariant_of-self-in-Ok
-invariant_of-self-in-Ok c =
-    let there : c.args.a < length c.self.inside.desks.items = omega (arith, c.if-a-len.false, c.len.ensures, c.self.inside.desks.ok) in
+pub returns-in-Some-clause-unchanged : goal.returns-in-Some-clause-unchanged
+returns-in-Some-clause-unchanged c =
+    view_kept _ _ c.args.a _ _ c.self.view_is c.index_mut.ensures.value c.in-Held.is
+
+pub returns-in-Some-clause-desks : goal.returns-in-Some-clause-desks
+returns-in-Some-clause-desks c =
+    count_kept _ _ c.args.a (Held c.in-Held.desk) c.self.view_is
+
+pub invariant_of-self-then-self-gt-LAST_NUMBER : goal.invariant_of-self-then-self-gt-LAST_NUMBER
+invariant_of-self-then-self-gt-LAST_NUMBER c =
+    floor_kept c.args.a _ _ c.self.invariant c.index_mut.ensures.value c.in-Held.is
+
+pub returns-then-self-gt-LAST_NUMBER-clause-refuses : goal.returns-then-self-gt-LAST_NUMBER-clause-refuses
+returns-then-self-gt-LAST_NUMBER-clause-refuses c =
+    let there = within _ _ _ _ c.if-a-len.false c.len.ensures c.self.inside.desks.ok.0 in
+    let there_too = within _ _ _ _ c.if-t-len.false c.len-else-a-len.ensures c.self.inside.desks.ok.0 in
     let held : get_or c.self.inside.desks.items c.args.a no_desk ≡ Held c.in-Held.desk = desk_read _ _ _ _ there c.index_mut.ensures.value c.in-Held.is in
-    let f = c.self.invariant in
-    let seat = seated_at c.args.a c.in-Held.desk f there held in
-    let there_too : c.args.t < length c.self.inside.desks.items = omega (arith, c.if-t-len.false, c.len-else-a-len.ensures, c.self.inside.desks.ok) in
-    let s = c.in-Ok.ensures.sends.sends in
-    let g = floor_next f c.if-self-gt-LAST_NUMBER.false in
-    rw c.in-Ok.ensures.sends.same
-    (floor_settled (floor_inbox c.args.t _
-    (floor_seat c.args.a _ g there (send_seated _ _ _ _ _ _ _ _ _ s.batch seat s.same_desk s.gives)) there_too
-    (sent_posted _ _ _ _ _ c.args.a _ _ _ _ _ _ _ (g.posted c.args.t there_too) seat there (omega arith) s)))
+    let seat = seated_at c.args.a c.in-Held.desk c.self.invariant there held in
+    subst (λ (v : FloorSeen). MeetsFault v c.args.a c.args.t None × (last_number < v.next)) c.self.view_is
+    ((c.in-Held.desk, ((there, held), there_too, fault_at _ _ _ c.in-Held.desk c.args.t None seat.numbered c.in-None.ensures)), c.if-self-gt-LAST_NUMBER.true)
+
+pub returns-then-self-gt-LAST_NUMBER-clause-unchanged : goal.returns-then-self-gt-LAST_NUMBER-clause-unchanged
+returns-then-self-gt-LAST_NUMBER-clause-unchanged c =
+    view_kept _ _ c.args.a _ _ c.self.view_is c.index_mut.ensures.value c.in-Held.is
+
+pub returns-then-self-gt-LAST_NUMBER-clause-desks : goal.returns-then-self-gt-LAST_NUMBER-clause-desks
+returns-then-self-gt-LAST_NUMBER-clause-desks c =
+    count_kept _ _ c.args.a (Held c.in-Held.desk) c.self.view_is
+
+pub send-requires-clause-routes : goal.send-requires-clause-routes
+send-requires-clause-routes c =
+    c.in-None.ensures
+
+pub send-requires-clause-sender : goal.send-requires-clause-sender
+send-requires-clause-sender c =
+    let there = within _ _ _ _ c.if-a-len.false c.len.ensures c.self.inside.desks.ok.0 in
+    let held : get_or c.self.inside.desks.items c.args.a no_desk ≡ Held c.in-Held.desk = desk_read _ _ _ _ there c.index_mut.ensures.value c.in-Held.is in
+    let seat = seated_at c.args.a c.in-Held.desk c.self.invariant there held in
+    subst (λ z. z < length c.self.inside.inboxes) (sym seat.numbered.0) (subst (λ z. c.args.a < z) (sym c.self.invariant.boxes) there)
+
+pub send-requires-clause-there : goal.send-requires-clause-there
+send-requires-clause-there c =
+    let there_too = within _ _ _ _ c.if-t-len.false c.len-else-a-len.ensures c.self.inside.desks.ok.0 in
+    subst (λ z. c.args.t < z) (sym c.self.invariant.boxes) there_too
 
 pub send-requires-clause-later : goal.send-requires-clause-later
 send-requires-clause-later c =
-    let f = c.self.invariant in
-    λ b l k d m. (f.posted b (let e = f.boxes in omega (arith, l, e)) k d m).numbered
+    λ b l k d m. (c.self.invariant.posted b (subst (λ z. b < z) c.self.invariant.boxes l) k d m).numbered
+
+pub invariant_of-self-in-Ok : goal.invariant_of-self-in-Ok
+invariant_of-self-in-Ok c =
+    let there = within _ _ _ _ c.if-a-len.false c.len.ensures c.self.inside.desks.ok.0 in
+    let there_too = within _ _ _ _ c.if-t-len.false c.len-else-a-len.ensures c.self.inside.desks.ok.0 in
+    let held : get_or c.self.inside.desks.items c.args.a no_desk ≡ Held c.in-Held.desk = desk_read _ _ _ _ there c.index_mut.ensures.value c.in-Held.is in
+    let seat = seated_at c.args.a c.in-Held.desk c.self.invariant there held in
+    let s = c.in-Ok.ensures.sends in
+    let g = floor_next c.self.invariant c.if-self-gt-LAST_NUMBER.false in
+    rw s.same
+    (floor_settled (floor_inbox c.args.t _
+    (floor_seat c.args.a _ g there (send_seated _ _ _ _ _ _ _ _ _ s.sends.batch seat s.sends.same_desk s.sends.gives)) there_too
+    (sent_posted _ _ _ _ _ c.args.a _ _ _ _ _ _ _ (g.posted c.args.t there_too) seat there (omega arith) s.sends)))
+
+pub returns-in-Ok-clause-does : goal.returns-in-Ok-clause-does
+returns-in-Ok-clause-does c =
+    let there = within _ _ _ _ c.if-a-len.false c.len.ensures c.self.inside.desks.ok.0 in
+    let there_too = within _ _ _ _ c.if-t-len.false c.len-else-a-len.ensures c.self.inside.desks.ok.0 in
+    let held : get_or c.self.inside.desks.items c.args.a no_desk ≡ Held c.in-Held.desk = desk_read _ _ _ _ there c.index_mut.ensures.value c.in-Held.is in
+    let seat = seated_at c.args.a c.in-Held.desk c.self.invariant there held in
+    sends_batch _ _ c.args.a c.args.t c.in-Ok.count c.in-Held.desk c.send.new.desk _ c.self.view_is
+    ((there, held), there_too, fault_at _ _ _ c.in-Held.desk c.args.t None seat.numbered c.in-None.ensures) c.if-self-gt-LAST_NUMBER.false seat.numbered c.in-Ok.ensures.sends
+
+pub returns-in-Ok-clause-desks : goal.returns-in-Ok-clause-desks
+returns-in-Ok-clause-desks c =
+    count_kept _ _ c.args.a (Held c.send.new.desk) c.self.view_is
+
+pub invariant_of-self-in-Err : goal.invariant_of-self-in-Err
+invariant_of-self-in-Err c =
+    let same : c.index_mut.result.now ≡ Held c.send.new.desk = c.in-Held.is ∙ ap (λ (d : DeskState). Held d) (sym c.in-Err.ensures.refused_desk) in
+    rw c.in-Err.ensures.refused (floor_kept c.args.a _ _ c.self.invariant c.index_mut.ensures.value same)
+
+pub returns-in-Err-clause-refuses : goal.returns-in-Err-clause-refuses
+returns-in-Err-clause-refuses c =
+    let there = within _ _ _ _ c.if-a-len.false c.len.ensures c.self.inside.desks.ok.0 in
+    let there_too = within _ _ _ _ c.if-t-len.false c.len-else-a-len.ensures c.self.inside.desks.ok.0 in
+    let held : get_or c.self.inside.desks.items c.args.a no_desk ≡ Held c.in-Held.desk = desk_read _ _ _ _ there c.index_mut.ensures.value c.in-Held.is in
+    let seat = seated_at c.args.a c.in-Held.desk c.self.invariant there held in
+    subst (λ (v : FloorSeen). MeetsFault v c.args.a c.args.t None × (v.next ≤ last_number)) c.self.view_is
+    ((c.in-Held.desk, ((there, held), there_too, fault_at _ _ _ c.in-Held.desk c.args.t None seat.numbered c.in-None.ensures)), c.if-self-gt-LAST_NUMBER.false)
+
+pub returns-in-Err-clause-unchanged : goal.returns-in-Err-clause-unchanged
+returns-in-Err-clause-unchanged c =
+    let same : c.index_mut.result.now ≡ Held c.send.new.desk = c.in-Held.is ∙ ap (λ (d : DeskState). Held d) (sym c.in-Err.ensures.refused_desk) in
+    rw c.in-Err.ensures.refused (view_kept _ _ c.args.a _ _ c.self.view_is c.index_mut.ensures.value same)
+
+pub returns-in-Err-clause-desks : goal.returns-in-Err-clause-desks
+returns-in-Err-clause-desks c =
+    count_kept _ _ c.args.a (Held c.send.new.desk) c.self.view_is

@@ -1,15 +1,19 @@
-use Rattle.std.proofs.Common.{◌≡◌, ◌<◌, refl, length, get_or, arith}
+use Rattle.std.proofs.Common.{◌≡◌, ◌<◌, refl, get_or, sym, subst}
+use Rattle.event_floor.specs.declared.refusal.Refusal.TheVariants.{Nothing}
+use Rattle.event_floor.specs.declared.request.Request.TheVariants.{Take}
 use Rattle.event_floor.specs.declared.seat.Seat.TheVariants.{Held}
-use Rattle.event_floor.specs.Floors.{no_desk}
+use Rattle.event_floor.specs.Floors.{FloorSeen, no_desk}
+use Rattle.event_floor.specs.Steps.{Refuses}
 use Rattle.event_floor.proofs.SeatLaws.{handle_seated}
 use Rattle.event_floor.proofs.FloorLaws.{floor_settled, floor_seat, floor_inbox, desk_read, seated_at}
+use Rattle.event_floor.proofs.HeldLaws.{within, too_few, is_idle, floor_kept, view_kept, count_kept}
 use Rattle.event_floor.proofs.PostLaws.{rest_posted, taken_address, taken_digits, taken_known}
 use Rattle.event_floor.proofs.StepLaws.{takes_front}
 use Rattle.event_floor.proofs.lists.Lists.take.Goals as goal
 
 pub handle-counts-requires-clause-address : goal.handle-counts-requires-clause-address
 handle-counts-requires-clause-address c =
-    let there : c.args.b < length c.self.inside.desks.items = omega (arith, c.if-place-len.false, c.len.ensures, c.self.inside.desks.ok) in
+    let there = within _ _ _ _ c.if-place-len.false c.len.ensures c.self.inside.desks.ok.0 in
     let held : get_or c.self.inside.desks.items c.args.b no_desk ≡ Held c.in-Held.desk = desk_read _ _ _ _ there c.index_mut.ensures.value c.in-Held.is in
     let f = c.self.invariant in
     let seat = seated_at c.args.b c.in-Held.desk f there held in
@@ -17,7 +21,7 @@ handle-counts-requires-clause-address c =
 
 pub handle-counts-requires-clause-digits : goal.handle-counts-requires-clause-digits
 handle-counts-requires-clause-digits c =
-    let there : c.args.b < length c.self.inside.desks.items = omega (arith, c.if-place-len.false, c.len.ensures, c.self.inside.desks.ok) in
+    let there = within _ _ _ _ c.if-place-len.false c.len.ensures c.self.inside.desks.ok.0 in
     let held : get_or c.self.inside.desks.items c.args.b no_desk ≡ Held c.in-Held.desk = desk_read _ _ _ _ there c.index_mut.ensures.value c.in-Held.is in
     let f = c.self.invariant in
     let seat = seated_at c.args.b c.in-Held.desk f there held in
@@ -25,7 +29,7 @@ handle-counts-requires-clause-digits c =
 
 pub invariant_of-self-2 : goal.invariant_of-self-2
 invariant_of-self-2 c =
-    let there : c.args.b < length c.self.inside.desks.items = omega (arith, c.if-place-len.false, c.len.ensures, c.self.inside.desks.ok) in
+    let there = within _ _ _ _ c.if-place-len.false c.len.ensures c.self.inside.desks.ok.0 in
     let held : get_or c.self.inside.desks.items c.args.b no_desk ≡ Held c.in-Held.desk = desk_read _ _ _ _ there c.index_mut.ensures.value c.in-Held.is in
     let f = c.self.invariant in
     let seat = seated_at c.args.b c.in-Held.desk f there held in
@@ -38,8 +42,59 @@ invariant_of-self-2 c =
 
 pub returns-clause-does : goal.returns-clause-does
 returns-clause-does c =
-    let there : c.args.b < length c.self.inside.desks.items = omega (arith, c.if-place-len.false, c.len.ensures, c.self.inside.desks.ok) in
+    let there = within _ _ _ _ c.if-place-len.false c.len.ensures c.self.inside.desks.ok.0 in
     let held : get_or c.self.inside.desks.items c.args.b no_desk ≡ Held c.in-Held.desk = desk_read _ _ _ _ there c.index_mut.ensures.value c.in-Held.is in
-    let took = c.in-Some.ensures in
-    rw (← c.self.view_is) (rw took.same
-    (takes_front _ c.args.b c.in-Held.desk _ _ _ _ c.handle-counts.result (there, held) refl took.leaves c.handle-counts.ensures.parts c.handle-counts.ensures.counts))
+    takes_front _ _ c.args.b c.in-Held.desk _ _ _ c.handle-counts.result c.self.view_is (there, held) c.in-Some.ensures c.handle-counts.ensures.parts c.handle-counts.ensures.counts
+
+pub returns-then-place-len-clause-refuses : goal.returns-then-place-len-clause-refuses
+returns-then-place-len-clause-refuses c =
+    too_few _ _ c.args.b _ _ c.self.view_is c.if-place-len.true c.len.ensures c.self.inside.desks.ok.0
+
+pub index_mut-requires : goal.index_mut-requires
+index_mut-requires c =
+    subst (λ z. c.args.b < z) c.len.ensures c.if-place-len.false
+
+pub invariant_of-self : goal.invariant_of-self
+invariant_of-self c =
+    floor_kept c.args.b _ _ c.self.invariant c.index_mut.ensures.value refl
+
+pub returns-in_default-clause-refuses : goal.returns-in_default-clause-refuses
+returns-in_default-clause-refuses c =
+    let there = within _ _ _ _ c.if-place-len.false c.len.ensures c.self.inside.desks.ok.0 in
+    (c.in_default.field-0, is_idle _ _ c.args.b _ _ c.self.view_is there c.index_mut.ensures.value c.in_default.is)
+
+pub returns-in_default-clause-unchanged : goal.returns-in_default-clause-unchanged
+returns-in_default-clause-unchanged c =
+    view_kept _ _ c.args.b _ _ c.self.view_is c.index_mut.ensures.value refl
+
+pub returns-in_default-clause-desks : goal.returns-in_default-clause-desks
+returns-in_default-clause-desks c =
+    count_kept _ _ c.args.b c.index_mut.result.now c.self.view_is
+
+pub invariant_of-self-in_default-take : goal.invariant_of-self-in_default-take
+invariant_of-self-in_default-take c =
+    rw c.in_default-take.ensures.1 (floor_kept c.args.b _ _ c.self.invariant c.index_mut.ensures.value c.in-Held.is)
+
+pub returns-in_default-take-clause-refuses : goal.returns-in_default-take-clause-refuses
+returns-in_default-take-clause-refuses c =
+    let there = within _ _ _ _ c.if-place-len.false c.len.ensures c.self.inside.desks.ok.0 in
+    let held : get_or c.self.inside.desks.items c.args.b no_desk ≡ Held c.in-Held.desk = desk_read _ _ _ _ there c.index_mut.ensures.value c.in-Held.is in
+    subst (λ (v : FloorSeen). Refuses v (Take c.args.b) Nothing) c.self.view_is
+    ((c.in-Held.desk, (there, held)), c.in_default-take.ensures.0)
+
+pub returns-in_default-take-clause-unchanged : goal.returns-in_default-take-clause-unchanged
+returns-in_default-take-clause-unchanged c =
+    rw c.in_default-take.ensures.1 (view_kept _ _ c.args.b _ _ c.self.view_is c.index_mut.ensures.value c.in-Held.is)
+
+pub returns-in_default-take-clause-desks : goal.returns-in_default-take-clause-desks
+returns-in_default-take-clause-desks c =
+    count_kept _ _ c.args.b (Held c.in-Held.desk) c.self.view_is
+
+pub take-requires : goal.take-requires
+take-requires c =
+    let there = within _ _ _ _ c.if-place-len.false c.len.ensures c.self.inside.desks.ok.0 in
+    subst (λ z. c.args.b < z) (sym c.self.invariant.boxes) there
+
+pub returns-clause-desks : goal.returns-clause-desks
+returns-clause-desks c =
+    count_kept _ _ c.args.b (Held c.handle-counts.new.self) c.self.view_is

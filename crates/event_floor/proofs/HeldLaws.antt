@@ -1,0 +1,50 @@
+-- A desk that a request looks at, and puts back as it was.
+use Rattle.std.proofs.Common.{◌≡◌, ℕ, ◌<◌, ◌≤◌, List, get_or, set, length, sym, ap, ◌∙◌, subst}
+use Rattle.std.proofs.lemmas.List.{get_or_read, set-get_or, length-set}
+use Rattle.std.specs.Prelude.{Option, Result, Ok, Err, OnErr, Bool, true, IsTrue, false}
+use Rattle.slot_chain.specs.Buffer.{Buffer}
+use Rattle.digit_route.specs.Digits.{Scheme}
+use Rattle.pool_desk.specs.Desks.{IdleState, DeskState}
+use Rattle.event_floor.specs.declared.seat.Seat.{Seat}
+use Rattle.event_floor.specs.declared.seat.Seat.TheVariants.{Idle, Held}
+use Rattle.event_floor.specs.Posted.{Posted}
+use Rattle.event_floor.specs.Floors.{FloorSeen, desk_count, no_desk, with_seat, IsFloor, IsIdle, IsHeld}
+use Rattle.event_floor.proofs.FloorLaws.{desk_read}
+
+-- a number that was compared with a length
+pub within : (a n m k : ℕ) → a < n → n ≡ m → m ≡ k → a < k
+within a n m k l e f = subst (λ z. a < z) (e ∙ f) l
+
+pub too_few : (v w : FloorSeen) (a n m : ℕ) → v ≡ w → n ≤ a → n ≡ m → m ≡ desk_count v → desk_count w ≤ a
+too_few v w a n m same l e f = subst (λ (z : FloorSeen). desk_count z ≤ a) same (subst (λ z. z ≤ a) (e ∙ f) l)
+
+pub is_idle : (v w : FloorSeen) (a : ℕ) (x : Seat) (d : IdleState) → v ≡ w → a < desk_count v → x ≡ get_or v.desks a x → x ≡ Idle d → IsIdle w a d
+is_idle v w a x d same l read is = subst (λ (z : FloorSeen). IsIdle z a d) same (l, sym (get_or_read v.desks a x l read no_desk) ∙ is)
+
+pub is_held : (v w : FloorSeen) (a : ℕ) (x : Seat) (d : DeskState) → v ≡ w → a < desk_count v → x ≡ get_or v.desks a x → x ≡ Held d → IsHeld w a d
+is_held v w a x d same l read is = subst (λ (z : FloorSeen). IsHeld z a d) same (l, desk_read v.desks a x d l read is)
+
+-- the desk is put back as it was read
+pub put_back : (desks : List Seat) (a : ℕ) (x y : Seat) → x ≡ get_or desks a x → x ≡ y → set desks a y ≡ desks
+put_back desks a x y read is = ap (set desks a) (sym is ∙ read) ∙ set-get_or desks a x
+
+pub floor_kept : {digits : Scheme} {limit chunks : ℕ} {desks : List Seat} {lent : List (Option Buffer)} {inboxes : List (List Posted)} {next : ℕ} (a : ℕ) (x y : Seat)
+    → IsFloor digits limit chunks desks lent inboxes next → x ≡ get_or desks a x → x ≡ y → IsFloor digits limit chunks (set desks a y) lent inboxes next
+floor_kept {digits} {limit} {chunks} {desks} {lent} {inboxes} {next} a x y f read is =
+    subst (λ (z : List Seat). IsFloor digits limit chunks z lent inboxes next) (sym (put_back desks a x y read is)) f
+
+pub view_kept : (v w : FloorSeen) (a : ℕ) (x y : Seat) → v ≡ w → x ≡ get_or v.desks a x → x ≡ y → with_seat v a y ≡ w
+view_kept v w a x y same read is = ap (λ (z : List Seat). record v { desks = z }) (put_back v.desks a x y read is) ∙ same
+
+-- the desks stay as many
+pub count_kept : (v w : FloorSeen) (a : ℕ) (y : Seat) → v ≡ w → desk_count (with_seat v a y) ≡ desk_count w
+count_kept v w a y same = length-set v.desks a y ∙ ap (λ (z : FloorSeen). desk_count z) same
+
+-- a test that failed
+pub not_so : {P : Type 0} (test : Bool) → (P → IsTrue test) → test ≡ false → P → ⊥
+not_so test means failed p = let t : test ≡ true = means p in cc
+
+-- what holds, holds of a refusal
+pub on_err : {T E : Type 0} {P : Type 0} (r : Result T E) → P → OnErr r P
+on_err (Ok x) p = tt
+on_err (Err e) p = p

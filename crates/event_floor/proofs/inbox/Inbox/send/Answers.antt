@@ -1,0 +1,32 @@
+use Rattle.std.proofs.Common.{◌≡◌, ◌<◌, ◌∙◌, ◌++◌, ◌∷◌, [], All, ap, sym, subst}
+use Rattle.event_floor.specs.Posted.{Posted, NumbersRise, sent_as}
+use Rattle.event_floor.proofs.HeldLaws.{on_err}
+use Rattle.event_floor.proofs.RiseLaws.{rises_sent}
+use Rattle.event_floor.proofs.inbox.Inbox.send.Goals as goal
+
+pub invariant_of-self : goal.invariant_of-self
+invariant_of-self c = subst (λ z. NumbersRise z) (sym c.in_err-try_reserve.ensures.items) c.self.invariant
+
+pub returns-in_err-try_reserve-clause-refused : goal.returns-in_err-try_reserve-clause-refused
+returns-in_err-try_reserve-clause-refused c = on_err c.from_residual.result (c.in_err-try_reserve.ensures.items ∙ c.self.view_is)
+
+pub invariant_of-self-in-Ok : goal.invariant_of-self-in-Ok
+invariant_of-self-in-Ok c =
+    let p = sent_as c.args.number c.in-Ok.batch in
+    let posted : c.push_back_reserved.new.self.items ≡ c.self.inside.batches.items ++ p ∷ [] =
+    c.push_back_reserved.ensures.items ∙ (ap (λ z. z ++ c.new.result ∷ []) c.in_ok-try_reserve.ensures.items ∙ ap (λ (z : Posted). c.self.inside.batches.items ++ z ∷ []) c.new.ensures) in
+    subst (λ z. NumbersRise z) (sym posted)
+    (rises_sent c.self.inside.batches.items p c.self.invariant (subst (λ z. All (λ (q : Posted). q.number < c.args.number) z) (sym c.self.view_is) c.requires.later))
+
+pub returns-clause-sends : goal.returns-clause-sends
+returns-clause-sends c =
+    let batch = c.in-Ok.ensures in
+    record {
+      batch = c.in-Ok.batch;
+      address = batch.value.1;
+      gives = batch.value.2;
+      same_desk = batch.same;
+      counted = c.len-count.ensures;
+      posted = c.push_back_reserved.ensures.items
+          ∙ (ap (λ z. z ++ c.new.result ∷ []) (c.in_ok-try_reserve.ensures.items ∙ c.self.view_is) ∙ ap (λ (z : Posted). c.args.self.now ++ z ∷ []) c.new.ensures);
+    }

@@ -1,0 +1,38 @@
+use Rattle.std.proofs.Common.{◌≡◌, ◌<◌, subst, inr, sym, length}
+use Rattle.event_floor.specs.Floors.{FloorSeen}
+use Rattle.event_floor.specs.Steps.{Refuses}
+use Rattle.event_floor.specs.declared.refusal.Refusal.TheVariants.{Unsettled}
+use Rattle.event_floor.specs.declared.request.Request.TheVariants.{Retire}
+use Rattle.event_floor.proofs.FloorLaws.{floor_settled, floor_seat, seated_read, desk_read}
+use Rattle.event_floor.proofs.SeatLaws.{release_seated}
+use Rattle.event_floor.proofs.HeldLaws.{within, too_few, is_idle, count_kept}
+use Rattle.event_floor.proofs.lists.Lists.retire.Goals as goal
+
+pub returns-then-place-len-clause-refuses : goal.returns-then-place-len-clause-refuses
+returns-then-place-len-clause-refuses c = too_few _ _ c.args.a _ _ c.self.view_is c.if-place-len.true c.len.ensures c.self.inside.desks.ok.0
+
+pub returns-in-Idle-clause-refuses : goal.returns-in-Idle-clause-refuses
+returns-in-Idle-clause-refuses c =
+    let there = within _ _ _ _ c.if-place-len.false c.len.ensures c.self.inside.desks.ok.0 in
+    (c.in-Idle.field-0, is_idle _ _ c.args.a _ _ c.self.view_is there c.index.ensures c.in-Idle.is)
+
+pub has_half_of-requires : goal.has_half_of-requires
+has_half_of-requires c =
+    let there = within _ _ _ _ c.if-place-len.false c.len.ensures c.self.inside.desks.ok.0 in
+    subst (λ z. c.args.a < z) (sym c.self.invariant.boxes) there
+
+pub returns-then-has_half_of-clause-refuses : goal.returns-then-has_half_of-clause-refuses
+returns-then-has_half_of-clause-refuses c =
+    let there = within _ _ _ _ c.if-place-len.false c.len.ensures c.self.inside.desks.ok.0 in
+    subst (λ (v : FloorSeen). Refuses v (Retire c.args.a) Unsettled) c.self.view_is
+    (c.in_default.field-0, (there, desk_read _ _ _ _ there c.index.ensures c.in_default.is), inr c.if-has_half_of.ensures)
+
+pub invariant_of-self : goal.invariant_of-self
+invariant_of-self c =
+    let there = within _ _ _ _ c.if-place-len.false c.len.ensures c.self.inside.desks.ok.0 in
+    let f = c.self.invariant in
+    floor_settled (floor_seat c.args.a _ f there
+    (release_seated _ _ _ _ _ c.index_mut.result.now c.release.new.seat c.release.result (seated_read c.args.a _ f there c.index_mut.ensures.value) c.release.ensures))
+
+pub returns-clause-desks : goal.returns-clause-desks
+returns-clause-desks c = count_kept _ _ c.args.a c.release.new.seat c.self.view_is
