@@ -1,15 +1,18 @@
 -- What writes and reads do to known bytes.
-use Rattle.std.proofs.Common.{◌≡◌, ℕ, ◌+◌, ◌<◌, ◌≤◌, List, [], ◌++◌, length, ◌∙◌, ap, append_assoc, take, drop, Option, sym, subst, arith, length-drop, append-nil, Bool, true, false}
+use Rattle.std.proofs.Common.{◌≡◌, ◌⊎◌, inl, inr, ℕ, ◌+◌, ◌<◌, ◌≤◌, List, [], ◌++◌, length, ◌∙◌, ap, append_assoc, take, drop, Option, sym, subst, arith, length-drop, append-nil, Bool, true, false}
 use Rattle.std.proofs.lemmas.List.{take-append-drop}
 use Rattle.std.proofs.Math.Seq.{take-add}
-use Rattle.std.specs.Io.KnownBytes.{Appends, Keeps, Consumes}
+use Rattle.std.specs.Io.KnownBytes.{Appends, Keeps, Consumes, IsAtEnd}
 use Rattle.std.proofs.KnownBytes.{Appends-nil, Appends-trans, Appends-kept, Consumes-nil, Consumes-trans, Consumes-kept}
 use Rattle.std.proofs.Common.{◌||◌, ◌&&◌, ◌==◌, not, ◌-◌}
 use Rattle.std.proofs.lemmas.Bool.Decides.{nat_tests}
 use Rattle.std.proofs.lemmas.List.{take_rest}
 use Rattle.trace_audit.specs.Grammar.{Lacks}
 use Rattle.trace_audit.specs.Replay.{IsPartial}
+use Rattle.trace_audit.specs.Steps.{Took}
 use Rattle.trace_audit.specs.Wire.{Begins}
+use Rattle.trace_audit.specs.declared.lines.Next.{Next}
+use Rattle.trace_audit.specs.declared.lines.Next.TheVariants.{Over, Bad}
 
 pub appends_kept : (a b : Option (List ℕ)) → Keeps a b → Appends a b []
 appends_kept a b h = Appends-kept a a b [] (Appends-nil a) h
@@ -50,4 +53,20 @@ read_fails left0 left left' held0 held mid held' given h e same lacks few k f = 
   Consumes-kept left0 left left' given h k,
   f ∙ (same ∙ e),
   (subst (λ (w : List ℕ). Lacks 10 w) (sym (f ∙ same)) lacks, subst (λ (w : List ℕ). length w ≤ 64) (sym f) few),
+)
+
+-- nothing is left to read
+pub read_over : (left0 left left' : Option (List ℕ)) (held0 held mid held' given : List ℕ) (next : Next) → Consumes left0 left given → held ≡ held0 ++ given → mid ≡ held → Lacks 10 held
+    → Consumes left left' [] → IsAtEnd left' → held' ≡ mid → ((next ≡ Over) × (held' ≡ [])) ⊎ ((next ≡ Bad) × (0 < length held'))
+    → (all : List ℕ) × Consumes left0 left' all × Took (held0 ++ all) held' (IsAtEnd left') next
+read_over left0 left left' held0 held mid held' given next h e same lacks k ends f (inl (is, none)) = (
+  given,
+  subst (λ (w : List ℕ). Consumes left0 left' w) (append-nil given) (Consumes-trans left0 left left' given [] h k),
+  subst (λ (n : Next). Took (held0 ++ given) held' (IsAtEnd left') n) (sym is) (sym e ∙ (sym same ∙ (sym f ∙ none)), none, ends),
+)
+read_over left0 left left' held0 held mid held' given next h e same lacks k ends f (inr (is, some)) = (
+  given,
+  subst (λ (w : List ℕ). Consumes left0 left' w) (append-nil given) (Consumes-trans left0 left left' given [] h k),
+  subst (λ (n : Next). Took (held0 ++ given) held' (IsAtEnd left') n) (sym is)
+      (sym e ∙ (sym same ∙ sym f), subst (λ (w : List ℕ). Lacks 10 w) (sym (f ∙ same)) lacks, inr (some, ends)),
 )

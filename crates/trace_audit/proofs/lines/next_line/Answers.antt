@@ -1,8 +1,9 @@
-use Rattle.std.proofs.Common.{◌≤◌, ℕ, List, inl, subst, length, sym, ◌∙◌, arith, rules}
+use Rattle.std.proofs.Common.{◌≤◌, ℕ, List, inl, inr, subst, length, sym, ◌∙◌, arith, rules}
 use Rattle.std.proofs.lemmas.Grind.{common_steps}
 use Rattle.trace_audit.specs.Grammar.{Lacks}
-use Rattle.trace_audit.proofs.Bytes.{read_more, read_fails}
+use Rattle.trace_audit.proofs.Bytes.{read_more, read_fails, read_over}
 use Rattle.trace_audit.proofs.lines.next_line.Goals as goal
+use Rattle.trace_audit.proofs.lines.next_line.Goals.{then-is_empty, else-is_empty}
 
 pub reading-preserved : goal.reading-preserved
 reading-preserved g c =
@@ -20,6 +21,17 @@ returns-then-is_full-clause-ok g c =
     let i = c.reading.invariant.0 in
     let none = c.in_default.ensures.none in
     (i.0, i.1, (sym (none.0 ∙ i.2), subst (λ (w : List ℕ). Lacks 10 w) (sym none.0) none.1, inl (grind (arith, common_steps))))
+
+pub returns-in-Ok-false-clause-ok : goal.returns-in-Ok-false-clause-ok
+returns-in-Ok-false-clause-ok g c =
+    let i = c.reading.invariant.0 in
+    let none = c.in_default.ensures.none in
+    let h = c.in-Ok-false.ensures.end c.in-Ok-false.field-0-test in
+    read_over _ _ _ c.args.held.now.items c.reading.held.items c.take_line.new.held.items c.refill.new.held.items i.0 c.if-is_empty.result i.1 i.2 none.0 none.1 h.0 h.1 h.2
+    (elim c.if-is_empty.branch [ then-is_empty w ↦ inl (w.result-is, grind (arith, common_steps)) | else-is_empty w ↦ inr (w.result-is, grind (arith, common_steps)) ])
+
+pub reading-smaller : goal.reading-smaller
+reading-smaller g c = grind (arith, common_steps)
 
 pub returns-in-Err-clause-err : goal.returns-in-Err-clause-err
 returns-in-Err-clause-err g c =

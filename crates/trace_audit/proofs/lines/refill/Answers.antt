@@ -15,3 +15,9 @@ returns-in-Ok-clause-more g c = λ z. (take c.in-Ok.count c.read.new.piece, grin
 
 pub returns-in-Err-clause-err : goal.returns-in-Err-clause-err
 returns-in-Err-clause-err g c = (search rules, c.in-Err.ensures.bytes, refl)
+
+pub hold-requires : goal.hold-requires
+hold-requires g c = grind (arith, common_steps)
+
+pub slice_bounds-piece-end-in-Ok : goal.slice_bounds-piece-end-in-Ok
+slice_bounds-piece-end-in-Ok g c = grind (arith, common_steps)
