@@ -1,4 +1,4 @@
-use Rattle.std.proofs.Common.{length, ◌≤◌, ◌≡◌, ℕ, zero, suc, ◌<◌, ◌==◌, List, [], ◌∷◌, ◌++◌, Option, Some, None, IfSome, IfNone, refl, sym, ◌∙◌, ap, ap₂, subst, arith, Bool, true, false, cond, decimal}
+use Rattle.std.proofs.Common.{length, ◌≤◌, ◌≡◌, ℕ, zero, suc, ◌<◌, ◌==◌, List, [], ◌∷◌, ◌++◌, Option, Some, None, IfSome, IfNone, refl, sym, ◌∙◌, ap, ap₂, arith, Bool, true, false, cond, decimal}
 use Rattle.std.proofs.lemmas.Bool.Decides.{nat_tests}
 use Rattle.trace_audit.specs.Grammar.{IsWord, Lacks, pair, verb_text, verb_of, words_of, spelling, IsRequest, profile_text, header_text, header_words, AreWords, IsHeader, desks_of}
 use Rattle.region_cut.specs.declared.profile.Profile.{Profile}
