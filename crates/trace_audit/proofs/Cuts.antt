@@ -1,4 +1,4 @@
-use Rattle.std.proofs.Common.{length, ◌≤◌, ◌≡◌, ℕ, zero, suc, ◌<◌, ◌==◌, List, [], ◌∷◌, ◌++◌, Option, Some, None, refl, sym, ◌∙◌, ap, subst, arith, Bool, true, false, cond, decimal}
+use Rattle.std.proofs.Common.{length, ◌≤◌, ◌≡◌, ℕ, zero, suc, ◌<◌, ◌==◌, List, [], ◌∷◌, ◌++◌, Option, Some, None, IfSome, IfNone, refl, sym, ◌∙◌, ap, ap₂, arith, Bool, true, false, cond, decimal}
 use Rattle.std.proofs.lemmas.Bool.Decides.{nat_tests}
 use Rattle.trace_audit.specs.Grammar.{IsWord, Lacks, pair, verb_text, verb_of, words_of, spelling, IsRequest, profile_text, header_text, header_words, AreWords, IsHeader, desks_of}
 use Rattle.region_cut.specs.declared.profile.Profile.{Profile}
@@ -107,20 +107,9 @@ words_fit (Send a b) h = (a, b, h.0, h.1, refl)
 words_fit (Link a) h = (a, h, refl)
 words_fit (Take a) h = (a, h, refl)
 
--- a line that spells a request has good words behind its verb
-pub line_has : (line word rest : List ℕ) (v : Verb) → line ≡ word ++ 32 ∷ rest → Lacks 32 word → word ≡ verb_text v → (r : Request) → IsRequest r → line ≡ spelling r → HasWords v rest
-line_has line word rest v e h is r fits spelled =
-    let both = line_cut line word rest r e h spelled in
-    let same : v ≡ verb_of r = same_verb v (verb_of r) (sym is ∙ both.0) in
-    rw (same, both.1) (words_fit r fits)
-
-pub three_cut : (rest front slot : List ℕ) → rest ≡ front ++ 32 ∷ slot → Lacks 32 front → HasThree rest → HasOne front × HasTwo 46 slot
-three_cut rest front slot e h (a, s, fits, two, is) =
-    let both = cut_once 32 front slot (decimal a) s h (decimal_lacks 32 a (omega arith) fits) (sym e ∙ is) in
-    ((a, fits, both.0), rw both.1 two)
-
-pub at_verb : (v w : Verb) (rest : List ℕ) → v ≡ w → HasWords v rest → HasWords w rest
-at_verb v w rest e h = subst (λ (x : Verb). HasWords x rest) e h
+pub free_cut : (words front back : List ℕ) → words ≡ front ++ 32 ∷ back → Lacks 32 front → (a : ℕ) (s : ℕ × ℕ) → IsRequest (Free a s) → words ≡ words_of (Free a s)
+    → (front ≡ decimal a) × (back ≡ pair 46 s.0 s.1)
+free_cut words front back e h a s fits is = cut_once 32 front back (decimal a) (pair 46 s.0 s.1) h (decimal_lacks 32 a (omega arith) fits.0) (sym e ∙ is)
 
 pub header_cut : (bytes front back : List ℕ) (h : Header) → bytes ≡ front ++ 32 ∷ back → Lacks 32 front → AreWords h → bytes ≡ header_words h → (front ≡ decimal h.desks) × (back ≡ pair 32 h.chunks h.width)
 header_cut bytes front back h e lacks fits is = cut_once 32 front back (decimal h.desks) (pair 32 h.chunks h.width) lacks (decimal_lacks 32 h.desks (omega arith) fits.0) (sym e ∙ is)
@@ -162,3 +151,33 @@ same_profile Pool2 Pool2 e = refl
 
 pub header_line_cut : (line word rest : List ℕ) (h : Header) → line ≡ word ++ 32 ∷ rest → Lacks 32 word → line ≡ header_text h → (word ≡ profile_text h.profile) × (rest ≡ header_words h)
 header_line_cut line word rest h e lacks is = cut_once 32 word rest (profile_text h.profile) (header_words h) lacks (profile_lacks h.profile) (sym e ∙ is)
+
+-- ---- what a reader of verbs and words answers
+
+-- a word that is none of these is no verb
+pub no_verb : (word : List ℕ) → (word ≡ verb_text Adopts → ⊥) → (word ≡ verb_text Retires → ⊥) → (word ≡ verb_text Claims → ⊥) → (word ≡ verb_text Allocs → ⊥)
+    → (word ≡ verb_text Frees → ⊥) → (word ≡ verb_text Sends → ⊥) → (word ≡ verb_text Links → ⊥) → (word ≡ verb_text Takes → ⊥) → (v : Verb) → word ≡ verb_text v → ⊥
+no_verb word a r c l f s k t Adopts e = a e
+no_verb word a r c l f s k t Retires e = r e
+no_verb word a r c l f s k t Claims e = c e
+no_verb word a r c l f s k t Allocs e = l e
+no_verb word a r c l f s k t Frees e = f e
+no_verb word a r c l f s k t Sends e = s e
+no_verb word a r c l f s k t Links e = k e
+no_verb word a r c l f s k t Takes e = t e
+
+-- the words of a request of the verb
+pub has_words : (words : List ℕ) (v : Verb) (r : Request) → IsRequest r → verb_of r ≡ v → words ≡ words_of r → HasWords v words
+has_words words v r fits same is = rw (sym same, is) (words_fit r fits)
+
+pub read_found : (line word rest : List ℕ) (v : Verb) (o : Option Request) → line ≡ word ++ 32 ∷ rest → word ≡ verb_text v
+    → IfSome o (λ r. IsRequest r × (verb_of r ≡ v) × (rest ≡ words_of r)) → IfSome o (λ r. IsRequest r × (line ≡ spelling r))
+read_found line word rest v None e is h = tt
+read_found line word rest v (Some r) e is h = (h.0, e ∙ ap₂ (λ (a b : List ℕ). a ++ 32 ∷ b) (is ∙ ap verb_text (sym h.1)) h.2)
+
+pub read_none : (line word rest : List ℕ) (v : Verb) (o : Option Request) → line ≡ word ++ 32 ∷ rest → Lacks 32 word → word ≡ verb_text v
+    → IfNone o ((r : Request) → IsRequest r → verb_of r ≡ v → rest ≡ words_of r → ⊥) → IfNone o ((r : Request) → IsRequest r → line ≡ spelling r → ⊥)
+read_none line word rest v (Some r) e lacks is h = tt
+read_none line word rest v None e lacks is h = λ r fits spelled.
+    let both = line_cut line word rest r e lacks spelled in
+    h r fits (sym (same_verb v (verb_of r) (sym is ∙ both.0))) both.1

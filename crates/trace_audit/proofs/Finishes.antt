@@ -9,7 +9,7 @@ use Rattle.trace_audit.specs.Grammar.{IsHeader}
 use Rattle.trace_audit.specs.Machine.{Opens, opening_of, told}
 use Rattle.trace_audit.specs.Replay.{EndsSo, tail_text, audit_lines, with_audit}
 use Rattle.trace_audit.specs.Report.{Verdict, no_memory_line}
-use Rattle.trace_audit.specs.Steps.{Driven, IsTold, IsAsked, Finishes, Houses, FailsHousing}
+use Rattle.trace_audit.specs.Steps.{Driven, IsTold, IsAsked, Finishes, Settles, FailsSettling, Houses, FailsHousing}
 use Rattle.trace_audit.specs.Wire.{Begins}
 use Rattle.trace_audit.specs.declared.grammar.header.Header.{Header}
 use Rattle.trace_audit.specs.declared.replaying.ending.End.{End}
@@ -41,40 +41,47 @@ not_closed audits failed floor end old new h up =
 
 -- ---- a floor that was driven
 
--- it shows a pool
-pub driven_shows : RunsKeepNumbers → (left0 left out0 out : Option (List ℕ)) (h : Header) (held0 : List ℕ) (start now : FloorSeen) (end : End)
-    → IsHeader h → Opens h start → Driven left0 left held0 start now out0 out end → ShowsPool now
-driven_shows numbers left0 left out0 out h held0 start now end fits opens (n, rest, p, ends) =
-    let r = p.run (opening_of h) (λ s. 0) opens in
-    let kept = numbers p.requests p.answers (opening_of h) r.0 r.2 in
+-- it shows a pool at first
+pub opened_shows : (h : Header) (start : FloorSeen) → IsHeader h → Opens h start → ShowsPool start
+opened_shows h start fits opens = record {
+  state = opening_of h;
+  passed = λ s. 0;
+  shown = opens;
+  few_chunks = subst (λ n. n ≤ 1024) (sym opens.frame.chunks) fits.few_chunks;
+}
+
+-- and afterwards
+pub driven_shows : RunsKeepNumbers → (left0 left out0 out : Option (List ℕ)) (held0 : List ℕ) (start now : FloorSeen) (end : End)
+    → ShowsPool start → Driven left0 left held0 start now out0 out end → ShowsPool now
+driven_shows numbers left0 left out0 out held0 start now end shows (n, rest, p, ends) =
+    let r = p.run shows.state shows.passed shows.shown in
+    let kept = numbers p.requests p.answers shows.state r.0 r.2 in
     record {
       state = r.0;
       passed = r.1;
       shown = r.3;
-      few_chunks = subst (λ n. n ≤ 1024) (sym (r.3.frame.chunks ∙ kept.chunks)) fits.few_chunks;
+      few_chunks = subst (λ n. n ≤ 1024) (sym (r.3.frame.chunks ∙ (kept.chunks ∙ sym shows.shown.frame.chunks))) shows.few_chunks;
     }
 
 -- P holds of the report, with the audit behind it
-driven_houses : (left0 left out0 out : Option (List ℕ)) (h : Header) (held0 : List ℕ) (start now : FloorSeen) (end : End) (P : List ℕ → Type 0) → Opens h start
-    → Driven left0 left held0 start now out0 out end → ((text : List ℕ) → Appends out0 out text → P (text ++ tail_text (told now) end)) → Houses left0 left held0 h P end
-driven_houses left0 left out0 out h held0 start now end P opens (n, rest, p, ends) wrote = inl (
-  start,
+driven_settles : (left0 left out0 out : Option (List ℕ)) (held0 : List ℕ) (start now : FloorSeen) (end : End) (P : List ℕ → Type 0)
+    → Driven left0 left held0 start now out0 out end → ((text : List ℕ) → Appends out0 out text → P (text ++ tail_text (told now) end)) → Settles left0 left held0 start P end
+driven_settles left0 left out0 out held0 start now end P (n, rest, p, ends) wrote = (
   now,
   n,
   rest,
-  opens,
   played_tail left0 left left held0 rest rest start now now n (tail_text (told now) end) (Appends out0 out) P p [] (Consumes-nil left) (append-nil rest) refl wrote,
   ends,
 )
 
-pub finished : (audits failed : Bool) (left0 left out0 out out' : Option (List ℕ)) (h : Header) (held0 : List ℕ) (start now : FloorSeen) (end : End) (r : Result (End × Option Verdict) ReplayError)
-    → Opens h start → Driven left0 left held0 start now out0 out end → Finishes audits now end out out' failed r → IfOk r (λ x. Houses left0 left held0 h (with_audit x.1 (Appends out0 out')) x.0)
-finished audits failed left0 left out0 out out' h held0 start now end (Ok x) opens d (is, down, t, wrote) =
-    subst (λ (e : End). Houses left0 left held0 h (with_audit x.1 (Appends out0 out')) e) (sym is)
-    (driven_houses left0 left out0 out h held0 start now end (with_audit x.1 (Appends out0 out')) opens d
+pub finished : (audits failed : Bool) (left0 left out0 out out' : Option (List ℕ)) (held0 : List ℕ) (start now : FloorSeen) (end : End) (r : Result (End × Option Verdict) ReplayError)
+    → Driven left0 left held0 start now out0 out end → Finishes audits now end out out' failed r → IfOk r (λ x. Settles left0 left held0 start (with_audit x.1 (Appends out0 out')) x.0)
+finished audits failed left0 left out0 out out' held0 start now end (Ok x) d (is, down, t, wrote) =
+    subst (λ (e : End). Settles left0 left held0 start (with_audit x.1 (Appends out0 out')) e) (sym is)
+    (driven_settles left0 left out0 out held0 start now end (with_audit x.1 (Appends out0 out')) d
     (λ text k. subst (λ (w : List ℕ). Appends out0 out' w) (sym (append_assoc text (tail_text (told now) end) (audit_lines x.1)))
     (Appends-trans out0 out out' text (tail_text (told now) end ++ audit_lines x.1) k wrote)))
-finished audits failed left0 left out0 out out' h held0 start now end (Err e) opens d f = tt
+finished audits failed left0 left out0 out out' held0 start now end (Err e) d f = tt
 
 pub finished_asked : (audits failed : Bool) (left0 left out0 out out' : Option (List ℕ)) (held0 : List ℕ) (start now : FloorSeen) (end : End) (r : Result (End × Option Verdict) ReplayError)
     → Driven left0 left held0 start now out0 out end → Finishes audits now end out out' failed r → IfOk r (λ x. IsAsked audits x.0 x.1)
@@ -86,18 +93,32 @@ driven_asked : (audits : Bool) (left0 left out0 out : Option (List ℕ)) (held0 
     → Driven left0 left held0 start now out0 out end → IsTold audits audit → IsAsked audits end audit
 driven_asked audits left0 left out0 out held0 start now end audit (n, rest, p, ends) t = asked audits n rest (IsAtEnd left) end audit ends t
 
-pub unfinished : (audits failed : Bool) (left0 left out0 out out' : Option (List ℕ)) (h : Header) (held0 : List ℕ) (start now : FloorSeen) (end : End) (r : Result (End × Option Verdict) ReplayError)
-    → Opens h start → Driven left0 left held0 start now out0 out end → Finishes audits now end out out' failed r → IfErr r (λ e. FailsHousing audits left0 left held0 h out0 out' e)
-unfinished audits failed left0 left out0 out out' h held0 start now end (Ok x) opens d f = tt
-unfinished audits failed left0 left out0 out out' h held0 start now end (Err e) opens d (is, up, audit, t, wrote) = inr (
+pub unfinished : (audits failed : Bool) (left0 left out0 out out' : Option (List ℕ)) (held0 : List ℕ) (start now : FloorSeen) (end : End) (r : Result (End × Option Verdict) ReplayError)
+    → Driven left0 left held0 start now out0 out end → Finishes audits now end out out' failed r → IfErr r (λ e. FailsSettling audits left0 left held0 start out0 out' e)
+unfinished audits failed left0 left out0 out out' held0 start now end (Ok x) d f = tt
+unfinished audits failed left0 left out0 out out' held0 start now end (Err e) d (is, up, audit, t, wrote) = inr (
   is,
   end,
   audit,
   driven_asked audits left0 left out0 out held0 start now end audit d t,
-  driven_houses left0 left out0 out h held0 start now end (with_audit audit (Begins out0 out')) opens d
+  driven_settles left0 left out0 out held0 start now end (with_audit audit (Begins out0 out')) d
       (λ text k. subst (λ (w : List ℕ). Begins out0 out' w) (sym (append_assoc text (tail_text (told now) end) (audit_lines audit)))
       (begins_more out0 out out' text (tail_text (told now) end ++ audit_lines audit) k wrote)),
 )
+
+-- the floor was one of the header
+
+pub housed : (left0 left out0 out : Option (List ℕ)) (h : Header) (held0 : List ℕ) (start : FloorSeen) (r : Result (End × Option Verdict) ReplayError) → Opens h start
+    → IfOk r (λ x. Settles left0 left held0 start (with_audit x.1 (Appends out0 out)) x.0) → IfOk r (λ x. Houses left0 left held0 h (with_audit x.1 (Appends out0 out)) x.0)
+housed left0 left out0 out h held0 start (Ok x) opens (now, n, rest, p, ends) = inl (start, now, n, rest, opens, p, ends)
+housed left0 left out0 out h held0 start (Err e) opens f = tt
+
+pub not_housed : (audits : Bool) (left0 left out0 out : Option (List ℕ)) (h : Header) (held0 : List ℕ) (start : FloorSeen) (r : Result (End × Option Verdict) ReplayError) → Opens h start
+    → IfErr r (λ e. FailsSettling audits left0 left held0 start out0 out e) → IfErr r (λ e. FailsHousing audits left0 left held0 h out0 out e)
+not_housed audits left0 left out0 out h held0 start (Ok x) opens f = tt
+not_housed audits left0 left out0 out h held0 start (Err e) opens (inl stopped) = inl (start, opens, stopped)
+not_housed audits left0 left out0 out h held0 start (Err e) opens (inr (is, end, audit, told, (now, n, rest, p, ends))) =
+    inr (is, end, audit, told, inl (start, now, n, rest, opens, p, ends))
 
 -- there is no room: one line was written, or a beginning of it
 

@@ -93,6 +93,17 @@ Finishes audits floor end old new failed (Ok r) = (r.0 ≡ end) × (failed ≡ f
 Finishes audits floor end old new failed (Err e) =
     (e ≡ Write) × (failed ≡ true) × (audit : Option Verdict) × IsTold audits audit × Begins old new (tail_text (told floor) end ++ audit_lines audit)
 
+-- the floor was driven to the end of the trace, and P holds of the report
+abbrev pub Settles : Option (List ℕ) → Option (List ℕ) → List ℕ → FloorSeen → (List ℕ → Type 0) → End → Type 0
+Settles left0 left held0 start P end = (now : FloorSeen) × (n : ℕ) × (rest : List ℕ)
+    × Played left0 left held0 rest start now n (tail_text (told now) end) P × EndsSo n rest (IsAtEnd left) end
+
+-- the reader or the writer failed within the request lines, or the writer behind them
+abbrev pub FailsSettling : Bool → Option (List ℕ) → Option (List ℕ) → List ℕ → FloorSeen → Option (List ℕ) → Option (List ℕ) → ReplayError → Type 0
+FailsSettling audits left0 left held0 start out0 out e =
+    Stopped left0 left held0 start out0 out e
+    ⊎ ((e ≡ Write) × (end : End) × (audit : Option Verdict) × IsAsked audits end audit × Settles left0 left held0 start (with_audit audit (Begins out0 out)) end)
+
 -- A floor of the header was driven to the end, and P holds of the report; or there is no room for one, and P holds of the one line.
 abbrev pub Houses : Option (List ℕ) → Option (List ℕ) → List ℕ → Header → (List ℕ → Type 0) → End → Type 0
 Houses left0 left held0 h P end =

@@ -28,12 +28,20 @@ pub enum Next {
     Bad,
 }
 
+/// Adds the bytes.
+fn hold(held: &mut Held, bytes: &[u8])
+    requires { array_vec_len held.old + length bytes.now ≤ 65 }
+    ensures { held.new.items ≡ held.old.items ++ bytes.now }
+{
+    let _ = held.try_extend_from_slice(bytes);
+}
+
 fn copied(bytes: &[u8]) -> Held
     requires { length bytes.now ≤ 65 }
     ensures { result.items ≡ bytes.now }
 {
     let mut held = Held::new();
-    let _ = held.try_extend_from_slice(bytes);
+    hold(&mut held, bytes);
     held
 }
 
@@ -68,7 +76,7 @@ fn refill<R: Source>(held: &mut Held, reader: &mut R) -> Result<bool, Failed>
     match reader.read(&mut piece[..room]) {
         Ok(0) => Ok(false),
         Ok(count) => {
-            let _ = held.try_extend_from_slice(&piece[..count]);
+            hold(held, &piece[..count]);
             Ok(true)
         }
         Err(failed) => Err(failed),

@@ -1,10 +1,10 @@
 //! The request lines.
-ghost use Rattle.std.specs.Prelude.{◌≡◌, IfSome, IfNone};
+ghost use Rattle.std.specs.Prelude.{◌≡◌, ℕ, IfSome, IfNone};
 ghost use Rattle.event_floor.specs.declared.request.Request.{Request};
 ghost use Rattle.trace_audit.specs.declared.grammar.request.Verb.{Verb};
-ghost use Rattle.trace_audit.specs.Grammar.{verb_text, spelling, IsRequest};
+ghost use Rattle.trace_audit.specs.Grammar.{verb_text, verb_of, words_of, spelling, IsRequest};
 
-use super::words::{cut_at, number, two};
+use super::words::{cut_at, number, spells, two};
 use event_floor::Request;
 
 /// The first word of a request line.
@@ -24,16 +24,82 @@ fn read_verb(word: &[u8]) -> Option<Verb>
     ensures found { IfSome result (λ v. word.now ≡ verb_text v) }
     ensures none { IfNone result ((v : Verb) → word.now ≡ verb_text v → ⊥) }
 {
-    match word {
-        b"adopt" => Some(Verb::Adopts),
-        b"retire" => Some(Verb::Retires),
-        b"claim" => Some(Verb::Claims),
-        b"alloc" => Some(Verb::Allocs),
-        b"free" => Some(Verb::Frees),
-        b"send" => Some(Verb::Sends),
-        b"link" => Some(Verb::Links),
-        b"take" => Some(Verb::Takes),
-        _ => None,
+    if spells(word, b"adopt") {
+        return Some(Verb::Adopts);
+    }
+    if spells(word, b"retire") {
+        return Some(Verb::Retires);
+    }
+    if spells(word, b"claim") {
+        return Some(Verb::Claims);
+    }
+    if spells(word, b"alloc") {
+        return Some(Verb::Allocs);
+    }
+    if spells(word, b"free") {
+        return Some(Verb::Frees);
+    }
+    if spells(word, b"send") {
+        return Some(Verb::Sends);
+    }
+    if spells(word, b"link") {
+        return Some(Verb::Links);
+    }
+    if spells(word, b"take") {
+        return Some(Verb::Takes);
+    }
+    None
+}
+
+/// The desk and the slot of a request to free, as `7 0.3`.
+fn freed(words: &[u8]) -> Option<(u32, (u32, u32))>
+    ensures found { IfSome result (λ f. IsRequest (Request.Free f.0 f.1) × (words.now ≡ words_of (Request.Free f.0 f.1))) }
+    ensures none { IfNone result ((a : ℕ) (s : ℕ × ℕ) → IsRequest (Request.Free a s) → words.now ≡ words_of (Request.Free a s) → ⊥) }
+{
+    let (front, back) = cut_at(words, b' ')?;
+    let desk = number(front)?;
+    let slot = two(back, b'.')?;
+    Some((desk, slot))
+}
+
+/// The request of this verb that the words behind it spell.
+fn request_of(verb: Verb, words: &[u8]) -> Option<Request>
+    ensures found { IfSome result (λ r. IsRequest r × (verb_of r ≡ verb) × (words.now ≡ words_of r)) }
+    ensures none { IfNone result ((r : Request) → IsRequest r → verb_of r ≡ verb → words.now ≡ words_of r → ⊥) }
+{
+    match verb {
+        Verb::Adopts => {
+            let (desk, worker) = two(words, b' ')?;
+            Some(Request::Adopt(desk, worker))
+        }
+        Verb::Retires => {
+            let desk = number(words)?;
+            Some(Request::Retire(desk))
+        }
+        Verb::Claims => {
+            let (desk, class) = two(words, b' ')?;
+            Some(Request::Claim(desk, class))
+        }
+        Verb::Allocs => {
+            let (desk, size) = two(words, b' ')?;
+            Some(Request::Alloc(desk, size))
+        }
+        Verb::Frees => {
+            let (desk, slot) = freed(words)?;
+            Some(Request::Free(desk, slot))
+        }
+        Verb::Sends => {
+            let (desk, to) = two(words, b' ')?;
+            Some(Request::Send(desk, to))
+        }
+        Verb::Links => {
+            let batch = number(words)?;
+            Some(Request::Link(batch))
+        }
+        Verb::Takes => {
+            let desk = number(words)?;
+            Some(Request::Take(desk))
+        }
     }
 }
 
@@ -44,40 +110,5 @@ pub fn read_request(line: &[u8]) -> Option<Request>
 {
     let (word, rest) = cut_at(line, b' ')?;
     let verb = read_verb(word)?;
-    match verb {
-        Verb::Adopts => {
-            let (desk, worker) = two(rest, b' ')?;
-            Some(Request::Adopt(desk, worker))
-        }
-        Verb::Retires => {
-            let desk = number(rest)?;
-            Some(Request::Retire(desk))
-        }
-        Verb::Claims => {
-            let (desk, class) = two(rest, b' ')?;
-            Some(Request::Claim(desk, class))
-        }
-        Verb::Allocs => {
-            let (desk, size) = two(rest, b' ')?;
-            Some(Request::Alloc(desk, size))
-        }
-        Verb::Frees => {
-            let (front, slot) = cut_at(rest, b' ')?;
-            let desk = number(front)?;
-            let (chunk, index) = two(slot, b'.')?;
-            Some(Request::Free(desk, (chunk, index)))
-        }
-        Verb::Sends => {
-            let (desk, to) = two(rest, b' ')?;
-            Some(Request::Send(desk, to))
-        }
-        Verb::Links => {
-            let batch = number(rest)?;
-            Some(Request::Link(batch))
-        }
-        Verb::Takes => {
-            let desk = number(rest)?;
-            Some(Request::Take(desk))
-        }
-    }
+    request_of(verb, rest)
 }

@@ -1,10 +1,11 @@
 //! From the header on.
 ghost use Rattle.std.specs.Prelude.{◌≡◌, ◌≤◌, ◌*◌, ◌↔◌, length, false, IfOk, IfErr, IfSome, IsSome};
 ghost use Rattle.std.specs.Io.KnownBytes.{Appends};
+ghost use Rattle.trace_audit.specs.Found.{ShowsPool};
 ghost use Rattle.trace_audit.specs.Machine.{Opens, digits_of};
 ghost use Rattle.trace_audit.specs.Grammar.{IsHeader};
 ghost use Rattle.trace_audit.specs.Replay.{Failures, Fails, FailsAudited, FailsWith, IsAudited, IsBegun, IsBegunAudited, Reports, ReportsTrace, with_audit};
-ghost use Rattle.trace_audit.specs.Steps.{Houses, FailsHousing, IsAsked};
+ghost use Rattle.trace_audit.specs.Steps.{Settles, FailsSettling, Houses, FailsHousing, IsAsked};
 
 use super::drive::drive;
 use super::ending::{finish, only};
@@ -61,6 +62,60 @@ fn floor_over<'r>(
     }
 }
 
+/// Drives the floor to the end of the trace, and writes what stands behind the answers.
+fn run<R: Source, W: Sink>(
+    alloc: Global,
+    floor: &mut Floor<'_>,
+    held: &mut Held,
+    reader: &mut R,
+    writer: &mut W,
+    audits: bool,
+) -> Result<(End, Option<Result<(), Fault>>), ReplayError>
+    requires shows { ShowsPool floor.old }
+    requires reader_down { R.has_failed reader.old ≡ false }
+    requires writer_down { W.has_failed writer.old ≡ false }
+    ensures ended { IfOk result (λ r. Settles (R.remaining reader.old) (R.remaining reader.new) held.old.items floor.old (with_audit r.1 (Appends (W.contents writer.old) (W.contents writer.new))) r.0) }
+    ensures audit { IfOk result (λ r. IsAsked audits r.0 r.1) }
+    ensures down { IfOk result (λ _. (R.has_failed reader.new ≡ false) × (W.has_failed writer.new ≡ false)) }
+    ensures failed { IfErr result (λ e. FailsSettling audits (R.remaining reader.old) (R.remaining reader.new) held.old.items floor.old (W.contents writer.old) (W.contents writer.new) e) }
+    ensures up { IfErr result (λ e. Failures (R.has_failed reader.new) (W.has_failed writer.new) e) }
+{
+    runs_keep_numbers();
+    match drive(alloc, floor, held, reader, writer) {
+        Ok(end) => finish(alloc, floor, writer, end, audits),
+        Err(error) => Err(error),
+    }
+}
+
+/// Does so over a region that is there.
+fn on_region<R: Source, W: Sink>(
+    alloc: Global,
+    header: Header,
+    region: &mut [u8],
+    held: &mut Held,
+    reader: &mut R,
+    writer: &mut W,
+    audits: bool,
+) -> Result<(End, Option<Result<(), Fault>>), ReplayError>
+    requires header { IsHeader header }
+    requires region { length region.old ≡ header.chunks * 4096 }
+    requires reader_down { R.has_failed reader.old ≡ false }
+    requires writer_down { W.has_failed writer.old ≡ false }
+    ensures ended { IfOk result (λ r. Houses (R.remaining reader.old) (R.remaining reader.new) held.old.items header (with_audit r.1 (Appends (W.contents writer.old) (W.contents writer.new))) r.0) }
+    ensures audit { IfOk result (λ r. IsAsked audits r.0 r.1) }
+    ensures down { IfOk result (λ _. (R.has_failed reader.new ≡ false) × (W.has_failed writer.new ≡ false)) }
+    ensures failed { IfErr result (λ e. FailsHousing audits (R.remaining reader.old) (R.remaining reader.new) held.old.items header (W.contents writer.old) (W.contents writer.new) e) }
+    ensures up { IfErr result (λ e. Failures (R.has_failed reader.new) (W.has_failed writer.new) e) }
+{
+    match floor_over(alloc, region, header) {
+        Ok(made) => {
+            let mut floor = made;
+            run(alloc, &mut floor, held, reader, writer, audits)
+        }
+        Err(_) => only(writer, b"R15 NoMemory\n", End::NoRoom),
+    }
+}
+
 /// Makes the region and the floor, drives it to the end of the trace, and writes what stands behind the answers.
 fn on_floor<R: Source, W: Sink>(
     alloc: Global,
@@ -79,20 +134,18 @@ fn on_floor<R: Source, W: Sink>(
     ensures failed { IfErr result (λ e. FailsHousing audits (R.remaining reader.old) (R.remaining reader.new) held.old.items header (W.contents writer.old) (W.contents writer.new) e) }
     ensures up { IfErr result (λ e. Failures (R.has_failed reader.new) (W.has_failed writer.new) e) }
 {
-    runs_keep_numbers();
     match region_of(alloc, header.chunks) {
         Ok(new) => {
             let mut region = new;
-            match floor_over(alloc, region.as_mut_slice(), header) {
-                Ok(made) => {
-                    let mut floor = made;
-                    match drive(alloc, &mut floor, held, reader, writer) {
-                        Ok(end) => finish(alloc, &floor, writer, end, audits),
-                        Err(error) => Err(error),
-                    }
-                }
-                Err(_) => only(writer, b"R15 NoMemory\n", End::NoRoom),
-            }
+            on_region(
+                alloc,
+                header,
+                region.as_mut_slice(),
+                held,
+                reader,
+                writer,
+                audits,
+            )
         }
         Err(_) => only(writer, b"R15 NoMemory\n", End::NoRoom),
     }

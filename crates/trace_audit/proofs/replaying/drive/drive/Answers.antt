@@ -2,6 +2,7 @@ use Rattle.std.proofs.Common.{rules, arith, inl, inr, [], refl, ◌∙◌, appen
 use Rattle.std.proofs.KnownBytes.{Appends-trans}
 use Rattle.trace_audit.proofs.Fronts.{not_empty}
 use Rattle.trace_audit.proofs.Plays.{played_start, played_more, driven_end, stopped_by, stopped_last}
+use Rattle.trace_audit.specs.Report.{answer_line}
 use Rattle.trace_audit.specs.declared.replaying.ending.End.TheVariants.{Whole, BadLine}
 use Rattle.trace_audit.proofs.replaying.drive.drive.Goals as goal
 
@@ -12,7 +13,7 @@ pub loop-number-preserved : goal.loop-number-preserved
 loop-number-preserved g c =
     let t = rw c.in-Ok-Answered.field-0-is at c.in-Ok-Answered.ensures.turn in
     record {
-      lines = played_more _ _ _ _ _ _ _ _ _ _ _ _ _ c.loop-number.invariant.lines (omega arith) t.0 t.2.0 t.2.1 t.1 t.2.3 t.2.2 t.2.4 (λ text h. Appends-trans _ _ _ text _ h t.2.5);
+      lines = played_more _ _ _ _ _ _ _ _ _ _ _ _ _ c.loop-number.invariant.lines (omega arith) t.0 t.2.0 t.2.1 t.1 t.2.3 t.2.2 t.2.4 (λ text h. Appends-trans _ _ _ text (answer_line t.2.1) h t.2.5);
       reader_down = c.in-Ok-Answered.ensures.down.0;
       writer_down = c.in-Ok-Answered.ensures.down.1;
     }

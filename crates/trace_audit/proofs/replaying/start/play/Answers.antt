@@ -1,4 +1,5 @@
-use Rattle.std.proofs.Common.{refl, ◌∙◌}
+use Rattle.std.proofs.Common.{ℕ, List, ◌++◌, inr, refl, ◌∙◌, ap, subst}
+use Rattle.trace_audit.specs.Replay.{IsPartial}
 use Rattle.trace_audit.proofs.Headers.{header_bad_text, header_bad, header_over, first_is, bad_line_one, reports_housed, fails_housed, only_ok, only_asked, only_err, header_taken, if_ok_weaker, if_err_weaker}
 use Rattle.trace_audit.proofs.replaying.start.play.Goals as goal
 
@@ -64,3 +65,8 @@ returns-in-Ok-Over-clause-audit g c = only_asked c.args.audits _ _ c.only-in-Ok-
 
 pub returns-in-Ok-Bad-clause-audit : goal.returns-in-Ok-Bad-clause-audit
 returns-in-Ok-Bad-clause-audit g c = only_asked c.args.audits _ _ c.only-in-Ok-Bad.result c.only-in-Ok-Bad.ensures.ok
+
+pub returns-in-Err-clause-failed : goal.returns-in-Err-clause-failed
+returns-in-Err-clause-failed g c =
+    let p = c.in-Err.ensures.err in
+    inr (p.0, p.1, subst (λ (w : List ℕ). IsPartial w) (p.2 ∙ ap (λ (w : List ℕ). w ++ p.0) c.new-held.ensures) p.3, refl)

@@ -1,4 +1,5 @@
-use Rattle.std.proofs.Common.{◌∙◌, refl}
+use Rattle.std.proofs.Common.{ℕ, List, ◌∙◌, refl, sym, subst}
+use Rattle.std.specs.Io.KnownBytes.{Appends}
 use Rattle.trace_audit.proofs.Fronts.{bad_text, answered_line, begins_same, not_empty, longer, bad_front}
 use Rattle.trace_audit.proofs.replaying.turn.one_line.Goals as goal
 
@@ -34,3 +35,29 @@ pub returns-in-Ok-Bad-clause-turn : goal.returns-in-Ok-Bad-clause-turn
 returns-in-Ok-Bad-clause-turn g c =
     let p = rw c.in-Ok-Bad.field-0-is at c.in-Ok-Bad.ensures.ok in
     (p.0, p.1, bad_front _ _ _ p.2.0 p.2.1 p.2.2)
+
+pub returns-in-Ok-clause-turn : goal.returns-in-Ok-clause-turn
+returns-in-Ok-clause-turn g c =
+    let p = rw c.in-Ok-Text.field-0-is at c.in-Ok-Text.ensures.ok in (
+      p.0,
+      p.1,
+      (
+        c.in-Some.request,
+        c.answer_of-answer.result,
+        c.in-Some.ensures.found.0,
+        answered_line _ c.in-Ok-Text.text.items c.as_slice.result.now _ c.in-Some.request p.2.0 c.as_slice.ensures.value c.in-Some.ensures.found.1,
+        c.answer_of-answer.ensures,
+        subst (λ (w : List ℕ). Appends (g.W.Sink.contents c.args.writer.now) (g.W.Sink.contents c.write_all.new.writer) w)
+            (c.as_slice-in-Some.ensures.value ∙ c.line_of_answer-line.ensures) c.in-Ok.ensures.0,
+      ),
+    )
+
+pub returns-in-Ok-Over-clause-turn : goal.returns-in-Ok-Over-clause-turn
+returns-in-Ok-Over-clause-turn g c =
+    let p = rw c.in-Ok-Over.field-0-is at c.in-Ok-Over.ensures.ok in
+    (p.0, p.1, (p.2.0, p.2.1, p.2.2, refl, refl))
+
+pub returns-in-Err-clause-broke : goal.returns-in-Err-clause-broke
+returns-in-Err-clause-broke g c =
+    let p = c.in-Err.ensures.err in
+    (p.0, p.1, (sym p.2, p.3, refl, refl))
