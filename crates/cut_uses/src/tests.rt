@@ -152,10 +152,9 @@ fn fill_all(rt: &impl Abort, bump: &mut Bump<'_>, first: u8) {
     assert!(rt; bump.next().is_none());
 }
 
-fn fill_part(rt: &impl Abort, part: Part<'_>) {
-    let first = if part.chunk() == 0 { 100 } else { 200 };
-    let mut bump = part.bump(class_for(320).expect(rt, "a class"));
-    fill_all(rt, &mut bump, first);
+fn slots_of<'r>(rt: &impl Abort, part: Part<'r>) -> Bump<'r> {
+    let class = class_for(320).expect(rt, "a class");
+    part.bump(class)
 }
 
 // Says how many chunks the region has, or that memory for the list of them was refused.
@@ -163,7 +162,9 @@ fn fill_chunks(rt: &impl Abort, alloc: Global, region: &mut [u8]) -> Result<usiz
     let parts = cut(alloc, region)?;
     let count = parts.len();
     for part in parts {
-        fill_part(rt, part);
+        let first = if part.chunk() == 0 { 100 } else { 200 };
+        let mut bump = slots_of(rt, part);
+        fill_all(rt, &mut bump, first);
     }
     Ok(count)
 }
