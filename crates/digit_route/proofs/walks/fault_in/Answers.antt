@@ -1,4 +1,4 @@
-use Rattle.std.proofs.Common.{arith, ◌<◌, ◌≡◌, ◌∙◌}
+use Rattle.std.proofs.Common.{arith, ◌<◌, ◌∙◌}
 use Rattle.digit_route.specs.Digits.{common}
 use Rattle.digit_route.proofs.MoveLaws.{Looked-past, Looked-hit, Looked-found, Looked-some, Looked-none}
 use Rattle.digit_route.proofs.walks.fault_in.Goals as goal
