@@ -1,9 +1,12 @@
 -- The count of bytes beside a row.
-use Rattle.std.proofs.Common.{◌≡◌, ℕ, ◌+◌, List, [], ◌∷◌, ◌++◌, IsPermutation, arith}
+use Rattle.std.proofs.Common.{◌≡◌, ℕ, ◌+◌, List, [], ◌∷◌, ◌++◌, IsPermutation, sym, ap, ◌∙◌, arith}
+use Rattle.std.specs.Prelude.{Option, Some, None, MatchOption}
 use Rattle.std.proofs.lemmas.List.Sums.{sum_by-append}
 use Rattle.std.proofs.lemmas.List.Sorted.{sum_by-IsPermutation}
 use Rattle.slot_chain.specs.Buffer.{Buffer}
 use Rattle.slot_chain.specs.Counts.{capped, buffer_size, sizes}
+use Rattle.digit_route.specs.Digits.{Scheme}
+use Rattle.digit_route.specs.States.{BatchState, Gives}
 
 -- buffers were added
 pub counted_more : (old more new : List Buffer) (before size after : ℕ) → before ≡ capped (sizes old) → size ≡ capped (sizes more)
@@ -28,3 +31,12 @@ counted_left old taken new before size h s p =
     let sum = sum_by-IsPermutation buffer_size old (taken ++ new) p in
     let parts = sum_by-append buffer_size taken new in
     (sizes taken, s, omega arith)
+
+-- a batch was taken out, or there was none
+pub counted_batch : (s : Scheme) (a : ℕ) (old new : List Buffer) (r : Option BatchState) (before size : ℕ) → before ≡ capped (sizes old)
+    → MatchOption r (size ≡ 0) (λ b. size ≡ capped (sizes b.items)) → MatchOption r ((old ≡ []) × (new ≡ [])) (λ b. Gives s a old b new)
+    → (gone : ℕ) × (size ≡ capped gone) × (before ≡ capped (gone + sizes new))
+counted_batch s a old new None before size h z none =
+    let same : sizes old ≡ sizes new = ap sizes (none.0 ∙ sym none.1) in
+    (0, omega arith, omega arith)
+counted_batch s a old new (Some b) before size h z gives = counted_left old b.items new before size h z gives.taken.together

@@ -173,7 +173,7 @@ impl<'r> Cache<'r> {
             None => {
                 let chain = self.row.take_for(t);
                 self.bytes = bytes_left(self.bytes, chain.bytes_total(), &self.row);
-                Ok(Batch::new(self.row.number(), t, self.row.digits(), chain))
+                Ok(self.row.batch(t, chain))
             }
         }
     }
@@ -188,15 +188,9 @@ impl<'r> Cache<'r> {
     {
         let empty = Row::new(self.row.number(), self.row.digits());
         let row = mem::replace(&mut self.row, empty);
-        let mut posting = Posting::new(row, self.limit);
-        let batch = posting.next_batch();
-        let row = posting.into_row();
-        let bytes = match &batch {
-            None => 0,
-            Some(batch) => bytes_left(self.bytes, batch.bytes(), &row),
-        };
+        let (batch, row) = first_batch(row, self.limit);
+        self.bytes = bytes_left(self.bytes, bytes_of(&batch), &row);
         let _empty = mem::replace(&mut self.row, row);
-        self.bytes = bytes;
         batch
     }
 
@@ -236,5 +230,27 @@ impl<'r> Cache<'r> {
         }
         let moves = posting.moves();
         (posting.end(), moves)
+    }
+}
+
+// The batch that a posting of the row would give first, and the row of what is left.
+fn first_batch<'r>(row: Row<'r>, limit: u64) -> (Option<Batch<'r>>, Row<'r>)
+    requires { limit ≤ 1048576 }
+    ensures same { result.1 ≡ record row.entry { round = 0; items = result.1.items } }
+    ensures value { MatchOption result.0 ((row.entry.items ≡ []) × (result.1.items ≡ []))
+        (λ b. Gives row.entry.digits row.entry.number row.entry.items b result.1.items) }
+{
+    let mut posting = Posting::new(row, limit);
+    let batch = posting.next_batch();
+    (batch, posting.into_row())
+}
+
+// The sum of the sizes of its buffers in bytes, or the greatest `u64` where that is less.
+fn bytes_of(batch: &Option<Batch<'_>>) -> u64
+    ensures { MatchOption batch.now (result ≡ 0) (λ b. result ≡ capped (sizes b.items)) }
+{
+    match batch {
+        None => 0,
+        Some(batch) => batch.bytes(),
     }
 }

@@ -84,7 +84,7 @@ impl<'r> Posting<'r> {
                 Some(k) => {
                     let chain = self.row.take(k);
                     let address = some_owner(&chain);
-                    return Some(Batch::new(self.row.number(), address, self.row.digits(), chain));
+                    return Some(self.row.batch(address, chain));
                 }
                 None => {
                     if self.row.is_empty() {

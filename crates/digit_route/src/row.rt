@@ -3,7 +3,7 @@ ghost use Rattle.std.specs.Prelude.{◌≡◌, ◌≢◌, ℕ, ◌+◌, ◌^◌,
 ghost use Rattle.slot_chain.specs.Buffer.{Buffer};
 ghost use Rattle.slot_chain.specs.Counts.{capped, sizes};
 ghost use Rattle.digit_route.specs.Digits.{digit};
-ghost use Rattle.digit_route.specs.Route.{RouteFault, TakesBucket};
+ghost use Rattle.digit_route.specs.Route.{IsWellRouted, RouteFault, TakesBucket};
 ghost use Rattle.digit_route.specs.Rows.{IsLeft, Keeps};
 ghost use Rattle.digit_route.specs.Slots.{AddsSlots};
 
@@ -12,7 +12,7 @@ use crate::chains::{
 };
 use crate::moves::{scatter, scatter_all, split};
 use crate::walks::fault_in;
-use crate::{Digits, RouteError};
+use crate::{Batch, Digits, RouteError};
 use region_cut::Slot;
 use slot_chain::{Buf, Chain, NoMemory};
 use std::marker::Model;
@@ -184,6 +184,14 @@ impl<'r> Row<'r> {
         ensures left { All (IsLeft self.old.digits self.old.number self.old.round) self.old.items }
     {
         take_at(&mut self.chains, k as usize)
+    }
+
+    /// The batch of the desk's own that has the chain's buffers.
+    pub fn batch(&self, address: u16, chain: Chain<'r>) -> Batch<'r>
+        requires { IsWellRouted self.now.digits self.now.number address chain }
+        ensures { result ≡ record { sender = self.now.number; address = address; digits = self.now.digits; items = chain.entry } }
+    {
+        Batch::new(self.number, address, self.digits, chain)
     }
 
     /// Goes on to the next digit, where all owners that are left have the desk's own, and counts
