@@ -1,10 +1,11 @@
 -- Slots that are added to a list one by one.
-use Rattle.std.proofs.Common.{◌≡◌, ℕ, zero, suc, ◌+◌, List, [], ◌∷◌, ◌++◌, refl, sym, ap, ◌∙◌, subst, append_assoc, append-nil, IsPermutation, map, take, length, get_or, ◌<◌, true}
-use Rattle.std.specs.Prelude.{Result, Ok, Err, OnOk, is_ok}
+use Rattle.std.proofs.Common.{◌≡◌, ℕ, zero, suc, ◌+◌, List, [], ◌∷◌, ◌++◌, refl, sym, ap, ◌∙◌, subst, append_assoc, append-nil, IsPermutation, map, take, length, get_or, ◌<◌, true, false, reverse}
+use Rattle.std.specs.Prelude.{Result, Ok, Err, OnOk, OnErr, is_ok}
+use Rattle.std.specs.Result.{IsErr}
 use Rattle.std.specs.Borrow.{GName}
 use Rattle.std.specs.List.{flat_map}
 use Rattle.std.proofs.lemmas.List.Sorted.{IsPermutation-refl, IsPermutation-append}
-use Rattle.std.proofs.lemmas.List.{map-append, take_more}
+use Rattle.std.proofs.lemmas.List.{map-append, take_more, reverse-append}
 use Rattle.std.proofs.lemmas.Grind.{flat_map-append}
 use Rattle.digit_route.specs.Slots.{AddsSlots}
 use Rattle.pool_desk.specs.ByClass.{slots_at}
@@ -13,7 +14,7 @@ use Rattle.region_cut.specs.declared.slot.Slot.{Slot}
 use Rattle.slot_chain.specs.Buffer.{Buffer}
 use Rattle.pool_desk.specs.Homes.{AtHome, HomeState, slot_at, unused_from}
 use Rattle.pool_desk.specs.Homes.AtHome.{Kept}
-use Rattle.pool_desk.specs.Listed.{Adds, AddsOn, places, slot_of}
+use Rattle.pool_desk.specs.Listed.{Adds, AddsOn, places, slot_of, slots_in}
 
 -- of the slots whole those before rest were added
 pub record Adding (whole rest old new : List Slot) : Type 0 where
@@ -113,3 +114,27 @@ cache_listed xs cached old mid new a b = record {
   appended = b.appended ∙ (ap (λ (z : List Slot). z ++ b.added) a.appended ∙ append_assoc old a.added b.added);
   each = IsPermutation-append _ _ _ _ a.each b.slots;
 }
+
+-- a chain's last buffer is the next to be listed
+pub Adding-last : (whole : List Slot) (bs rest : List Buffer) (b : Buffer) (s : Slot) (old mid new : List Slot)
+    → Adding whole (reverse (map slot_of bs)) old mid → bs ≡ rest ++ b ∷ [] → b.slot ≡ s → new ≡ mid ++ s ∷ []
+    → Adding whole (reverse (map slot_of rest)) old new
+Adding-last whole bs rest b s old mid new a is e more =
+    let next : reverse (map slot_of bs) ≡ s ∷ reverse (map slot_of rest)
+    = ap (λ (z : List Buffer). reverse (map slot_of z)) is
+    ∙ (ap reverse (map-append slot_of rest (b ∷ []))
+    ∙ (reverse-append (map slot_of rest) (b.slot ∷ []) ∙ ap (λ (z : Slot). z ∷ reverse (map slot_of rest)) e)) in
+    rw more (Adding-next whole s (reverse (map slot_of rest)) old mid (rw next at a))
+
+-- where the call was refused it does not matter which were added
+pub AddsOn-refused : {T E : Type 0} (r : Result T E) (slots added old new : List Slot) → IsErr r → new ≡ old ++ added → AddsOn r slots old new
+AddsOn-refused (Ok t) slots added old new e is = absurd (cc)
+AddsOn-refused (Err x) slots added old new e is = record { added = added; appended = is; each = tt }
+
+pub AddsOn-refused_more : {T E : Type 0} (r q : Result T E) (slots xs ys old mid new : List Slot) → IsErr r → Adds xs old mid → AddsOn q ys mid new → AddsOn r slots old new
+AddsOn-refused_more r q slots xs ys old mid new e a b =
+    AddsOn-refused r slots (a.added ++ b.added) old new e (b.appended ∙ (ap (λ (z : List Slot). z ++ b.added) a.appended ∙ append_assoc old a.added b.added))
+
+-- the slots at home alone
+pub home_alone : (home : List AtHome) (old new : List Slot) → Adds (map slot_at home) old new → Adds (slots_in home []) old new
+home_alone home old new a = subst (λ (z : List Slot). Adds z old new) (sym (append-nil (map slot_at home))) a
