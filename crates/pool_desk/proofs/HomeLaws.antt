@@ -2,7 +2,7 @@
 use Rattle.std.proofs.Common.{◌≡◌, ◌≢◌, ℕ, zero, suc, ◌+◌, ◌-◌, List, [], ◌∷◌, ◌++◌, length, refl, sym, ap, ◌∙◌, subst, arith, All, IsPermutation, map, take, drop, ltb, rules, tests}
 use Rattle.std.specs.Prelude.{◌↔◌, IsTrue}
 use Rattle.std.proofs.lemmas.List.Elements.{All-cons, All-nil, All-contains, All-contains_itself, All-weaker, Contains-append_left, Contains-push}
-use Rattle.std.specs.Prelude.{Contains}
+use Rattle.std.specs.Prelude.{Contains, Result, Ok, Err, MatchResult}
 use Rattle.std.proofs.lemmas.List.Sorted.{IsPermutation-refl, IsPermutation-sym, IsPermutation-trans, IsPermutation-append_left, IsPermutation-append_right, IsPermutation-append_comm}
 use Rattle.std.specs.Borrow.{GName, MutBor}
 use Rattle.region_cut.specs.declared.slot.Slot.{Slot}
@@ -13,7 +13,9 @@ use Rattle.region_cut.specs.declared.part.Bump.{Bump}
 use Rattle.region_cut.specs.Bumps.{left_of, part_of, HoldsPart, GivesNext}
 use Rattle.region_cut.specs.Classes.{slots_of, size_of}
 use Rattle.slot_chain.specs.Buffer.{Buffer}
-use Rattle.pool_desk.specs.Homes.{AtHome, IsAtHome, unused_from, unused_of, IsUnused, GivesOne, Draws, taken_next}
+use Rattle.pool_desk.specs.declared.error.DeskError.{DeskError}
+use Rattle.pool_desk.specs.Cuts.{Cuts}
+use Rattle.pool_desk.specs.Homes.{HomeState, IsRefused, AtHome, IsAtHome, unused_from, unused_of, IsUnused, GivesOne, Draws, taken_next}
 use Rattle.region_cut.specs.Carved.{Carved, carved_of}
 use Rattle.pool_desk.specs.Homes.AtHome.{Kept, Fresh}
 
@@ -163,3 +165,14 @@ left_some zero [] e = (λ t. absurd (cc), λ ne. absurd (ne refl))
 left_some zero (u ∷ us) e = absurd (omega (arith, e))
 left_some (suc n) [] e = absurd (omega (arith, e))
 left_some (suc n) (u ∷ us) e = (λ _ none. absurd (cc), λ _. search (rules, tests))
+
+-- a home with no buffer in its list
+abbrev pub home_of : (owner class : ℕ) → Bump → List Carved → HomeState
+home_of owner class b ties = record { owner = owner; class = class; slots = unused_of b; drawn = carved_of b ∷ ties }
+
+-- what its cursor gives, or refuses
+pub cut_shown : (owner class : ℕ) (b b' : Bump) (ties : List Carved) (r : Result Buffer DeskError) → Cuts owner class b r b'
+    → MatchResult r (λ x. GivesOne owner class (unused_of b) x (unused_of b') (carved_of b ∷ ties) (carved_of b' ∷ ties))
+    (λ e. IsRefused class (unused_of b) e × (home_of owner class b' ties ≡ home_of owner class b ties))
+cut_shown owner class b b' ties (Ok x) h = h ties
+cut_shown owner class b b' ties (Err e) h = (h.0, ap (λ (z : Bump). home_of owner class z ties) h.1)

@@ -1,11 +1,11 @@
 -- Slots that are added to a list one by one.
-use Rattle.std.proofs.Common.{◌≡◌, ℕ, zero, suc, ◌+◌, List, [], ◌∷◌, ◌++◌, refl, sym, ap, ◌∙◌, subst, append_assoc, append-nil, IsPermutation, map, take, length, get_or, ◌<◌, true, false, reverse}
+use Rattle.std.proofs.Common.{◌≡◌, ℕ, zero, suc, ◌+◌, List, [], ◌∷◌, ◌++◌, refl, sym, ap, ◌∙◌, subst, append_assoc, append-nil, IsPermutation, map, take, length, get_or, ◌<◌, ◌≤◌, ◌-◌, true, false, reverse, arith}
 use Rattle.std.specs.Prelude.{Result, Ok, Err, OnOk, OnErr, is_ok}
 use Rattle.std.specs.Result.{IsErr}
 use Rattle.std.specs.Borrow.{GName}
 use Rattle.std.specs.List.{flat_map}
 use Rattle.std.proofs.lemmas.List.Sorted.{IsPermutation-refl, IsPermutation-append}
-use Rattle.std.proofs.lemmas.List.{map-append, take_more, reverse-append}
+use Rattle.std.proofs.lemmas.List.{map-append, take_more, take_all, reverse-append}
 use Rattle.std.proofs.lemmas.Grind.{flat_map-append}
 use Rattle.digit_route.specs.Slots.{AddsSlots}
 use Rattle.pool_desk.specs.ByClass.{slots_at}
@@ -138,3 +138,20 @@ AddsOn-refused_more r q slots xs ys old mid new e a b =
 -- the slots at home alone
 pub home_alone : (home : List AtHome) (old new : List Slot) → Adds (map slot_at home) old new → Adds (slots_in home []) old new
 home_alone home old new a = subst (λ (z : List Slot). Adds z old new) (sym (append-nil (map slot_at home))) a
+
+-- all homes are listed
+pub homes_done : {T E : Type 0} (t : T) (hs : List HomeState) (i : ℕ) (old new : List Slot) → length hs ≤ i → Adds (map slot_at (flat_map slots_at (take i hs))) old new
+    → AddsOn {T = T} {E = E} (Ok t) (map slot_at (flat_map slots_at hs)) old new
+homes_done t hs i old new l a =
+    let b : Adds (map slot_at (flat_map slots_at hs)) old new
+    = subst (λ (z : List HomeState). Adds (map slot_at (flat_map slots_at z)) old new) (take_all i hs l) a in
+    record { added = b.added; appended = b.appended; each = b.each }
+
+-- all places that a cursor has still to give are listed
+pub places_done : {T E : Type 0} (t : T) (chunk next left at : ℕ) (old new : List Slot) → next + left ≤ at
+    → Adding (places chunk (next + left - next) next) (places chunk (next + left - at) at) old new → AddsOn {T = T} {E = E} (Ok t) (places chunk left next) old new
+places_done {T = T} {E = E} t chunk next left at old new l a =
+    let all : next + left - next ≡ left = omega arith in
+    let none : next + left - at ≡ 0 = omega arith in
+    let r : Result T E = Ok t in
+    Adding-done r _ (places chunk left next) old new (IsPermutation-refl _) (rw (all, none) at a)
