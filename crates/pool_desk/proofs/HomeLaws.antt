@@ -1,8 +1,7 @@
 -- Lemmas on homes.
 use Rattle.std.proofs.Common.{◌≡◌, ◌≢◌, ℕ, zero, suc, ◌+◌, ◌-◌, List, [], ◌∷◌, ◌++◌, length, refl, sym, ap, ◌∙◌, subst, arith, All, IsPermutation, map, take, drop, ltb, rules, tests}
-use Rattle.std.specs.Prelude.{◌↔◌, IsTrue}
 use Rattle.std.proofs.lemmas.List.Elements.{All-cons, All-nil, All-contains, All-contains_itself, All-weaker, Contains-append_left, Contains-push}
-use Rattle.std.specs.Prelude.{Contains, Result, Ok, Err, MatchResult}
+use Rattle.std.specs.Prelude.{◌↔◌, IsTrue, Contains, Result, Ok, Err, MatchResult}
 use Rattle.std.proofs.lemmas.List.Sorted.{IsPermutation-refl, IsPermutation-sym, IsPermutation-trans, IsPermutation-append_left, IsPermutation-append_right, IsPermutation-append_comm}
 use Rattle.std.specs.Borrow.{GName, MutBor}
 use Rattle.region_cut.specs.declared.slot.Slot.{Slot}

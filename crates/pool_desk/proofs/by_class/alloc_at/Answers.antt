@@ -1,4 +1,4 @@
-use Rattle.std.proofs.Common.{◌≡◌, get_or, length, sym, ap, ◌∙◌}
+use Rattle.std.proofs.Common.{sym, ap, ◌∙◌}
 use Rattle.pool_desk.specs.Homes.{HomeState}
 use Rattle.pool_desk.specs.ByClass.{home_at}
 use Rattle.pool_desk.proofs.SetLaws.{put_at, put_same, put_gives, taken_up}
