@@ -1,7 +1,8 @@
 -- The steps of handling a batch.
 use Rattle.std.proofs.Common.{◌≡◌, ◌≢◌, ℕ, suc, ◌+◌, ◌^◌, true, false, eqb, List, [], ◌∷◌, ◌++◌, refl, sym, ap, ◌∙◌, arith, All, IsPermutation}
-use Rattle.std.specs.Prelude.{Contains, min, ◌-◌}
+use Rattle.std.specs.Prelude.{Contains, min, ◌-◌, ◌<◌, length}
 use Rattle.std.proofs.lemmas.Bool.{eq-eqb, ne_eqb}
+use Rattle.std.proofs.lemmas.List.{length-append}
 use Rattle.std.proofs.lemmas.List.Elements.{All-weaker, All-contains, All-contains_itself, Contains-append_left, Contains-push}
 use Rattle.std.proofs.lemmas.List.Sorted.{IsPermutation-refl, IsPermutation-trans, IsPermutation-append_right}
 use Rattle.slot_chain.specs.Buffer.{Buffer}
@@ -76,3 +77,7 @@ pub Counted-other : (a : ℕ) (done : List Buffer) (b : Buffer) (c c' : Counts) 
 Counted-other a done b c c' h ne same more =
     let test : eqb b.owner a ≡ false = ne_eqb _ _ ne in
     record { home = same ∙ rw test h.home; on = more ∙ rw (test, h.on) (capped_more _) }
+
+-- a chain without its last buffer is shorter
+pub fewer_in : (list rest : List Buffer) (b : Buffer) → list ≡ rest ++ b ∷ [] → length rest < length list
+fewer_in list rest b is = let l = length-append rest (b ∷ []) in rw is (omega (arith, l))

@@ -1,6 +1,7 @@
 -- Lemmas on homes.
-use Rattle.std.proofs.Common.{◌≡◌, ◌≢◌, ℕ, zero, suc, ◌+◌, ◌-◌, List, [], ◌∷◌, ◌++◌, length, refl, sym, ap, ◌∙◌, subst, arith, All, IsPermutation, map, take, drop}
-use Rattle.std.proofs.lemmas.List.Elements.{All-cons, All-nil, All-contains, Contains-push}
+use Rattle.std.proofs.Common.{◌≡◌, ◌≢◌, ℕ, zero, suc, ◌+◌, ◌-◌, List, [], ◌∷◌, ◌++◌, length, refl, sym, ap, ◌∙◌, subst, arith, All, IsPermutation, map, take, drop, ltb, rules, tests}
+use Rattle.std.proofs.lemmas.List.Elements.{All-cons, All-nil, All-contains, All-contains_itself, All-weaker, Contains-append_left, Contains-push}
+use Rattle.std.specs.Prelude.{◌↔◌, IsTrue, Contains, Result, Ok, Err, MatchResult}
 use Rattle.std.proofs.lemmas.List.Sorted.{IsPermutation-refl, IsPermutation-sym, IsPermutation-trans, IsPermutation-append_left, IsPermutation-append_right, IsPermutation-append_comm}
 use Rattle.std.specs.Borrow.{GName, MutBor}
 use Rattle.region_cut.specs.declared.slot.Slot.{Slot}
@@ -11,7 +12,9 @@ use Rattle.region_cut.specs.declared.part.Bump.{Bump}
 use Rattle.region_cut.specs.Bumps.{left_of, part_of, HoldsPart, GivesNext}
 use Rattle.region_cut.specs.Classes.{slots_of, size_of}
 use Rattle.slot_chain.specs.Buffer.{Buffer}
-use Rattle.pool_desk.specs.Homes.{AtHome, IsAtHome, unused_from, unused_of, IsUnused, GivesOne, Draws, taken_next}
+use Rattle.pool_desk.specs.declared.error.DeskError.{DeskError}
+use Rattle.pool_desk.specs.Cuts.{Cuts}
+use Rattle.pool_desk.specs.Homes.{HomeState, IsRefused, AtHome, IsAtHome, unused_from, unused_of, IsUnused, GivesOne, Draws, taken_next}
 use Rattle.region_cut.specs.Carved.{Carved, carved_of}
 use Rattle.pool_desk.specs.Homes.AtHome.{Kept, Fresh}
 
@@ -141,3 +144,34 @@ draws_new p class b old h = record {
   uncut = record { chunk = h.chunk; class_is = h.class_is; whole = h.same_part; none_taken = h.no_pieces; all_left = h.same_bytes };
   added = IsPermutation-refl _;
 }
+
+-- the buffers of a chain but the last are of the owner and class too
+pub rest_own : (owner class : ℕ) (list rest : List Buffer) (b : Buffer) → All (λ (b : Buffer). (b.owner ≡ owner) × (b.class ≡ class)) list → list ≡ rest ++ b ∷ []
+    → All (λ (b : Buffer). (b.owner ≡ owner) × (b.class ≡ class)) rest
+rest_own owner class list rest b all is =
+    let own : Buffer → Type 0 = λ (b : Buffer). (b.owner ≡ owner) × (b.class ≡ class) in
+    All-weaker (Contains rest) own (λ x c. All-contains own (rest ++ b ∷ []) x (rw is at all) (Contains-append_left rest (b ∷ []) x c)) rest (All-contains_itself rest)
+
+pub none_own : (owner class : ℕ) (list : List Buffer) → list ≡ [] → All (λ (b : Buffer). (b.owner ≡ owner) × (b.class ≡ class)) list
+none_own owner class list e = rw e (All-nil _)
+
+pub unused_none : (chunk class : ℕ) (part : GName) (n i : ℕ) (bs : List ℕ) → n ≡ 0 → unused_from chunk class part n i bs ≡ []
+unused_none chunk class part n i bs e = rw e refl
+
+-- a cursor has a slot to give where some are left
+pub left_some : (n : ℕ) (us : List AtHome) → length us ≡ n → IsTrue (ltb 0 n) ↔ (us ≢ [])
+left_some zero [] e = (λ t. absurd (cc), λ ne. absurd (ne refl))
+left_some zero (u ∷ us) e = absurd (omega (arith, e))
+left_some (suc n) [] e = absurd (omega (arith, e))
+left_some (suc n) (u ∷ us) e = (λ _ none. absurd (cc), λ _. search (rules, tests))
+
+-- a home with no buffer in its list
+abbrev pub home_of : (owner class : ℕ) → Bump → List Carved → HomeState
+home_of owner class b ties = record { owner = owner; class = class; slots = unused_of b; drawn = carved_of b ∷ ties }
+
+-- what its cursor gives, or refuses
+pub cut_shown : (owner class : ℕ) (b b' : Bump) (ties : List Carved) (r : Result Buffer DeskError) → Cuts owner class b r b'
+    → MatchResult r (λ x. GivesOne owner class (unused_of b) x (unused_of b') (carved_of b ∷ ties) (carved_of b' ∷ ties))
+    (λ e. IsRefused class (unused_of b) e × (home_of owner class b' ties ≡ home_of owner class b ties))
+cut_shown owner class b b' ties (Ok x) h = h ties
+cut_shown owner class b b' ties (Err e) h = (h.0, ap (λ (z : Bump). home_of owner class z ties) h.1)

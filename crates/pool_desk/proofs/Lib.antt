@@ -4,3 +4,4 @@ pub mod HandleLaws
 pub mod HomeLaws
 pub mod ListedLaws
 pub mod EndLaws
+pub mod SetLaws

@@ -1,10 +1,12 @@
 -- Slots that are added to a list one by one.
-use Rattle.std.proofs.Common.{◌≡◌, ℕ, zero, suc, ◌+◌, List, [], ◌∷◌, ◌++◌, refl, sym, ap, ◌∙◌, subst, append_assoc, append-nil, IsPermutation, map, take, length, get_or, ◌<◌, true}
+use Rattle.std.proofs.Common.{◌≡◌, ℕ, zero, suc, ◌+◌, ◌-◌, ◌<◌, ◌≤◌, List, [], ◌∷◌, ◌++◌, true, refl, sym, ap, ◌∙◌, subst, arith}
+use Rattle.std.proofs.Common.{append_assoc, append-nil, IsPermutation, map, take, length, get_or, reverse}
 use Rattle.std.specs.Prelude.{Result, Ok, Err, OnOk, is_ok}
+use Rattle.std.specs.Result.{IsErr}
 use Rattle.std.specs.Borrow.{GName}
 use Rattle.std.specs.List.{flat_map}
 use Rattle.std.proofs.lemmas.List.Sorted.{IsPermutation-refl, IsPermutation-append}
-use Rattle.std.proofs.lemmas.List.{map-append, take_more}
+use Rattle.std.proofs.lemmas.List.{map-append, take_more, take_all, reverse-append}
 use Rattle.std.proofs.lemmas.Grind.{flat_map-append}
 use Rattle.digit_route.specs.Slots.{AddsSlots}
 use Rattle.pool_desk.specs.ByClass.{slots_at}
@@ -13,7 +15,7 @@ use Rattle.region_cut.specs.declared.slot.Slot.{Slot}
 use Rattle.slot_chain.specs.Buffer.{Buffer}
 use Rattle.pool_desk.specs.Homes.{AtHome, HomeState, slot_at, unused_from}
 use Rattle.pool_desk.specs.Homes.AtHome.{Kept}
-use Rattle.pool_desk.specs.Listed.{Adds, AddsOn, places, slot_of}
+use Rattle.pool_desk.specs.Listed.{Adds, AddsOn, places, slot_of, slots_in}
 
 -- of the slots whole those before rest were added
 pub record Adding (whole rest old new : List Slot) : Type 0 where
@@ -113,3 +115,44 @@ cache_listed xs cached old mid new a b = record {
   appended = b.appended ∙ (ap (λ (z : List Slot). z ++ b.added) a.appended ∙ append_assoc old a.added b.added);
   each = IsPermutation-append _ _ _ _ a.each b.slots;
 }
+
+-- a chain's last buffer is the next to be listed
+pub Adding-last : (whole : List Slot) (bs rest : List Buffer) (b : Buffer) (s : Slot) (old mid new : List Slot)
+    → Adding whole (reverse (map slot_of bs)) old mid → bs ≡ rest ++ b ∷ [] → b.slot ≡ s → new ≡ mid ++ s ∷ []
+    → Adding whole (reverse (map slot_of rest)) old new
+Adding-last whole bs rest b s old mid new a is e more =
+    let next : reverse (map slot_of bs) ≡ s ∷ reverse (map slot_of rest)
+    = ap (λ (z : List Buffer). reverse (map slot_of z)) is
+    ∙ (ap reverse (map-append slot_of rest (b ∷ []))
+    ∙ (reverse-append (map slot_of rest) (b.slot ∷ []) ∙ ap (λ (z : Slot). z ∷ reverse (map slot_of rest)) e)) in
+    rw more (Adding-next whole s (reverse (map slot_of rest)) old mid (rw next at a))
+
+-- where the call was refused it does not matter which were added
+pub AddsOn-refused : {T E : Type 0} (r : Result T E) (slots added old new : List Slot) → IsErr r → new ≡ old ++ added → AddsOn r slots old new
+AddsOn-refused (Ok t) slots added old new e is = absurd (cc)
+AddsOn-refused (Err x) slots added old new e is = record { added = added; appended = is; each = tt }
+
+pub AddsOn-refused_more : {T E : Type 0} (r q : Result T E) (slots xs ys old mid new : List Slot) → IsErr r → Adds xs old mid → AddsOn q ys mid new → AddsOn r slots old new
+AddsOn-refused_more r q slots xs ys old mid new e a b =
+    AddsOn-refused r slots (a.added ++ b.added) old new e (b.appended ∙ (ap (λ (z : List Slot). z ++ b.added) a.appended ∙ append_assoc old a.added b.added))
+
+-- the slots at home alone
+pub home_alone : (home : List AtHome) (old new : List Slot) → Adds (map slot_at home) old new → Adds (slots_in home []) old new
+home_alone home old new a = subst (λ (z : List Slot). Adds z old new) (sym (append-nil (map slot_at home))) a
+
+-- all homes are listed
+pub homes_done : {T E : Type 0} (t : T) (hs : List HomeState) (i : ℕ) (old new : List Slot) → length hs ≤ i → Adds (map slot_at (flat_map slots_at (take i hs))) old new
+    → AddsOn {T = T} {E = E} (Ok t) (map slot_at (flat_map slots_at hs)) old new
+homes_done t hs i old new l a =
+    let b : Adds (map slot_at (flat_map slots_at hs)) old new
+    = subst (λ (z : List HomeState). Adds (map slot_at (flat_map slots_at z)) old new) (take_all i hs l) a in
+    record { added = b.added; appended = b.appended; each = b.each }
+
+-- all places that a cursor has still to give are listed
+pub places_done : {T E : Type 0} (t : T) (chunk next left at : ℕ) (old new : List Slot) → next + left ≤ at
+    → Adding (places chunk (next + left - next) next) (places chunk (next + left - at) at) old new → AddsOn {T = T} {E = E} (Ok t) (places chunk left next) old new
+places_done {T = T} {E = E} t chunk next left at old new l a =
+    let all : next + left - next ≡ left = omega arith in
+    let none : next + left - at ≡ 0 = omega arith in
+    let r : Result T E = Ok t in
+    Adding-done r _ (places chunk left next) old new (IsPermutation-refl _) (rw (all, none) at a)

@@ -1,4 +1,5 @@
 pub mod ByClass
+pub mod Cuts
 pub mod Desks
 pub mod Handling
 pub mod Homes

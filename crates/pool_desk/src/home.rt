@@ -2,6 +2,7 @@
 ghost use Rattle.std.specs.Prelude.{◌≡◌, ◌≢◌, ℕ, ◌<◌, ◌≤◌, ◌↔◌, [], ◌∷◌, ◌++◌, All, IsTrue, IsPermutation, MatchResult, OnOk, OnErr, length, min, ◌^◌, ◌-◌, map};
 ghost use Rattle.slot_chain.specs.Buffer.{Buffer, ended_of};
 ghost use Rattle.pool_desk.specs.Homes.{AtHome, IsAtHome, GivesOne, IsRefused, Draws, kept_in, slot_at, unused_from};
+ghost use Rattle.pool_desk.specs.Cuts.{Cuts};
 ghost use Rattle.pool_desk.specs.Homes.AtHome.{Kept};
 ghost use Rattle.region_cut.specs.Classes.{slots_of};
 ghost use Rattle.pool_desk.specs.Listed.{AddsOn};
@@ -99,16 +100,7 @@ impl<'r> Home<'r> {
         let Some(bump) = &mut self.bump else {
             return Err(DeskError::NeedChunk(self.class));
         };
-        if bump.left() == 0 {
-            return Err(DeskError::NeedChunk(self.class));
-        }
-        let Ok(room) = Room::new(alloc) else {
-            return Err(DeskError::NoMemory);
-        };
-        let Some(piece) = bump.next() else {
-            unreachable!();
-        };
-        Ok(room.fill(piece, self.class, self.owner))
+        cut(bump, alloc, self.class, self.owner)
     }
 
     /// Takes an own buffer home.
@@ -159,4 +151,28 @@ impl<'r> Home<'r> {
             endings.carve(bump);
         }
     }
+}
+
+// Gives out the next slot of a cursor.
+fn cut<'r>(
+    bump: &mut Bump<'r>,
+    alloc: Global,
+    class: Class,
+    owner: u16,
+) -> Result<Buf<'r>, DeskError>
+    requires class { class ≡ bump.old.class }
+    requires owner { owner < 4096 }
+    ensures class { bump.new.class ≡ bump.old.class }
+    ensures value { Cuts owner class bump.old result bump.new }
+{
+    if bump.left() == 0 {
+        return Err(DeskError::NeedChunk(class));
+    }
+    let Ok(room) = Room::new(alloc) else {
+        return Err(DeskError::NoMemory);
+    };
+    let Some(piece) = bump.next() else {
+        unreachable!();
+    };
+    Ok(room.fill(piece, class, owner))
 }

@@ -1,7 +1,7 @@
 use Rattle.std.proofs.Common.{◌≡◌, ◌++◌, ◌∷◌, [], All, sym, ap, ◌∙◌, refl, append_assoc, append-nil}
 use Rattle.pool_desk.specs.Desks.{DeskState}
 use Rattle.pool_desk.specs.Handling.{IsPassed}
-use Rattle.pool_desk.proofs.HandleLaws.{All-append_left, All-last, Handles-none, Handles-own, Handles-other, Counted-own, Counted-other, IsPassed-routed}
+use Rattle.pool_desk.proofs.HandleLaws.{All-append_left, All-last, Handles-none, Handles-own, Handles-other, Counted-own, Counted-other, IsPassed-routed, fewer_in}
 use Rattle.pool_desk.proofs.desk.Desk.handle.Goals as goal
 
 pub loop-buf-init : goal.loop-buf-init
@@ -48,3 +48,21 @@ loop-buf-preserved c =
       counted = Counted-other _ h.done c.in-Some.buf _ _ h.counted (λ e. g.other (e ∙ sym number)) refl c.saturating_add-on.ensures;
       passed = All-append_left (IsPassed c.args.self.now.digits c.args.self.now.number) c.pop.new.self _ all;
     }
+
+pub loop-buf-smaller-then-handle_one : goal.loop-buf-smaller-then-handle_one
+loop-buf-smaller-then-handle_one c = fewer_in c.loop-buf.chain c.pop.new.self c.in-Some.buf c.in-Some.ensures
+
+pub loop-buf-smaller : goal.loop-buf-smaller
+loop-buf-smaller c = fewer_in c.loop-buf.chain c.pop.new.self c.in-Some.buf c.in-Some.ensures
+
+pub returns-clause-parts : goal.returns-clause-parts
+returns-clause-parts c =
+    let h = c.loop-buf.invariant in
+    let all : c.args.batch.items ≡ h.done = sym c.into_chain-chain.ensures.value ∙ (h.parts ∙ ap (λ x. x ++ h.done) c.in_default.ensures.0) in
+    rw all h.handled
+
+pub returns-clause-counts : goal.returns-clause-counts
+returns-clause-counts c =
+    let h = c.loop-buf.invariant in
+    let all : c.args.batch.items ≡ h.done = sym c.into_chain-chain.ensures.value ∙ (h.parts ∙ ap (λ x. x ++ h.done) c.in_default.ensures.0) in
+    rw all h.counted

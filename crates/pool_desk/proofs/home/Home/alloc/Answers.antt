@@ -1,26 +1,48 @@
-use Rattle.std.proofs.Common.{◌≡◌, refl, [], Some, ◌∙◌}
+use Rattle.std.proofs.Common.{◌≡◌, refl, [], Some, None, sym, ◌∙◌}
 use Rattle.pool_desk.specs.Homes.{unused}
-use Rattle.pool_desk.proofs.HomeLaws.{gives_kept, gives_fresh, unused_all, unused_some}
+use Rattle.pool_desk.proofs.HomeLaws.{gives_kept, rest_own, none_own, cut_shown}
 use Rattle.pool_desk.proofs.home.Home.alloc.Goals as goal
 
 pub returns-in-Some-clause-value : goal.returns-in-Some-clause-value
 returns-in-Some-clause-value c =
     rw (← c.self.view_is) (gives_kept c.self.inside.owner c.self.inside.class c.self.inside.list c.pop.new.self c.in-Some.buf (unused c.self.inside.bump) _ c.self.invariant.1 c.in-Some.ensures)
 
-pub returns-in_default-new-clause-value : goal.returns-in_default-new-clause-value
-returns-in_default-new-clause-value c =
+pub invariant_of-self : goal.invariant_of-self
+invariant_of-self c = (c.self.invariant.0, rest_own _ _ c.self.inside.list c.pop.new.self c.in-Some.buf c.self.invariant.1 c.in-Some.ensures, c.self.invariant.2)
+
+pub returns-in-Some-clause-same : goal.returns-in-Some-clause-same
+returns-in-Some-clause-same c = rw (← c.self.view_is) refl
+
+pub invariant_of-self-in_default-bump : goal.invariant_of-self-in_default-bump
+invariant_of-self-in_default-bump c = (c.self.invariant.0, none_own _ _ c.pop.new.self c.in_default.ensures.1, c.self.invariant.2)
+
+pub returns-in_default-bump-clause-same : goal.returns-in_default-bump-clause-same
+returns-in_default-bump-clause-same c = rw (← c.self.view_is) refl
+
+pub returns-in_default-bump-clause-value : goal.returns-in_default-bump-clause-value
+returns-in_default-bump-clause-value c =
     let empty : c.self.inside.list ≡ [] = c.in_default.ensures.0 in
     let after : c.pop.new.self ≡ [] = c.in_default.ensures.1 in
-    let bump : c.self.inside.bump ≡ Some c.in-Some-bump.bump = c.in-Some-bump.is in
-    rw (← c.self.view_is, empty, after, bump)
-    ((unused_some _ _ _ _ _ _ (λ e. c.if-left-eq0.false (c.left.ensures ∙ e)), unused_all _ _ _ _ _ _), refl)
+    let bump : c.self.inside.bump ≡ None = c.in_default-bump.is in
+    rw (← c.self.view_is, empty, after, bump) ((refl, refl), refl)
+
+pub cut-requires-clause-class : goal.cut-requires-clause-class
+cut-requires-clause-class c = sym (rw c.in-Some-bump.is at c.self.invariant.2)
+
+pub cut-requires-clause-owner : goal.cut-requires-clause-owner
+cut-requires-clause-owner c = c.self.invariant.0
+
+pub invariant_of-self-2 : goal.invariant_of-self-2
+invariant_of-self-2 c =
+    (c.self.invariant.0, none_own _ _ c.pop.new.self c.in_default.ensures.1, c.cut.ensures.class ∙ (rw c.in-Some-bump.is at c.self.invariant.2))
+
+pub returns-clause-same : goal.returns-clause-same
+returns-clause-same c = rw (← c.self.view_is) refl
 
 pub returns-clause-value : goal.returns-clause-value
 returns-clause-value c =
     let empty : c.self.inside.list ≡ [] = c.in_default.ensures.0 in
     let after : c.pop.new.self ≡ [] = c.in_default.ensures.1 in
     let bump : c.self.inside.bump ≡ Some c.in-Some-bump.bump = c.in-Some-bump.is in
-    let class = rw bump at c.self.invariant.2 in
     rw (← c.self.view_is, empty, after, bump)
-    (gives_fresh c.self.inside.owner c.self.inside.class c.fill.result c.in-Some-bump.bump c.next.new.self c.in-Some-next.piece _ c.in-Some-next.ensures class
-    c.fill.ensures.owner c.fill.ensures.class c.fill.ensures.slot c.fill.ensures.forwards c.fill.ensures.bytes)
+    (cut_shown c.self.inside.owner c.self.inside.class c.in-Some-bump.bump c.cut.new.bump c.self.inside.ties.all c.cut.result c.cut.ensures.value)

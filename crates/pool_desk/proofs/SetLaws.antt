@@ -1,0 +1,42 @@
+-- One home among the homes of the classes is taken up and put back.
+use Rattle.std.proofs.Common.{◌≡◌, ℕ, ◌<◌, List, ◌++◌, length, get_or, set, take, drop, refl, sym, ap, ◌∙◌, subst}
+use Rattle.std.specs.Prelude.{◌∷◌, Result, Ok, Err, MatchResult}
+use Rattle.std.specs.List.{refill}
+use Rattle.std.proofs.lemmas.List.{get_or-set_same, get_or_default, length-set, set-get_or}
+use Rattle.std.proofs.Math.Seq.{take-append_seam}
+use Rattle.slot_chain.specs.Buffer.{Buffer}
+use Rattle.pool_desk.specs.declared.error.DeskError.{DeskError}
+use Rattle.pool_desk.specs.Homes.{HomeState, GivesOne, IsRefused}
+use Rattle.pool_desk.specs.ByClass.{home_at, no_home}
+
+-- the homes after n took the place of the home k
+abbrev pub put_back : List HomeState → List HomeState → ℕ → HomeState → List HomeState
+put_back hs ds k n = refill (length hs) hs (set ds k n)
+
+pub put_is : (hs ds : List HomeState) (k : ℕ) (n : HomeState) → ds ≡ hs → put_back hs ds k n ≡ set hs k n
+put_is hs ds k n e =
+    let same : length (set ds k n) ≡ length hs = length-set ds k n ∙ ap length e in
+    subst (λ (m : ℕ). take m (set ds k n ++ drop (length (set ds k n)) hs) ≡ set ds k n) same (take-append_seam (set ds k n) _)
+    ∙ ap (λ (z : List HomeState). set z k n) e
+
+pub put_at : (hs ds : List HomeState) (k : ℕ) (n : HomeState) → ds ≡ hs → k < length hs → home_at (put_back hs ds k n) k ≡ n
+put_at hs ds k n e l = ap (λ (z : List HomeState). home_at z k) (put_is hs ds k n e) ∙ get_or-set_same hs k n no_home l
+
+-- the home that was taken up
+pub taken_up : (hs ds : List HomeState) (k : ℕ) (r : HomeState) → ds ≡ hs → k < length hs → get_or ds k r ≡ home_at hs k
+taken_up hs ds k r e l = ap (λ (z : List HomeState). get_or z k r) e ∙ get_or_default hs k r no_home l
+
+pub put_same : (hs ds : List HomeState) (k : ℕ) (n m : HomeState) → ds ≡ hs → n ≡ m → put_back hs ds k n ≡ set hs k m
+put_same hs ds k n m e same = put_is hs ds k n e ∙ ap (set hs k) same
+
+-- what the home gave or refused, told of the homes
+pub put_gives : (hs ds : List HomeState) (k : ℕ) (g n : HomeState) (r : Result Buffer DeskError) → ds ≡ hs → k < length hs → g ≡ home_at hs k
+    → MatchResult r (λ b. GivesOne g.owner g.class g.slots b n.slots g.drawn n.drawn) (λ e. IsRefused g.class g.slots e × (n ≡ g))
+    → MatchResult r (λ b. GivesOne (home_at hs k).owner (home_at hs k).class (home_at hs k).slots b (home_at (put_back hs ds k n) k).slots
+    (home_at hs k).drawn (home_at (put_back hs ds k n) k).drawn)
+    (λ e. IsRefused (home_at hs k).class (home_at hs k).slots e × (put_back hs ds k n ≡ hs))
+put_gives hs ds k g n (Ok b) e l is h =
+    subst (λ (z : HomeState). GivesOne (home_at hs k).owner (home_at hs k).class (home_at hs k).slots b z.slots (home_at hs k).drawn z.drawn) (sym (put_at hs ds k n e l))
+    (subst (λ (z : HomeState). GivesOne z.owner z.class z.slots b n.slots z.drawn n.drawn) is h)
+put_gives hs ds k g n (Err x) e l is h =
+    (subst (λ (z : HomeState). IsRefused z.class z.slots x) is h.0, put_same hs ds k n (home_at hs k) e (h.1 ∙ is) ∙ set-get_or hs k no_home)

@@ -1,0 +1,13 @@
+-- What a cursor gives of its chunk.
+use Rattle.std.specs.Prelude.{◌≡◌, ℕ, List, ◌∷◌, Result, MatchResult}
+use Rattle.region_cut.specs.declared.part.Bump.{Bump}
+use Rattle.region_cut.specs.Carved.{Carved, carved_of}
+use Rattle.slot_chain.specs.Buffer.{Buffer}
+use Rattle.pool_desk.specs.declared.error.DeskError.{DeskError}
+use Rattle.pool_desk.specs.Homes.{GivesOne, IsRefused, unused_of}
+
+-- the next slot of the cursor was given out, whatever other chunks were drawn; or none was, and the cursor is as before
+abbrev pub Cuts : (owner class : ℕ) → Bump → Result Buffer DeskError → Bump → Type 0
+Cuts owner class old r new = MatchResult r
+    (λ b. (drawn : List Carved) → GivesOne owner class (unused_of old) b (unused_of new) (carved_of old ∷ drawn) (carved_of new ∷ drawn))
+    (λ e. IsRefused class (unused_of old) e × (new ≡ old))
