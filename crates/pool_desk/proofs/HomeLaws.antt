@@ -13,7 +13,7 @@ use Rattle.region_cut.specs.Bumps.{left_of, part_of, HoldsPart, GivesNext}
 use Rattle.region_cut.specs.Classes.{slots_of, size_of}
 use Rattle.slot_chain.specs.Buffer.{Buffer}
 use Rattle.pool_desk.specs.declared.error.DeskError.{DeskError}
-use Rattle.pool_desk.specs.Cuts.{Cuts}
+use Rattle.pool_desk.specs.NextSlots.{GivesNextSlot}
 use Rattle.pool_desk.specs.Homes.{HomeState, IsRefused, AtHome, IsAtHome, unused_from, unused_of, IsUnused, GivesOne, Draws, taken_next}
 use Rattle.region_cut.specs.Carved.{Carved, carved_of}
 use Rattle.pool_desk.specs.Homes.AtHome.{Kept, Fresh}
@@ -170,8 +170,8 @@ abbrev pub home_of : (owner class : ℕ) → Bump → List Carved → HomeState
 home_of owner class b ties = record { owner = owner; class = class; slots = unused_of b; drawn = carved_of b ∷ ties }
 
 -- what its cursor gives, or refuses
-pub cut_shown : (owner class : ℕ) (b b' : Bump) (ties : List Carved) (r : Result Buffer DeskError) → Cuts owner class b r b'
+pub next_slot_shown : (owner class : ℕ) (b b' : Bump) (ties : List Carved) (r : Result Buffer DeskError) → GivesNextSlot owner class b r b'
     → MatchResult r (λ x. GivesOne owner class (unused_of b) x (unused_of b') (carved_of b ∷ ties) (carved_of b' ∷ ties))
     (λ e. IsRefused class (unused_of b) e × (home_of owner class b' ties ≡ home_of owner class b ties))
-cut_shown owner class b b' ties (Ok x) h = h ties
-cut_shown owner class b b' ties (Err e) h = (h.0, ap (λ (z : Bump). home_of owner class z ties) h.1)
+next_slot_shown owner class b b' ties (Ok x) h = h ties
+next_slot_shown owner class b b' ties (Err e) h = (h.0, ap (λ (z : Bump). home_of owner class z ties) h.1)

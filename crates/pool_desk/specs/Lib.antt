@@ -1,8 +1,8 @@
 pub mod ByClass
-pub mod Cuts
 pub mod Desks
 pub mod Handling
 pub mod Homes
 pub mod Listed
+pub mod NextSlots
 pub mod Refusals
 pub mod Steps

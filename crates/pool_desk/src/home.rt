@@ -2,7 +2,7 @@
 ghost use Rattle.std.specs.Prelude.{◌≡◌, ◌≢◌, ℕ, ◌<◌, ◌≤◌, ◌↔◌, [], ◌∷◌, ◌++◌, All, IsTrue, IsPermutation, MatchResult, OnOk, OnErr, length, min, ◌^◌, ◌-◌, map};
 ghost use Rattle.slot_chain.specs.Buffer.{Buffer, ended_of};
 ghost use Rattle.pool_desk.specs.Homes.{AtHome, IsAtHome, GivesOne, IsRefused, Draws, kept_in, slot_at, unused_from};
-ghost use Rattle.pool_desk.specs.Cuts.{Cuts};
+ghost use Rattle.pool_desk.specs.NextSlots.{GivesNextSlot};
 ghost use Rattle.pool_desk.specs.Homes.AtHome.{Kept};
 ghost use Rattle.region_cut.specs.Classes.{slots_of};
 ghost use Rattle.pool_desk.specs.Listed.{AddsOn};
@@ -100,7 +100,7 @@ impl<'r> Home<'r> {
         let Some(bump) = &mut self.bump else {
             return Err(DeskError::NeedChunk(self.class));
         };
-        cut(bump, alloc, self.class, self.owner)
+        next_slot(bump, alloc, self.class, self.owner)
     }
 
     /// Takes an own buffer home.
@@ -154,7 +154,7 @@ impl<'r> Home<'r> {
 }
 
 // Gives out the next slot of a cursor.
-fn cut<'r>(
+fn next_slot<'r>(
     bump: &mut Bump<'r>,
     alloc: Global,
     class: Class,
@@ -163,7 +163,7 @@ fn cut<'r>(
     requires class { class ≡ bump.old.class }
     requires owner { owner < 4096 }
     ensures class { bump.new.class ≡ bump.old.class }
-    ensures value { Cuts owner class bump.old result bump.new }
+    ensures value { GivesNextSlot owner class bump.old result bump.new }
 {
     if bump.left() == 0 {
         return Err(DeskError::NeedChunk(class));

@@ -1,6 +1,6 @@
 use Rattle.std.proofs.Common.{◌≡◌, refl, [], Some, None, sym, ◌∙◌}
 use Rattle.pool_desk.specs.Homes.{unused}
-use Rattle.pool_desk.proofs.HomeLaws.{gives_kept, rest_own, none_own, cut_shown}
+use Rattle.pool_desk.proofs.HomeLaws.{gives_kept, rest_own, none_own, next_slot_shown}
 use Rattle.pool_desk.proofs.home.Home.alloc.Goals as goal
 
 pub returns-in-Some-clause-value : goal.returns-in-Some-clause-value
@@ -26,15 +26,15 @@ returns-in_default-bump-clause-value c =
     let bump : c.self.inside.bump ≡ None = c.in_default-bump.is in
     rw (← c.self.view_is, empty, after, bump) ((refl, refl), refl)
 
-pub cut-requires-clause-class : goal.cut-requires-clause-class
-cut-requires-clause-class c = sym (rw c.in-Some-bump.is at c.self.invariant.2)
+pub next_slot-requires-clause-class : goal.next_slot-requires-clause-class
+next_slot-requires-clause-class c = sym (rw c.in-Some-bump.is at c.self.invariant.2)
 
-pub cut-requires-clause-owner : goal.cut-requires-clause-owner
-cut-requires-clause-owner c = c.self.invariant.0
+pub next_slot-requires-clause-owner : goal.next_slot-requires-clause-owner
+next_slot-requires-clause-owner c = c.self.invariant.0
 
 pub invariant_of-self-2 : goal.invariant_of-self-2
 invariant_of-self-2 c =
-    (c.self.invariant.0, none_own _ _ c.pop.new.self c.in_default.ensures.1, c.cut.ensures.class ∙ (rw c.in-Some-bump.is at c.self.invariant.2))
+    (c.self.invariant.0, none_own _ _ c.pop.new.self c.in_default.ensures.1, c.next_slot.ensures.class ∙ (rw c.in-Some-bump.is at c.self.invariant.2))
 
 pub returns-clause-same : goal.returns-clause-same
 returns-clause-same c = rw (← c.self.view_is) refl
@@ -45,4 +45,4 @@ returns-clause-value c =
     let after : c.pop.new.self ≡ [] = c.in_default.ensures.1 in
     let bump : c.self.inside.bump ≡ Some c.in-Some-bump.bump = c.in-Some-bump.is in
     rw (← c.self.view_is, empty, after, bump)
-    (cut_shown c.self.inside.owner c.self.inside.class c.in-Some-bump.bump c.cut.new.bump c.self.inside.ties.all c.cut.result c.cut.ensures.value)
+    (next_slot_shown c.self.inside.owner c.self.inside.class c.in-Some-bump.bump c.next_slot.new.bump c.self.inside.ties.all c.next_slot.result c.next_slot.ensures.value)

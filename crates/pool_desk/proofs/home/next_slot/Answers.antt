@@ -1,6 +1,6 @@
 use Rattle.std.proofs.Common.{◌≡◌, refl, sym, ◌∙◌}
 use Rattle.pool_desk.proofs.HomeLaws.{gives_fresh, unused_all, unused_some, unused_none}
-use Rattle.pool_desk.proofs.home.cut.Goals as goal
+use Rattle.pool_desk.proofs.home.next_slot.Goals as goal
 
 pub returns-then-left-eq0-clause-value : goal.returns-then-left-eq0-clause-value
 returns-then-left-eq0-clause-value c = ((refl, unused_none _ _ _ _ _ _ (sym c.left.ensures ∙ c.if-left-eq0.true)), refl)
