@@ -6,8 +6,11 @@ compiler that must refuse it and not the prover, whom the edits in must-fail/ ar
 the same lines: `file: PATH` and then pairs of `old: TEXT`, which stands in that file exactly once,
 and `new: TEXT`. Its line `says: TEXT` is what the compiler must say.
 
-Prints a line for each edit. The exit status is 1 where one was not refused in these words.
+Prints a line for each edit. The exit status is 1 where one was not refused in these words. As many are tried at a
+time as there are processors.
 """
+import concurrent.futures
+import os
 import pathlib
 import shutil
 import subprocess
@@ -35,32 +38,31 @@ def read(edit):
     return file, says, pairs
 
 
-def refused(edit, repository):
+def refused(edit):
     """Whether the compiler refuses the edit in its words, and all that was said."""
     file, says, pairs = read(edit)
-    crate = repository / "crates" / edit.parent.parent.name
-    path = crate / file
-    before = path.read_text()
-    after = before
-    for old, new in pairs:
-        if after.count(old) != 1:
-            return False, f"`{old}` stands in {file} {after.count(old)} times, and not once"
-        after = after.replace(old, new)
-    path.write_text(after)
-    command = ["rt", "check", "--jobs", "1", "--only", ""]
-    run = subprocess.run(command, cwd=crate, capture_output=True, text=True)
-    path.write_text(before)
+    with tempfile.TemporaryDirectory() as work:
+        repository = pathlib.Path(work) / "repository"
+        shutil.copytree(TOP, repository, ignore=shutil.ignore_patterns("out", ".git"))
+        crate = repository / "crates" / edit.parent.parent.name
+        path = crate / file
+        text = path.read_text()
+        for old, new in pairs:
+            if text.count(old) != 1:
+                return False, f"`{old}` stands in {file} {text.count(old)} times, and not once"
+            text = text.replace(old, new)
+        path.write_text(text)
+        command = ["rt", "check", "--jobs", "1", "--only", ""]
+        run = subprocess.run(command, cwd=crate, capture_output=True, text=True)
     said = run.stdout + run.stderr
     return run.returncode != 0 and says in said, said[-3000:]
 
 
 def main():
     failed = 0
-    with tempfile.TemporaryDirectory() as work:
-        repository = pathlib.Path(work) / "repository"
-        shutil.copytree(TOP, repository, ignore=shutil.ignore_patterns("out", ".git"))
-        for edit in sorted(TOP.glob("crates/*/must-not-compile/*.edit")):
-            good, said = refused(edit, repository)
+    edits = sorted(TOP.glob("crates/*/must-not-compile/*.edit"))
+    with concurrent.futures.ThreadPoolExecutor(len(os.sched_getaffinity(0))) as pool:
+        for edit, (good, said) in zip(edits, pool.map(refused, edits)):
             name = edit.relative_to(TOP)
             print(f"refused: {name}" if good else f"NOT REFUSED AS IT MUST BE: {name}\n{said}", flush=True)
             failed += not good
