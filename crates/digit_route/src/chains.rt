@@ -12,10 +12,10 @@ use slot_chain::{Buf, Chain, NoMemory};
 use std::mem;
 
 /// The chain at `k` is for the value `k` of a digit. A digit has at most 64 values.
-pub type Chains<'r> = ArrayVec<Chain<'r>, 64>;
+pub(crate) type Chains<'r> = ArrayVec<Chain<'r>, 64>;
 
 /// `n` empty chains.
-pub fn empty_chains<'r>(n: usize) -> Chains<'r>
+pub(crate) fn empty_chains<'r>(n: usize) -> Chains<'r>
     requires { n ≤ 64 }
     ensures { result.items ≡ replicate n [] }
 {
@@ -27,7 +27,7 @@ pub fn empty_chains<'r>(n: usize) -> Chains<'r>
 }
 
 /// Puts a buffer on the chain at `k`.
-pub fn push_at<'r>(chains: &mut Chains<'r>, k: usize, item: Buf<'r>)
+pub(crate) fn push_at<'r>(chains: &mut Chains<'r>, k: usize, item: Buf<'r>)
     requires { k < array_vec_len chains.old }
     ensures { chains.new.items ≡ slice_set chains.old.items k (slice_index_or chains.old.items k [] ++ item.entry ∷ []) }
 {
@@ -35,7 +35,7 @@ pub fn push_at<'r>(chains: &mut Chains<'r>, k: usize, item: Buf<'r>)
 }
 
 /// Takes out the whole chain at `k`.
-pub fn take_at<'r>(chains: &mut Chains<'r>, k: usize) -> Chain<'r>
+pub(crate) fn take_at<'r>(chains: &mut Chains<'r>, k: usize) -> Chain<'r>
     requires { k < array_vec_len chains.old }
     ensures value { result ≡ slice_index_or chains.old.items k [] }
     ensures after { chains.new.items ≡ slice_set chains.old.items k [] }
@@ -44,7 +44,7 @@ pub fn take_at<'r>(chains: &mut Chains<'r>, k: usize) -> Chain<'r>
 }
 
 /// Puts `chain` in the place of the chain at `k`, whose buffers are dropped.
-pub fn set_at<'r>(chains: &mut Chains<'r>, k: usize, chain: Chain<'r>)
+pub(crate) fn set_at<'r>(chains: &mut Chains<'r>, k: usize, chain: Chain<'r>)
     requires { k < array_vec_len chains.old }
     ensures { chains.new.items ≡ slice_set chains.old.items k chain.entry }
 {
@@ -52,7 +52,7 @@ pub fn set_at<'r>(chains: &mut Chains<'r>, k: usize, chain: Chain<'r>)
 }
 
 /// The place of a chain that isn't empty, other than `own`.
-pub fn find_other(chains: &[Chain<'_>], own: usize) -> Option<usize>
+pub(crate) fn find_other(chains: &[Chain<'_>], own: usize) -> Option<usize>
     ensures { MatchOption result
         ((k : ℕ) → k < length chains.now → k ≢ own → slice_index_or chains.now k [] ≡ [])
         (λ k. (k < length chains.now) × (k ≢ own) × (slice_index_or chains.now k [] ≢ [])) }
@@ -66,14 +66,14 @@ pub fn find_other(chains: &[Chain<'_>], own: usize) -> Option<usize>
 }
 
 /// Whether each chain is empty.
-pub fn all_empty(chains: &[Chain<'_>]) -> bool
+pub(crate) fn all_empty(chains: &[Chain<'_>]) -> bool
     ensures { IsTrue result ↔ ((k : ℕ) → k < length chains.now → slice_index_or chains.now k [] ≡ []) }
 {
     chains.iter().all(|chain| chain.is_empty())
 }
 
 /// How many buffers there are, or the greatest `u64`, found by a walk.
-pub fn len(chains: &[Chain<'_>]) -> u64
+pub(crate) fn len(chains: &[Chain<'_>]) -> u64
     ensures { result ≡ capped (length (flat_map (λ x. x) chains.now)) }
 {
     let mut total = 0u64;
@@ -84,7 +84,7 @@ pub fn len(chains: &[Chain<'_>]) -> u64
 }
 
 /// The sum of the sizes in bytes, or the greatest `u64`, found by a walk.
-pub fn bytes(chains: &[Chain<'_>]) -> u64
+pub(crate) fn bytes(chains: &[Chain<'_>]) -> u64
     ensures { result ≡ capped (sizes (flat_map (λ x. x) chains.now)) }
 {
     let mut total = 0u64;
@@ -95,7 +95,7 @@ pub fn bytes(chains: &[Chain<'_>]) -> u64
 }
 
 /// Adds the slots of all buffers, or none.
-pub fn list_slots(chains: &[Chain<'_>], slots: &mut Vec<Slot>) -> Result<(), NoMemory>
+pub(crate) fn list_slots(chains: &[Chain<'_>], slots: &mut Vec<Slot>) -> Result<(), NoMemory>
     ensures ok { OnOk result (AddsSlots (flat_map (λ x. x) chains.now) slots.old.items slots.new.items) }
     ensures err { OnErr result (slots.new.items ≡ slots.old.items) }
 {

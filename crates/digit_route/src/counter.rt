@@ -7,7 +7,7 @@ use crate::row::Row;
 /// The count of bytes once buffers were taken out of `row`: `before` counted all of them, `taken`
 /// those that are gone. Each count stops at the greatest `u64`. Only where `before` stands there is
 /// the sum found by a walk.
-pub fn bytes_left(before: u64, taken: u64, row: &Row<'_>) -> u64
+pub(crate) fn bytes_left(before: u64, taken: u64, row: &Row<'_>) -> u64
     requires { (gone : ℕ) × (taken ≡ capped gone) × (before ≡ capped (gone + sizes row.now.items)) }
     ensures { result ≡ capped (sizes row.now.items) }
 {

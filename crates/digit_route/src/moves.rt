@@ -10,7 +10,12 @@ use crate::chains::{Chains, push_at};
 use slot_chain::Chain;
 
 /// Moves each buffer of `chain` into the chain of its owner's digit `round`, and counts them.
-pub fn scatter<'r>(chains: &mut Chains<'r>, digits: Digits, round: u32, chain: Chain<'r>) -> u64
+pub(crate) fn scatter<'r>(
+    chains: &mut Chains<'r>,
+    digits: Digits,
+    round: u32,
+    chain: Chain<'r>,
+) -> u64
     requires { array_vec_len chains.old ≡ 2 ^ digits.width }
     ensures by_digit { IsByDigit digits round chains.old.items → IsByDigit digits round chains.new.items }
     ensures items { IsPermutation (flat_map (λ x. x) chains.old.items ++ chain.entry) (flat_map (λ x. x) chains.new.items) }
@@ -28,7 +33,7 @@ pub fn scatter<'r>(chains: &mut Chains<'r>, digits: Digits, round: u32, chain: C
 }
 
 /// Moves all buffers of `from` into the chains of their owners' digits `round`.
-pub fn scatter_all<'r>(chains: &mut Chains<'r>, digits: Digits, round: u32, from: Chains<'r>)
+pub(crate) fn scatter_all<'r>(chains: &mut Chains<'r>, digits: Digits, round: u32, from: Chains<'r>)
     requires { array_vec_len chains.old ≡ 2 ^ digits.width }
     ensures by_digit { IsByDigit digits round chains.old.items → IsByDigit digits round chains.new.items }
     ensures items { IsPermutation (flat_map (λ x. x) chains.old.items ++ flat_map (λ x. x) from.entry.items) (flat_map (λ x. x) chains.new.items) }
@@ -41,7 +46,12 @@ pub fn scatter_all<'r>(chains: &mut Chains<'r>, digits: Digits, round: u32, from
 }
 
 /// Parts a chain: the buffers whose owners share more than `near` digits with `t`, and the others.
-pub fn split<'r>(chain: Chain<'r>, digits: Digits, near: u32, t: u16) -> (Chain<'r>, Chain<'r>)
+pub(crate) fn split<'r>(
+    chain: Chain<'r>,
+    digits: Digits,
+    near: u32,
+    t: u16,
+) -> (Chain<'r>, Chain<'r>)
     ensures { Splits digits near t chain.entry result.0 result.1 }
 {
     let mut chain = chain;

@@ -20,7 +20,7 @@ use std::marker::Model;
 /// Buffers of other desks that share the digits below `round` with the desk `number`, each in the
 /// chain of its owner's digit `round`.
 #[derive(Drop)]
-pub struct Row<'r> {
+pub(crate) struct Row<'r> {
     number: u16,
     digits: Digits,
     round: u32,
@@ -40,7 +40,7 @@ impl<'r> Model for Row<'r> {
 
 impl<'r> Row<'r> {
     /// An empty row, by the first digit.
-    pub fn new(number: u16, digits: Digits) -> Row<'r>
+    pub(crate) fn new(number: u16, digits: Digits) -> Row<'r>
         requires { number < 2 ^ digits.bits }
         ensures { result ≡ record { number = number; digits = digits; round = 0; items = [] } }
     {
@@ -55,7 +55,7 @@ impl<'r> Row<'r> {
     }
 
     /// The desk.
-    pub fn number(&self) -> u16
+    pub(crate) fn number(&self) -> u16
         ensures value { result ≡ self.now.number }
         ensures keeps { Keeps self.now }
     {
@@ -63,7 +63,7 @@ impl<'r> Row<'r> {
     }
 
     /// How numbers are read.
-    pub fn digits(&self) -> Digits
+    pub(crate) fn digits(&self) -> Digits
         ensures value { result ≡ self.now.digits }
         ensures keeps { Keeps self.now }
     {
@@ -71,7 +71,7 @@ impl<'r> Row<'r> {
     }
 
     /// The digit that the row stands by.
-    pub fn round(&self) -> u32
+    pub(crate) fn round(&self) -> u32
         ensures value { result ≡ self.now.round }
         ensures keeps { Keeps self.now }
     {
@@ -79,28 +79,28 @@ impl<'r> Row<'r> {
     }
 
     /// Whether no buffer is left.
-    pub fn is_empty(&self) -> bool
+    pub(crate) fn is_empty(&self) -> bool
         ensures { IsTrue result ↔ (self.now.items ≡ []) }
     {
         all_empty(self.chains.as_slice())
     }
 
     /// How many buffers there are, or the greatest `u64`, found by a walk.
-    pub fn len(&self) -> u64
+    pub(crate) fn len(&self) -> u64
         ensures { result ≡ capped (length self.now.items) }
     {
         len(self.chains.as_slice())
     }
 
     /// The sum of the sizes in bytes, or the greatest `u64`, found by a walk.
-    pub fn bytes(&self) -> u64
+    pub(crate) fn bytes(&self) -> u64
         ensures { result ≡ capped (sizes self.now.items) }
     {
         bytes(self.chains.as_slice())
     }
 
     /// Adds the slots of all buffers, or none.
-    pub fn list_slots(&self, slots: &mut Vec<Slot>) -> Result<(), NoMemory>
+    pub(crate) fn list_slots(&self, slots: &mut Vec<Slot>) -> Result<(), NoMemory>
         ensures ok { OnOk result (AddsSlots self.now.items slots.old.items slots.new.items) }
         ensures err { OnErr result (slots.new.items ≡ slots.old.items) }
     {
@@ -108,7 +108,7 @@ impl<'r> Row<'r> {
     }
 
     /// Adds a buffer.
-    pub fn push(&mut self, item: Buf<'r>)
+    pub(crate) fn push(&mut self, item: Buf<'r>)
         requires { IsLeft self.old.digits self.old.number self.old.round item }
         ensures same { self.new ≡ record self.old { items = self.new.items } }
         ensures items { IsPermutation (self.old.items ++ item.entry ∷ []) self.new.items }
@@ -118,7 +118,7 @@ impl<'r> Row<'r> {
     }
 
     /// Adds the buffers of a chain.
-    pub fn push_all(&mut self, chain: Chain<'r>)
+    pub(crate) fn push_all(&mut self, chain: Chain<'r>)
         requires { All (IsLeft self.old.digits self.old.number self.old.round) chain }
         ensures same { self.new ≡ record self.old { items = self.new.items } }
         ensures items { IsPermutation (self.old.items ++ chain.entry) self.new.items }
@@ -127,7 +127,7 @@ impl<'r> Row<'r> {
     }
 
     /// Why no bucket for `t` is taken.
-    pub fn fault_for(&self, t: u16) -> Option<RouteError>
+    pub(crate) fn fault_for(&self, t: u16) -> Option<RouteError>
         requires { self.now.round ≡ 0 }
         ensures { RouteFault self.now.digits self.now.number t self.now.items result }
     {
@@ -144,7 +144,7 @@ impl<'r> Row<'r> {
     }
 
     /// Takes out the bucket for `t`.
-    pub fn take_for(&mut self, t: u16) -> Chain<'r>
+    pub(crate) fn take_for(&mut self, t: u16) -> Chain<'r>
         requires { self.old.round ≡ 0 }
         ensures same { self.new ≡ record self.old { items = self.new.items } }
         ensures taken { TakesBucket self.old.digits self.old.number t self.old.items result self.new.items }
@@ -159,7 +159,7 @@ impl<'r> Row<'r> {
     }
 
     /// A digit other than the desk's own that some owner has.
-    pub fn find_other(&self) -> Option<u16>
+    pub(crate) fn find_other(&self) -> Option<u16>
         ensures keeps { Keeps self.now }
         ensures value { let own = digit self.now.digits self.now.number self.now.round in
             MatchOption result
@@ -175,7 +175,7 @@ impl<'r> Row<'r> {
     }
 
     /// Takes out all buffers whose owners have the digit `k`.
-    pub fn take(&mut self, k: u16) -> Chain<'r>
+    pub(crate) fn take(&mut self, k: u16) -> Chain<'r>
         requires { k < 2 ^ self.old.digits.width }
         ensures same { self.new ≡ record self.old { items = self.new.items } }
         ensures items { IsPermutation self.old.items (result ++ self.new.items) }
@@ -187,7 +187,7 @@ impl<'r> Row<'r> {
     }
 
     /// The batch of the desk's own that has the chain's buffers.
-    pub fn batch(&self, address: u16, chain: Chain<'r>) -> Batch<'r>
+    pub(crate) fn batch(&self, address: u16, chain: Chain<'r>) -> Batch<'r>
         requires { IsWellRouted self.now.digits self.now.number address chain }
         ensures { result ≡ record { sender = self.now.number; address = address; digits = self.now.digits; items = chain.entry } }
     {
@@ -196,7 +196,7 @@ impl<'r> Row<'r> {
 
     /// Goes on to the next digit, where all owners that are left have the desk's own, and counts
     /// the buffers moved.
-    pub fn advance(&mut self) -> u64
+    pub(crate) fn advance(&mut self) -> u64
         requires own { All (λ (b : Buffer). digit self.old.digits b.owner self.old.round
             ≡ digit self.old.digits self.old.number self.old.round) self.old.items }
         requires some { self.old.items ≢ [] }
@@ -212,7 +212,7 @@ impl<'r> Row<'r> {
     }
 
     /// The same buffers by the first digit.
-    pub fn restart(self) -> Row<'r>
+    pub(crate) fn restart(self) -> Row<'r>
         ensures same { result ≡ record self.entry { round = 0; items = result.items } }
         ensures items { IsPermutation self.entry.items result.items }
     {

@@ -10,7 +10,7 @@ use region_cut::Slot;
 use slot_chain::{Chain, NoMemory};
 
 /// The owner of some buffer of the chain.
-pub fn some_owner(chain: &Chain<'_>) -> u16
+pub(crate) fn some_owner(chain: &Chain<'_>) -> u16
     requires { chain.now ≢ [] }
     ensures { Any (λ (b : Buffer). b.owner ≡ result) chain.now }
 {
@@ -21,7 +21,7 @@ pub fn some_owner(chain: &Chain<'_>) -> u16
 }
 
 /// Why desk `a` takes no bucket for `t` out of this chain.
-pub fn fault_in(chain: &Chain<'_>, digits: Digits, a: u16, t: u16) -> Option<RouteError>
+pub(crate) fn fault_in(chain: &Chain<'_>, digits: Digits, a: u16, t: u16) -> Option<RouteError>
     requires { t ≢ a }
     ensures { RouteFault digits a t chain.now result }
 {
@@ -43,7 +43,7 @@ pub fn fault_in(chain: &Chain<'_>, digits: Digits, a: u16, t: u16) -> Option<Rou
 }
 
 /// Adds the slots of the chain, the last buffer's first, or none.
-pub fn list_slots(chain: &Chain<'_>, slots: &mut Vec<Slot>) -> Result<(), NoMemory>
+pub(crate) fn list_slots(chain: &Chain<'_>, slots: &mut Vec<Slot>) -> Result<(), NoMemory>
     ensures ok { OnOk result (slots.new.items ≡ slots.old.items ++ reverse (map slot_of chain.now)) }
     ensures err { OnErr result (slots.new.items ≡ slots.old.items) }
 {

@@ -4,6 +4,7 @@ mod header;
 mod request;
 mod words;
 
-pub use header::{Header, read_header};
-pub use request::{Verb, read_request};
-pub use words::cut_at;
+pub use header::Header;
+pub(crate) use header::read_header;
+pub(crate) use request::{Verb, read_request};
+pub(crate) use words::cut_at;

@@ -19,5 +19,5 @@ mod wire;
 pub use auditing::{Drawn, Fault, audit};
 pub use grammar::Header;
 pub use replaying::{End, ReplayError, replay, replay_audited};
-pub use report::{Counts, write_audit};
+pub use report::write_audit;
 pub use wire::{Failed, FromReader, Sink, Source, ToWriter, write_all};

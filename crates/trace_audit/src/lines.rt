@@ -15,11 +15,11 @@ use arrayvec::ArrayVec;
 
 /// The bytes that were read and belong to no line so far. A good line has at most 64 bytes before its line feed, so
 /// 65 tell a line that is too long.
-pub type Held = ArrayVec<u8, 65>;
+pub(crate) type Held = ArrayVec<u8, 65>;
 
 /// What stands next in a trace.
 #[derive(Drop)]
-pub enum Next {
+pub(crate) enum Next {
     /// A line, without its line feed.
     Text(Held),
     /// The end, directly after a line feed.
@@ -84,7 +84,7 @@ fn refill<R: Source>(held: &mut Held, reader: &mut R) -> Result<bool, Failed>
 }
 
 /// Takes the next line, reading as far as it must.
-pub fn next_line<R: Source>(held: &mut Held, reader: &mut R) -> Result<Next, Failed>
+pub(crate) fn next_line<R: Source>(held: &mut Held, reader: &mut R) -> Result<Next, Failed>
     requires { R.has_failed reader.old ≡ false }
     ensures ok { IfOk result (λ next. (given : List ℕ) × Consumes (R.remaining reader.old) (R.remaining reader.new) given × Took (held.old.items ++ given) held.new.items (IsAtEnd (R.remaining reader.new)) next) }
     ensures down { IfOk result (λ _. R.has_failed reader.new ≡ false) }
@@ -113,7 +113,7 @@ pub fn next_line<R: Source>(held: &mut Held, reader: &mut R) -> Result<Next, Fai
 }
 
 /// Whether the input ends here. Asked where no further line may stand: one byte is enough to tell.
-pub fn is_over<R: Source>(held: &mut Held, reader: &mut R) -> Result<bool, Failed>
+pub(crate) fn is_over<R: Source>(held: &mut Held, reader: &mut R) -> Result<bool, Failed>
     requires { R.has_failed reader.old ≡ false }
     ensures more { IfOk result (λ over. (over ≡ false) → (given : List ℕ) × Consumes (R.remaining reader.old) (R.remaining reader.new) given × (0 < length (held.old.items ++ given))) }
     ensures over { IfOk result (λ over. IsTrue over → Consumes (R.remaining reader.old) (R.remaining reader.new) [] × IsAtEnd (R.remaining reader.new) × (held.old.items ≡ [])) }

@@ -5,7 +5,7 @@ mod audits;
 mod closing;
 mod text;
 
-pub use answers::{line_of_answer, line_of_bad};
+pub(crate) use answers::{line_of_answer, line_of_bad};
 pub use audits::write_audit;
-pub use closing::{Counts, close};
-pub use text::Line;
+pub(crate) use closing::close;
+pub(crate) use text::Line;

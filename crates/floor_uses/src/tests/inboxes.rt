@@ -1,133 +1,118 @@
 //! Batches that wait, and desks that are left and taken up again.
-use super::{
-    Play, adopts, caches, claims, closes, counts_are, done, lends, links, plays, refuses, sends,
-    takes,
-};
-use event_floor::{Floor, Refusal, Request};
-use std::alloc::Global;
-use std::process::Abort;
-
-pub fn play_batches_are_taken_in_order_of_arrival(
-    rt: &impl Abort,
-    alloc: Global,
-    floor: &mut Floor<'_>,
-) {
-    adopts(rt, alloc, floor, 0, 0);
-    adopts(rt, alloc, floor, 1, 1);
-    adopts(rt, alloc, floor, 2, 2);
-    claims(rt, alloc, floor, 2, 15, 0);
-    lends(rt, alloc, floor, 2, 512, 0, 0);
-    lends(rt, alloc, floor, 2, 512, 0, 1);
-    caches(rt, alloc, floor, 0, 0, 0);
-    caches(rt, alloc, floor, 1, 0, 1);
-    sends(rt, alloc, floor, 0, 2, 1, 1);
-    sends(rt, alloc, floor, 1, 2, 2, 1);
-    links(rt, alloc, floor, 2);
-    refuses(rt, alloc, floor, Request::Take(2), Refusal::Nothing);
-    links(rt, alloc, floor, 1);
-    refuses(rt, alloc, floor, Request::Link(1), Refusal::NoBatch);
-    refuses(rt, alloc, floor, Request::Link(9), Refusal::NoBatch);
-    takes(rt, alloc, floor, 2, 1, 0);
-    takes(rt, alloc, floor, 2, 1, 0);
-    refuses(rt, alloc, floor, Request::Take(2), Refusal::Nothing);
-    lends(rt, alloc, floor, 2, 512, 0, 1);
-    counts_are(rt, floor, 2, 7, 0, 0);
-    closes(rt, floor, 3, (1, 1), (7, 0, 0));
-}
+use super::{Row, plays, pool, slot};
+use event_floor::{Refusal, Reply, Request};
 
 #[test]
 fn batches_are_taken_in_order_of_arrival(rt: HostRuntime) {
+    const ROWS: [Row; 19] = [
+        (Request::Adopt(0, 0), Ok(Reply::Done)),
+        (Request::Adopt(1, 1), Ok(Reply::Done)),
+        (Request::Adopt(2, 2), Ok(Reply::Done)),
+        (Request::Claim(2, 15), Ok(Reply::Chunk(0))),
+        (Request::Alloc(2, 512), slot!(0, 0)),
+        (Request::Alloc(2, 512), slot!(0, 1)),
+        (Request::Free(0, (0, 0)), Ok(Reply::Cached)),
+        (Request::Free(1, (0, 1)), Ok(Reply::Cached)),
+        (Request::Send(0, 2), Ok(Reply::Batch(1, 1))),
+        (Request::Send(1, 2), Ok(Reply::Batch(2, 1))),
+        (Request::Link(2), Ok(Reply::Done)),
+        (Request::Take(2), Err(Refusal::Nothing)),
+        (Request::Link(1), Ok(Reply::Done)),
+        (Request::Link(1), Err(Refusal::NoBatch)),
+        (Request::Link(9), Err(Refusal::NoBatch)),
+        (Request::Take(2), Ok(Reply::Counts(1, 0))),
+        (Request::Take(2), Ok(Reply::Counts(1, 0))),
+        (Request::Take(2), Err(Refusal::Nothing)),
+        (Request::Alloc(2, 512), slot!(0, 1)),
+    ];
     plays(
         &rt,
         rt.alloc(),
-        Play::BatchesAreTakenInOrderOfArrival,
-        3,
-        1,
-        2,
+        pool(3, 1, 2),
+        &ROWS,
+        &[(2, 7, 0, 0)],
+        (1, 1),
     );
-}
-
-pub fn play_an_unsettled_desk_keeps_its_worker(
-    rt: &impl Abort,
-    alloc: Global,
-    floor: &mut Floor<'_>,
-) {
-    adopts(rt, alloc, floor, 0, 0);
-    adopts(rt, alloc, floor, 1, 7);
-    claims(rt, alloc, floor, 1, 15, 0);
-    lends(rt, alloc, floor, 1, 512, 0, 0);
-    caches(rt, alloc, floor, 0, 0, 0);
-    refuses(rt, alloc, floor, Request::Retire(0), Refusal::Unsettled);
-    sends(rt, alloc, floor, 0, 1, 1, 1);
-    refuses(rt, alloc, floor, Request::Retire(0), Refusal::Unsettled);
-    links(rt, alloc, floor, 1);
-    done(rt, alloc, floor, Request::Retire(0));
-    done(rt, alloc, floor, Request::Retire(1));
-    refuses(rt, alloc, floor, Request::Take(1), Refusal::Idle);
-    adopts(rt, alloc, floor, 1, 8);
-    takes(rt, alloc, floor, 1, 1, 0);
-    lends(rt, alloc, floor, 1, 512, 0, 0);
-    refuses(rt, alloc, floor, Request::Adopt(1, 9), Refusal::Held);
-    refuses(rt, alloc, floor, Request::Retire(0), Refusal::Idle);
-    counts_are(rt, floor, 1, 7, 0, 0);
-    closes(rt, floor, 2, (1, 1), (7, 0, 0));
 }
 
 #[test]
 fn an_unsettled_desk_keeps_its_worker(rt: HostRuntime) {
+    const ROWS: [Row; 17] = [
+        (Request::Adopt(0, 0), Ok(Reply::Done)),
+        (Request::Adopt(1, 7), Ok(Reply::Done)),
+        (Request::Claim(1, 15), Ok(Reply::Chunk(0))),
+        (Request::Alloc(1, 512), slot!(0, 0)),
+        (Request::Free(0, (0, 0)), Ok(Reply::Cached)),
+        (Request::Retire(0), Err(Refusal::Unsettled)),
+        (Request::Send(0, 1), Ok(Reply::Batch(1, 1))),
+        (Request::Retire(0), Err(Refusal::Unsettled)),
+        (Request::Link(1), Ok(Reply::Done)),
+        (Request::Retire(0), Ok(Reply::Done)),
+        (Request::Retire(1), Ok(Reply::Done)),
+        (Request::Take(1), Err(Refusal::Idle)),
+        (Request::Adopt(1, 8), Ok(Reply::Done)),
+        (Request::Take(1), Ok(Reply::Counts(1, 0))),
+        (Request::Alloc(1, 512), slot!(0, 0)),
+        (Request::Adopt(1, 9), Err(Refusal::Held)),
+        (Request::Retire(0), Err(Refusal::Idle)),
+    ];
     plays(
         &rt,
         rt.alloc(),
-        Play::AnUnsettledDeskKeepsItsWorker,
-        2,
-        1,
-        2,
+        pool(2, 1, 2),
+        &ROWS,
+        &[(1, 7, 0, 0)],
+        (1, 1),
     );
-}
-
-pub fn play_a_batch_of_another_is_no_bar(rt: &impl Abort, alloc: Global, floor: &mut Floor<'_>) {
-    adopts(rt, alloc, floor, 0, 0);
-    adopts(rt, alloc, floor, 1, 1);
-    claims(rt, alloc, floor, 1, 15, 0);
-    lends(rt, alloc, floor, 1, 512, 0, 0);
-    caches(rt, alloc, floor, 0, 0, 0);
-    sends(rt, alloc, floor, 0, 1, 1, 1);
-    done(rt, alloc, floor, Request::Retire(1));
-    links(rt, alloc, floor, 1);
-    done(rt, alloc, floor, Request::Retire(0));
-    adopts(rt, alloc, floor, 1, 2);
-    takes(rt, alloc, floor, 1, 1, 0);
-    counts_are(rt, floor, 1, 8, 0, 0);
-    closes(rt, floor, 2, (1, 0), (8, 0, 0));
 }
 
 #[test]
 fn a_batch_of_another_is_no_bar(rt: HostRuntime) {
-    plays(&rt, rt.alloc(), Play::ABatchOfAnotherIsNoBar, 2, 1, 2);
-}
-
-pub fn play_a_slot_that_is_not_lent_is_not_freed(
-    rt: &impl Abort,
-    alloc: Global,
-    floor: &mut Floor<'_>,
-) {
-    adopts(rt, alloc, floor, 0, 0);
-    adopts(rt, alloc, floor, 1, 1);
-    claims(rt, alloc, floor, 1, 15, 0);
-    lends(rt, alloc, floor, 1, 512, 0, 0);
-    refuses(rt, alloc, floor, Request::Free(1, (0, 1)), Refusal::NotLent);
-    caches(rt, alloc, floor, 0, 0, 0);
-    refuses(rt, alloc, floor, Request::Free(0, (0, 0)), Refusal::NotLent);
-    refuses(rt, alloc, floor, Request::Free(1, (0, 0)), Refusal::NotLent);
-    sends(rt, alloc, floor, 0, 1, 1, 1);
-    refuses(rt, alloc, floor, Request::Free(1, (0, 0)), Refusal::NotLent);
-    refuses(rt, alloc, floor, Request::Free(1, (0, 8)), Refusal::NotLent);
-    refuses(rt, alloc, floor, Request::Free(1, (3, 0)), Refusal::NotLent);
-    counts_are(rt, floor, 1, 7, 0, 1);
-    closes(rt, floor, 2, (1, 0), (7, 0, 1));
+    const ROWS: [Row; 11] = [
+        (Request::Adopt(0, 0), Ok(Reply::Done)),
+        (Request::Adopt(1, 1), Ok(Reply::Done)),
+        (Request::Claim(1, 15), Ok(Reply::Chunk(0))),
+        (Request::Alloc(1, 512), slot!(0, 0)),
+        (Request::Free(0, (0, 0)), Ok(Reply::Cached)),
+        (Request::Send(0, 1), Ok(Reply::Batch(1, 1))),
+        (Request::Retire(1), Ok(Reply::Done)),
+        (Request::Link(1), Ok(Reply::Done)),
+        (Request::Retire(0), Ok(Reply::Done)),
+        (Request::Adopt(1, 2), Ok(Reply::Done)),
+        (Request::Take(1), Ok(Reply::Counts(1, 0))),
+    ];
+    plays(
+        &rt,
+        rt.alloc(),
+        pool(2, 1, 2),
+        &ROWS,
+        &[(1, 8, 0, 0)],
+        (1, 0),
+    );
 }
 
 #[test]
 fn a_slot_that_is_not_lent_is_not_freed(rt: HostRuntime) {
-    plays(&rt, rt.alloc(), Play::ASlotThatIsNotLentIsNotFreed, 2, 1, 2);
+    const ROWS: [Row; 12] = [
+        (Request::Adopt(0, 0), Ok(Reply::Done)),
+        (Request::Adopt(1, 1), Ok(Reply::Done)),
+        (Request::Claim(1, 15), Ok(Reply::Chunk(0))),
+        (Request::Alloc(1, 512), slot!(0, 0)),
+        (Request::Free(1, (0, 1)), Err(Refusal::NotLent)),
+        (Request::Free(0, (0, 0)), Ok(Reply::Cached)),
+        (Request::Free(0, (0, 0)), Err(Refusal::NotLent)),
+        (Request::Free(1, (0, 0)), Err(Refusal::NotLent)),
+        (Request::Send(0, 1), Ok(Reply::Batch(1, 1))),
+        (Request::Free(1, (0, 0)), Err(Refusal::NotLent)),
+        (Request::Free(1, (0, 8)), Err(Refusal::NotLent)),
+        (Request::Free(1, (3, 0)), Err(Refusal::NotLent)),
+    ];
+    plays(
+        &rt,
+        rt.alloc(),
+        pool(2, 1, 2),
+        &ROWS,
+        &[(1, 7, 0, 1)],
+        (1, 0),
+    );
 }

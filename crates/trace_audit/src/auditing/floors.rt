@@ -53,7 +53,7 @@ fn slots_on(alloc: Global, floor: &Floor<'_>) -> Result<Vec<Slot>, NoMemory>
 }
 
 /// Whether each slot of the floor's drawn chunks is in its lists just once: at home, lent, in caches and inboxes.
-pub fn audit_floor(alloc: Global, floor: &Floor<'_>) -> Result<(), Fault>
+pub(crate) fn audit_floor(alloc: Global, floor: &Floor<'_>) -> Result<(), Fault>
     requires { ShowsPool floor.now }
     ensures { FindsNothing (Some result) }
 {

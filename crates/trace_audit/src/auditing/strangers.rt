@@ -8,7 +8,7 @@ use super::Drawn;
 use region_cut::Slot;
 
 /// Whether the slot is one of a drawn chunk.
-pub fn is_drawn_slot(drawn: &Drawn, slot: Slot) -> bool
+pub(crate) fn is_drawn_slot(drawn: &Drawn, slot: Slot) -> bool
     ensures value { IsTrue result ↔ IsDrawnSlot drawn.now slot }
     ensures fits { FitsTable drawn.now }
 {
@@ -26,7 +26,7 @@ fn lesser(least: Option<Slot>, slot: Slot) -> Slot
 }
 
 /// The least slot that is found and is no slot of a drawn chunk.
-pub fn least_stranger(drawn: &Drawn, found: &[Slot]) -> Option<Slot>
+pub(crate) fn least_stranger(drawn: &Drawn, found: &[Slot]) -> Option<Slot>
     ensures some { IfSome result (λ s. IsLeast (IsStranger drawn.now found.now) s) }
     ensures none { IfNone result (IsNowhere (IsStranger drawn.now found.now)) }
 {

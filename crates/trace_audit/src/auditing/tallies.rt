@@ -9,10 +9,10 @@ use region_cut::Slot;
 use std::alloc::{AllocError, Global};
 
 /// How many places the table has: 256 for each chunk, since no chunk has more slots.
-pub const PLACES: usize = 262_144;
+pub(crate) const PLACES: usize = 262_144;
 
 /// So many zeros.
-pub fn zeros(alloc: Global, count: usize) -> Result<Vec<u8>, AllocError>
+pub(crate) fn zeros(alloc: Global, count: usize) -> Result<Vec<u8>, AllocError>
     ensures len { IfOk result (λ table. length table.items ≡ count) }
     ensures zero { IfOk result (λ table. (k : ℕ) → slice_index table.items k ≡ 0) }
 {
@@ -42,7 +42,7 @@ fn count(table: &mut [u8], at: usize)
 }
 
 /// Counts each slot of a drawn chunk.
-pub fn tally(drawn: &Drawn, found: &[Slot], table: &mut [u8])
+pub(crate) fn tally(drawn: &Drawn, found: &[Slot], table: &mut [u8])
     requires length { length table.old ≡ 262144 }
     requires zero { (k : ℕ) → slice_index table.old k ≡ 0 }
     ensures { IsTally drawn.now found.now table.new }
@@ -56,7 +56,7 @@ pub fn tally(drawn: &Drawn, found: &[Slot], table: &mut [u8])
 }
 
 /// The least slot of a drawn chunk with this count.
-pub fn least_with(drawn: &Drawn, table: &[u8], count: u8) -> Option<Slot>
+pub(crate) fn least_with(drawn: &Drawn, table: &[u8], count: u8) -> Option<Slot>
     requires { length table.now ≡ 262144 }
     ensures some { IfSome result (λ s. IsLeast (HasCount drawn.now table.now count) s) }
     ensures none { IfNone result (IsNowhere (HasCount drawn.now table.now count)) }

@@ -71,7 +71,7 @@ fn header_numbers(profile: Profile, bytes: &[u8]) -> Option<Header>
 
 /// The header that the line spells, with its numbers in their ranges. The line comes without its
 /// line feed.
-pub fn read_header(line: &[u8]) -> Option<Header>
+pub(crate) fn read_header(line: &[u8]) -> Option<Header>
     ensures found { IfSome result (λ h. IsHeader h × (line.now ≡ header_text h)) }
     ensures none { IfNone result ((h : Header) → IsHeader h → line.now ≡ header_text h → ⊥) }
 {

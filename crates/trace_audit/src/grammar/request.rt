@@ -9,7 +9,7 @@ use event_floor::Request;
 
 /// The first word of a request line.
 #[derive(Clone, Copy, Debug, PartialEq, Eq, Drop)]
-pub enum Verb {
+pub(crate) enum Verb {
     Adopts,
     Retires,
     Claims,
@@ -104,7 +104,7 @@ fn request_of(verb: Verb, words: &[u8]) -> Option<Request>
 }
 
 /// The request that the line spells. The line comes without its line feed.
-pub fn read_request(line: &[u8]) -> Option<Request>
+pub(crate) fn read_request(line: &[u8]) -> Option<Request>
     ensures found { IfSome result (λ r. IsRequest r × (line.now ≡ spelling r)) }
     ensures none { IfNone result ((r : Request) → IsRequest r → line.now ≡ spelling r → ⊥) }
 {

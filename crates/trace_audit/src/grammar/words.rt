@@ -3,7 +3,7 @@ ghost use Rattle.std.specs.Prelude.{◌≡◌, ◌↔◌, ℕ, ◌<◌, ◌++◌
 ghost use Rattle.trace_audit.specs.Grammar.{Lacks, IsWord, pair};
 
 /// The bytes before the first `mark`, and those behind it.
-pub fn cut_at(bytes: &[u8], mark: u8) -> Option<(&[u8], &[u8])>
+pub(crate) fn cut_at(bytes: &[u8], mark: u8) -> Option<(&[u8], &[u8])>
     ensures found { IfSome result (λ r. (bytes.now ≡ r.0.now ++ mark ∷ r.1.now) × Lacks mark r.0.now) }
     ensures none { IfNone result (Lacks mark bytes.now) }
 {
@@ -16,14 +16,14 @@ pub fn cut_at(bytes: &[u8], mark: u8) -> Option<(&[u8], &[u8])>
 }
 
 /// Whether the word has the bytes of the text.
-pub fn spells(word: &[u8], text: &[u8]) -> bool
+pub(crate) fn spells(word: &[u8], text: &[u8]) -> bool
     ensures { IsTrue result ↔ (word.now ≡ text.now) }
 {
     word == text
 }
 
 /// The number that the bytes spell: `0`, or digits of which the first isn't 0.
-pub fn number(bytes: &[u8]) -> Option<u32>
+pub(crate) fn number(bytes: &[u8]) -> Option<u32>
     ensures found { IfSome result (λ n. IsWord n × (bytes.now ≡ decimal n)) }
     ensures none { IfNone result ((n : ℕ) → IsWord n → bytes.now ≡ decimal n → ⊥) }
 {
@@ -47,7 +47,7 @@ pub fn number(bytes: &[u8]) -> Option<u32>
 }
 
 /// Two numbers with one mark between them.
-pub fn two(bytes: &[u8], mark: u8) -> Option<(u32, u32)>
+pub(crate) fn two(bytes: &[u8], mark: u8) -> Option<(u32, u32)>
     requires { mark < 48 }
     ensures found { IfSome result (λ r. IsWord r.0 × IsWord r.1 × (bytes.now ≡ pair mark r.0 r.1)) }
     ensures none { IfNone result ((a b : ℕ) → IsWord a → IsWord b → bytes.now ≡ pair mark a b → ⊥) }

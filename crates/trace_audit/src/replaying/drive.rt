@@ -11,7 +11,7 @@ use event_floor::Floor;
 use std::alloc::Global;
 
 /// Reads request lines to the end of the trace, and answers each.
-pub fn drive<R: Source, W: Sink>(
+pub(crate) fn drive<R: Source, W: Sink>(
     alloc: Global,
     floor: &mut Floor<'_>,
     held: &mut Held,

@@ -77,7 +77,7 @@ fn tell_audit<W: Sink>(
 }
 
 /// Writes what stands behind the answers: the closing lines, and the line of an audit where that is asked for.
-pub fn finish<W: Sink>(
+pub(crate) fn finish<W: Sink>(
     alloc: Global,
     floor: &Floor<'_>,
     writer: &mut W,
@@ -98,7 +98,7 @@ pub fn finish<W: Sink>(
 }
 
 /// Writes one line, and no other.
-pub fn only<W: Sink>(
+pub(crate) fn only<W: Sink>(
     writer: &mut W,
     text: &[u8],
     end: End,

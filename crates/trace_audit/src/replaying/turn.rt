@@ -15,7 +15,7 @@ use std::alloc::Global;
 
 /// What one line came to.
 #[derive(Clone, Copy, Debug, PartialEq, Eq, Drop)]
-pub enum Turn {
+pub(crate) enum Turn {
     /// It is a request, which was answered.
     Answered,
     /// There is none: the input is over.
@@ -32,7 +32,7 @@ fn answer_of(alloc: Global, floor: &mut Floor<'_>, request: Request) -> Result<R
 }
 
 /// Reads one line, and answers it where it is a request.
-pub fn one_line<R: Source, W: Sink>(
+pub(crate) fn one_line<R: Source, W: Sink>(
     alloc: Global,
     floor: &mut Floor<'_>,
     held: &mut Held,

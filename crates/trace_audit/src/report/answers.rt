@@ -9,7 +9,7 @@ use event_floor::{Refusal, Reply};
 use region_cut::Slot;
 
 /// Adds the slot, as `0.0`.
-pub fn push_slot(line: &mut Line, slot: Slot)
+pub(crate) fn push_slot(line: &mut Line, slot: Slot)
     requires { array_vec_len line.old ≤ 20 }
     ensures items { line.new.items ≡ line.old.items ++ printed slot }
     ensures len { array_vec_len line.new ≤ 61 }
@@ -66,7 +66,7 @@ fn push_refusal(line: &mut Line, refusal: Refusal)
 }
 
 /// The line of an answer.
-pub fn line_of_answer(answer: Result<Reply, Refusal>) -> Line
+pub(crate) fn line_of_answer(answer: Result<Reply, Refusal>) -> Line
     ensures { result.items ≡ answer_line answer }
 {
     let mut line = Line::new();
@@ -79,7 +79,7 @@ pub fn line_of_answer(answer: Result<Reply, Refusal>) -> Line
 }
 
 /// The line that names a bad line.
-pub fn line_of_bad(number: u32) -> Line
+pub(crate) fn line_of_bad(number: u32) -> Line
     ensures { result.items ≡ bad_line number }
 {
     let mut line = Line::new();

@@ -12,7 +12,7 @@ use event_floor::Floor;
 
 /// How many slots are at home, in a cache and in an inbox.
 #[derive(Clone, Copy, Debug, Default, PartialEq, Eq, Drop)]
-pub struct Counts {
+pub(crate) struct Counts {
     pub home: u64,
     pub cached: u64,
     pub queued: u64,
@@ -106,7 +106,7 @@ fn push_counts(line: &mut Line, counts: Counts)
 }
 
 /// Writes the closing lines. Takes no memory, and time in the number of the floor's slots.
-pub fn close<W: Sink>(floor: &Floor<'_>, writer: &mut W) -> Result<(), Failed>
+pub(crate) fn close<W: Sink>(floor: &Floor<'_>, writer: &mut W) -> Result<(), Failed>
     requires { W.has_failed writer.old ≡ false }
     ensures { Writes (W.contents writer.old) (W.contents writer.new) (W.has_failed writer.new) (closing (told floor.now)) result }
 {

@@ -7,10 +7,10 @@ use itoa::Buffer;
 
 /// One line of the report, with its line feed. The longest has six words, a few spaces and five numbers of at most
 /// 20 digits.
-pub type Line = ArrayVec<u8, 160>;
+pub(crate) type Line = ArrayVec<u8, 160>;
 
 /// Adds the text.
-pub fn push_text(line: &mut Line, text: &[u8])
+pub(crate) fn push_text(line: &mut Line, text: &[u8])
     requires { array_vec_len line.old + length text.now ≤ 160 }
     ensures items { line.new.items ≡ line.old.items ++ text.now }
     ensures len { array_vec_len line.new ≡ array_vec_len line.old + length text.now }
@@ -19,7 +19,7 @@ pub fn push_text(line: &mut Line, text: &[u8])
 }
 
 /// Adds the number in decimal, without leading zeros.
-pub fn push_number(line: &mut Line, number: u64)
+pub(crate) fn push_number(line: &mut Line, number: u64)
     requires { array_vec_len line.old + 20 ≤ 160 }
     ensures items { line.new.items ≡ line.old.items ++ decimal number }
     ensures len { array_vec_len line.new ≤ array_vec_len line.old + 20 }
