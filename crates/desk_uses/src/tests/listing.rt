@@ -2,16 +2,32 @@
 use super::{claim, class, desk, free_is, goes_home, lend, parts, region, retired};
 use pool_desk::{Desk, Freed, IdleDesk};
 use region_cut::{Part, Slot};
-use slot_chain::{Buf, Chain};
+use slot_chain::{Buf, Chain, NoMemory};
 use std::alloc::Global;
 use std::process::Abort;
 
+// Which of its slots a desk lists.
+#[derive(Clone, Copy)]
+enum Which {
+    All,
+    Home,
+    Cached,
+}
+
+fn list(desk: &Desk<'_>, which: Which, slots: &mut Vec<Slot>) -> Result<(), NoMemory> {
+    match which {
+        Which::All => desk.list_slots(slots),
+        Which::Home => desk.list_home(slots),
+        Which::Cached => desk.list_cached(slots),
+    }
+}
+
 // After a want of memory the list has what it had, and the next try works.
-fn list_held(rt: &impl Abort, desk: &Desk<'_>, slots: &mut Vec<Slot>) {
+fn list_held(rt: &impl Abort, desk: &Desk<'_>, which: Which, slots: &mut Vec<Slot>) {
     let before = slots.len();
-    if desk.list_slots(slots).is_err() {
+    if list(desk, which, slots).is_err() {
         assert!(rt; slots.len() == before);
-        assert!(rt; desk.list_slots(slots).is_ok());
+        assert!(rt; list(desk, which, slots).is_ok());
     }
 }
 
@@ -33,9 +49,24 @@ fn check(rt: &impl Abort, slots: &[Slot]) {
 
 fn list_both(rt: &impl Abort, alloc: Global, owner: &Desk<'_>, other: &Desk<'_>) {
     let mut slots = Vec::new(alloc);
-    list_held(rt, owner, &mut slots);
-    list_held(rt, other, &mut slots);
+    list_held(rt, owner, Which::All, &mut slots);
+    list_held(rt, other, Which::All, &mut slots);
     check(rt, slots.as_slice());
+}
+
+// Seven slots are at home with their owner, and the third is in the other's cache.
+fn list_apart(rt: &impl Abort, alloc: Global, owner: &Desk<'_>, other: &Desk<'_>) {
+    let third = Slot { chunk: 0, index: 2 };
+    let mut home = Vec::new(alloc);
+    list_held(rt, other, Which::Home, &mut home);
+    assert!(rt; home.is_empty());
+    list_held(rt, owner, Which::Home, &mut home);
+    assert!(rt; home.len() == 7 && !home.contains(&third));
+    let mut cached = Vec::new(alloc);
+    list_held(rt, owner, Which::Cached, &mut cached);
+    assert!(rt; cached.is_empty());
+    list_held(rt, other, Which::Cached, &mut cached);
+    assert!(rt; cached.as_slice() == [third].as_slice());
 }
 
 fn list_left(rt: &impl Abort, alloc: Global, idle: &IdleDesk<'_>) {
@@ -72,6 +103,7 @@ fn lists<'r>(
     let away = spread(rt, alloc, owner, parts, lent);
     free_is(rt, other, away, Freed::Cached);
     list_both(rt, alloc, owner, other);
+    list_apart(rt, alloc, owner, other);
     goes_home(rt, other, owner);
 }
 

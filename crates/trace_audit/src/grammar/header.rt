@@ -4,7 +4,7 @@ ghost use Rattle.region_cut.specs.declared.profile.Profile.{Profile};
 ghost use Rattle.trace_audit.specs.declared.grammar.header.Header.{Header};
 ghost use Rattle.trace_audit.specs.Grammar.{profile_text, desks_of, header_text, header_words, AreWords, IsHeader};
 
-use super::words::{cut_at, number, spells, two};
+use super::words::{cut_at, number, two};
 use region_cut::Profile;
 
 /// The numbers of a header line.
@@ -24,13 +24,11 @@ fn read_profile(word: &[u8]) -> Option<Profile>
     ensures found { IfSome result (λ p. word.now ≡ profile_text p) }
     ensures none { IfNone result ((p : Profile) → word.now ≡ profile_text p → ⊥) }
 {
-    if spells(word, b"pool") {
-        return Some(Profile::Pool);
+    match word {
+        b"pool" => Some(Profile::Pool),
+        b"pool2" => Some(Profile::Pool2),
+        _ => None,
     }
-    if spells(word, b"pool2") {
-        return Some(Profile::Pool2);
-    }
-    None
 }
 
 /// How many desks a floor may have.

@@ -4,7 +4,7 @@ ghost use Rattle.event_floor.specs.declared.request.Request.{Request};
 ghost use Rattle.trace_audit.specs.declared.grammar.request.Verb.{Verb};
 ghost use Rattle.trace_audit.specs.Grammar.{verb_text, verb_of, words_of, spelling, IsRequest};
 
-use super::words::{cut_at, number, spells, two};
+use super::words::{cut_at, number, two};
 use event_floor::Request;
 
 /// The first word of a request line.
@@ -24,31 +24,17 @@ fn read_verb(word: &[u8]) -> Option<Verb>
     ensures found { IfSome result (λ v. word.now ≡ verb_text v) }
     ensures none { IfNone result ((v : Verb) → word.now ≡ verb_text v → ⊥) }
 {
-    if spells(word, b"adopt") {
-        return Some(Verb::Adopts);
+    match word {
+        b"adopt" => Some(Verb::Adopts),
+        b"retire" => Some(Verb::Retires),
+        b"claim" => Some(Verb::Claims),
+        b"alloc" => Some(Verb::Allocs),
+        b"free" => Some(Verb::Frees),
+        b"send" => Some(Verb::Sends),
+        b"link" => Some(Verb::Links),
+        b"take" => Some(Verb::Takes),
+        _ => None,
     }
-    if spells(word, b"retire") {
-        return Some(Verb::Retires);
-    }
-    if spells(word, b"claim") {
-        return Some(Verb::Claims);
-    }
-    if spells(word, b"alloc") {
-        return Some(Verb::Allocs);
-    }
-    if spells(word, b"free") {
-        return Some(Verb::Frees);
-    }
-    if spells(word, b"send") {
-        return Some(Verb::Sends);
-    }
-    if spells(word, b"link") {
-        return Some(Verb::Links);
-    }
-    if spells(word, b"take") {
-        return Some(Verb::Takes);
-    }
-    None
 }
 
 /// The desk and the slot of a request to free, as `7 0.3`.

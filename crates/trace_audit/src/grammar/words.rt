@@ -1,5 +1,5 @@
 //! The words of a line.
-ghost use Rattle.std.specs.Prelude.{◌≡◌, ◌↔◌, ℕ, ◌<◌, ◌++◌, ◌∷◌, IsTrue, IfSome, IfNone, decimal};
+ghost use Rattle.std.specs.Prelude.{◌≡◌, ℕ, ◌<◌, ◌++◌, ◌∷◌, IfSome, IfNone, decimal};
 ghost use Rattle.trace_audit.specs.Grammar.{Lacks, IsWord, pair};
 
 /// The bytes before the first `mark`, and those behind it.
@@ -13,13 +13,6 @@ pub(crate) fn cut_at(bytes: &[u8], mark: u8) -> Option<(&[u8], &[u8])>
         }
     }
     None
-}
-
-/// Whether the word has the bytes of the text.
-pub(crate) fn spells(word: &[u8], text: &[u8]) -> bool
-    ensures { IsTrue result ↔ (word.now ≡ text.now) }
-{
-    word == text
 }
 
 /// The number that the bytes spell: `0`, or digits of which the first isn't 0.

@@ -87,7 +87,7 @@ fn run<R: Source, W: Sink>(
     }
 }
 
-/// Does so over a region that is there.
+/// Makes a floor over the region, drives it to the end of the trace, and writes what stands behind the answers.
 fn on_region<R: Source, W: Sink>(
     alloc: Global,
     header: Header,
@@ -116,7 +116,7 @@ fn on_region<R: Source, W: Sink>(
     }
 }
 
-/// Makes the region and the floor, drives it to the end of the trace, and writes what stands behind the answers.
+/// Makes the region, and a floor over it.
 fn on_floor<R: Source, W: Sink>(
     alloc: Global,
     header: Header,
