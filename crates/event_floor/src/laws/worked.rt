@@ -20,16 +20,21 @@ pub fn lending()
 
 /// The least class is taken, class 0 for no byte at all; above 512 bytes there is none.
 pub fn classes()
-    ensures { Gives (pool 1 2 2) (
+    ensures answers { Gives (pool 1 2 2) (
         (Adopt 0 0, Ok Done) ∷ (Alloc 0 0, Err NeedChunk) ∷ (Claim 0 0, Ok (Chunk 0)) ∷ (Claim 0 15, Ok (Chunk 1)) ∷
         (Alloc 0 0, Ok (Lent (slot_at (0, 0)))) ∷ (Alloc 0 512, Ok (Lent (slot_at (1, 0)))) ∷ (Alloc 0 513, Err TooLarge) ∷ []) }
+    ensures never { NeverGives (pool 1 2 2) (
+        (Adopt 0 0, Ok Done) ∷ (Alloc 0 0, Err NeedChunk) ∷ (Claim 0 0, Ok (Chunk 0)) ∷ (Claim 0 15, Ok (Chunk 1)) ∷
+        (Alloc 0 0, Ok (Lent (slot_at (1, 0)))) ∷ []) }
 {}
 
 /// What stands against a claim.
 pub fn claims()
-    ensures { Gives (pool 1 1 2) (
+    ensures answers { Gives (pool 1 1 2) (
         (Adopt 0 0, Ok Done) ∷ (Claim 0 15, Ok (Chunk 0)) ∷ (Claim 0 15, Err NotNeeded) ∷ (Claim 0 14, Err NoChunk) ∷
         (Claim 0 16, Err BadClass) ∷ (Claim 1 0, Err NoDesk) ∷ []) }
+    ensures never { NeverGives (pool 1 1 2) (
+        (Adopt 0 0, Ok Done) ∷ (Claim 0 15, Ok (Chunk 0)) ∷ (Claim 0 14, Ok (Chunk 0)) ∷ []) }
 {}
 
 /// Desk 0 frees a slot of each of three owners. They go to desk 7 in one batch, two of them on to
