@@ -25,7 +25,7 @@ fn write_some<'r>(rt: &impl Abort, desk: &mut Desk<'r>, count: u32, lent: &mut C
 }
 
 // Class 12 has 12 slots of 320 bytes, and 256 bytes at a chunk's end that are in no slot. All slots of two chunks are lent, and then written.
-pub fn writes<'r>(
+pub(crate) fn writes<'r>(
     rt: &impl Abort,
     alloc: Global,
     desk: &mut Desk<'r>,

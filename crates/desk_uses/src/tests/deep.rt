@@ -33,7 +33,7 @@ fn free_some<'r>(rt: &impl Abort, desk: &mut Desk<'r>, count: u64, lent: &mut Ch
 }
 
 // Half of all slots come home, and half are freed at another desk. Both desks go with their lists.
-pub fn frees_all<'r>(
+pub(crate) fn frees_all<'r>(
     rt: &impl Abort,
     alloc: Global,
     owner: &mut Desk<'r>,

@@ -37,7 +37,12 @@ fn has(rt: &impl Abort, desk: &Desk<'_>, number: u32, want: bool) {
 }
 
 // It has the slots of its class alone.
-pub fn gives<'r>(rt: &impl Abort, alloc: Global, desk: &mut Desk<'r>, parts: &mut Vec<Part<'r>>) {
+pub(crate) fn gives<'r>(
+    rt: &impl Abort,
+    alloc: Global,
+    desk: &mut Desk<'r>,
+    parts: &mut Vec<Part<'r>>,
+) {
     has(rt, desk, 15, false);
     claim(rt, desk, parts, class(15));
     has(rt, desk, 15, true);
@@ -79,7 +84,7 @@ fn at_most_one(rt: &impl Abort, desk: &Desk<'_>, lent: &Chain<'_>) {
 }
 
 // Of the eight slots each is given out at its first try, but for one where an allocation is refused.
-pub fn gives_all<'r>(
+pub(crate) fn gives_all<'r>(
     rt: &impl Abort,
     alloc: Global,
     desk: &mut Desk<'r>,
@@ -112,7 +117,7 @@ fn cache<'r>(
 }
 
 // Eight buffers of 512 bytes are the limit, and the ninth is above it.
-pub fn fills_two<'r>(
+pub(crate) fn fills_two<'r>(
     rt: &impl Abort,
     alloc: Global,
     owner: &mut Desk<'r>,

@@ -32,7 +32,12 @@ fn alloc_is_refused(
     assert!(rt; refused == Some(want));
 }
 
-pub fn refuses<'r>(rt: &impl Abort, alloc: Global, desk: &mut Desk<'r>, parts: &mut Vec<Part<'r>>) {
+pub(crate) fn refuses<'r>(
+    rt: &impl Abort,
+    alloc: Global,
+    desk: &mut Desk<'r>,
+    parts: &mut Vec<Part<'r>>,
+) {
     alloc_is_refused(rt, alloc, desk, 513, DeskError::TooLarge);
     let want = DeskError::NeedChunk(class(0));
     alloc_is_refused(rt, alloc, desk, 0, want);
@@ -86,7 +91,7 @@ fn lends_most(rt: &impl Abort, alloc: Global, desk: &mut Desk<'_>) {
 }
 
 // Class 19 has 4 slots.
-pub fn gives_large<'r>(
+pub(crate) fn gives_large<'r>(
     rt: &impl Abort,
     alloc: Global,
     desk: &mut Desk<'r>,

@@ -9,12 +9,12 @@ use std::alloc::Global;
 use std::process::Abort;
 
 /// Both are the same. Where they are not, `what` says which value it is.
-pub fn same(rt: &impl Abort, what: &str, found: u64, wanted: u64) {
+pub(crate) fn same(rt: &impl Abort, what: &str, found: u64, wanted: u64) {
     assert_eq!(rt; found, wanted, "{what}");
 }
 
 /// The same for a value of the desk `at`.
-pub fn same_at(rt: &impl Abort, what: &str, at: u16, found: u64, wanted: u64) {
+pub(crate) fn same_at(rt: &impl Abort, what: &str, at: u16, found: u64, wanted: u64) {
     assert_eq!(rt; found, wanted, "{what} {at}");
 }
 
@@ -27,7 +27,7 @@ fn parts<'r>(alloc: Global, region: &'r mut [u8]) -> Result<Vec<Part<'r>>, NoMem
 }
 
 /// The slots of the region's first chunk, for the class of this number.
-pub fn bump<'r>(
+pub(crate) fn bump<'r>(
     rt: &impl Abort,
     alloc: Global,
     region: &'r mut [u8],
@@ -39,14 +39,14 @@ pub fn bump<'r>(
 }
 
 /// An empty cache of the profile with 64 desks, which is due above 1,024 bytes.
-pub fn empty<'r>(rt: &impl Abort, width: u32, desk: u16) -> Cache<'r> {
+pub(crate) fn empty<'r>(rt: &impl Abort, width: u32, desk: u16) -> Cache<'r> {
     let digits = Digits::new(width).expect(rt, "a width of 1 to 6");
     assert!(rt; desk < 64, "a desk's number");
     Cache::new(desk, digits, 1024)
 }
 
 /// A cache of the desk 0 with a buffer for each owner.
-pub fn filled<'r>(
+pub(crate) fn filled<'r>(
     rt: &impl Abort,
     alloc: Global,
     bump: &mut Bump<'r>,
@@ -60,7 +60,7 @@ pub fn filled<'r>(
 }
 
 /// The same in a region of its own, with slots of the class of this number.
-pub fn filled_in<'r>(
+pub(crate) fn filled_in<'r>(
     rt: &impl Abort,
     alloc: Global,
     region: &'r mut [u8],
@@ -73,7 +73,7 @@ pub fn filled_in<'r>(
 }
 
 /// The batch for `t`, which has so many buffers.
-pub fn take<'r>(rt: &impl Abort, cache: &mut Cache<'r>, t: u16, count: u64) -> Batch<'r> {
+pub(crate) fn take<'r>(rt: &impl Abort, cache: &mut Cache<'r>, t: u16, count: u64) -> Batch<'r> {
     let batch = cache.take_bucket_for(t).expect(rt, "a batch");
     same_at(rt, "the batch for", t, batch.len(), count);
     batch

@@ -8,7 +8,7 @@ use std::test::Fail;
 use trace_audit::{End, ReplayError};
 
 /// The line of an audit that finds nothing wrong.
-pub const YES: &[u8] = b"audit yes\n";
+pub(crate) const YES: &[u8] = b"audit yes\n";
 
 /// The trace is whole, and its audit finds nothing wrong.
 const WHOLE: Result<Audited, ReplayError> = Ok((End::Whole, Some(Ok(()))));

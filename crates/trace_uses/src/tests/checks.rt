@@ -4,7 +4,7 @@ use std::process::Abort;
 use trace_audit::ReplayError;
 
 /// The replay of this row has this answer, and these bytes were written.
-pub fn has_left(
+pub(crate) fn has_left(
     rt: &impl Abort,
     row: &str,
     left: &Left,
@@ -17,7 +17,7 @@ pub fn has_left(
 }
 
 /// The same, of a turn.
-pub fn has_left_at(
+pub(crate) fn has_left_at(
     rt: &impl Abort,
     turn: usize,
     left: &Left,
@@ -30,12 +30,12 @@ pub fn has_left_at(
 }
 
 /// Nothing was read or written behind this turn.
-pub fn none_behind(rt: &impl Abort, turn: usize, count: u64) {
+pub(crate) fn none_behind(rt: &impl Abort, turn: usize, count: u64) {
     assert!(rt; count == turn as u64, "behind turn {turn}");
 }
 
 /// How often the line is there.
-pub fn times(bytes: &[u8], line: &[u8]) -> usize {
+pub(crate) fn times(bytes: &[u8], line: &[u8]) -> usize {
     let mut count = 0usize;
     for window in bytes.windows(line.len().max(1)) {
         if window == line {

@@ -6,18 +6,18 @@ use std::alloc::Global;
 use trace_audit::{End, Fault, ReplayError, Sink, Source, replay, replay_audited};
 
 /// How a replay ended, and what its audit answered, if it has one.
-pub type Audited = (End, Option<Result<(), Fault>>);
+pub(crate) type Audited = (End, Option<Result<(), Fault>>);
 
 /// What a replay answered, how many reads it made, and its writer.
 #[derive(Drop)]
-pub struct Left {
+pub(crate) struct Left {
     pub answer: Result<Audited, ReplayError>,
     pub reads: u64,
     pub written: Kept,
 }
 
 /// A replay from this reader to this writer.
-pub fn replay_over<'a>(alloc: Global, reader: Pieces<'a>, writer: Kept) -> Left
+pub(crate) fn replay_over<'a>(alloc: Global, reader: Pieces<'a>, writer: Kept) -> Left
     requires reader_down { ⟦<Pieces<'a> as Source>⟧.has_failed reader ≡ false }
     requires writer_down { ⟦<Kept as Sink>⟧.has_failed writer ≡ false }
 {
@@ -35,12 +35,12 @@ pub fn replay_over<'a>(alloc: Global, reader: Pieces<'a>, writer: Kept) -> Left
 }
 
 /// A replay of these bytes that nothing disturbs.
-pub fn replayed(alloc: Global, trace: &[u8]) -> Left {
+pub(crate) fn replayed(alloc: Global, trace: &[u8]) -> Left {
     replay_over(alloc, Pieces::new(trace, usize::MAX, 0), Kept::all(alloc))
 }
 
 /// An audited replay from this reader to this writer.
-pub fn audit_over<'a>(alloc: Global, reader: Pieces<'a>, writer: Kept) -> Left
+pub(crate) fn audit_over<'a>(alloc: Global, reader: Pieces<'a>, writer: Kept) -> Left
     requires reader_down { ⟦<Pieces<'a> as Source>⟧.has_failed reader ≡ false }
     requires writer_down { ⟦<Kept as Sink>⟧.has_failed writer ≡ false }
 {
@@ -55,6 +55,6 @@ pub fn audit_over<'a>(alloc: Global, reader: Pieces<'a>, writer: Kept) -> Left
 }
 
 /// An audited replay of these bytes that nothing disturbs.
-pub fn audited(alloc: Global, trace: &[u8]) -> Left {
+pub(crate) fn audited(alloc: Global, trace: &[u8]) -> Left {
     audit_over(alloc, Pieces::new(trace, usize::MAX, 0), Kept::all(alloc))
 }

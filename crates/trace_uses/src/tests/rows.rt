@@ -7,7 +7,7 @@ use std::test::Fail;
 use trace_audit::End;
 
 /// The replay of the trace has this end, and its report is this text.
-pub fn gives(rt: &(impl Abort + AllocGlobal), trace: &str, want: End, report: &str) {
+pub(crate) fn gives(rt: &(impl Abort + AllocGlobal), trace: &str, want: End, report: &str) {
     let left = replayed(rt.alloc(), trace.as_bytes());
     has_left(rt, trace, &left, Ok((want, None)), report.as_bytes());
 }
