@@ -25,7 +25,8 @@ fn noted<'r>(region: &'r mut [u8], x: u8) -> Endings<'r>
 
 fn ended<'r>(region: &'r mut [u8], x: u8) -> Option<(&'r mut [u8], &'r mut [u8])>
     requires { 8 ≤ length region.old }
-    ensures* writes_back { sem 𝓛 (LendsBothIf (Array u8 0) (Array u8 0) (Array u8 0) region.entry result ◌++◌ (slice_set region.old 4 x)) }
+    ensures* writes_back { sem 𝓛
+        (LendsBothIf (Array u8 0) (Array u8 0) (Array u8 0) region.entry result ◌++◌ (slice_set region.old 4 x)) }
     ensures none { result ≡ None }
 {
     let _endings = noted(region, x);

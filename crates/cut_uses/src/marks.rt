@@ -69,7 +69,8 @@ fn marked<'r>(region: &'r mut [u8], alloc: Global, x: u8) -> Front<'r>
 
 fn ended<'r>(region: &'r mut [u8], alloc: Global, x: u8) -> Option<(&'r mut [u8], &'r mut [u8])>
     requires { CHUNK ≤ length region.old }
-    ensures* writes_back { sem 𝓛 (LendsBothIf (Array u8 0) (Array u8 0) (Array u8 0) region.entry result ◌++◌ (slice_set region.old 64 x)) }
+    ensures* writes_back { sem 𝓛
+        (LendsBothIf (Array u8 0) (Array u8 0) (Array u8 0) region.entry result ◌++◌ (slice_set region.old 64 x)) }
     ensures none { result ≡ None }
 {
     let _front = marked(region, alloc, x);

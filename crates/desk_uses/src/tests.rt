@@ -1,4 +1,5 @@
-//! What no contract says: which slot comes first, that calls succeed, and the rows of the tables. Sizes and slots are those of the table of classes: class 15 has 8 slots of 512 bytes.
+//! What no contract says: which slot comes first, that calls succeed, and the rows of the tables. Sizes and slots are those
+//! of the table of classes: class 15 has 8 slots of 512 bytes.
 //!
 //! Each test also holds where one allocation is refused: the call that meets it changes nothing, and works when it is made again.
 mod bytes;

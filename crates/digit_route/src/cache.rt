@@ -58,7 +58,12 @@ impl<'r> Cache<'r> {
 
     pub(crate) fn from_row(row: Row<'r>, limit: u64) -> Cache<'r>
         requires { limit ≤ 1048576 }
-        ensures same { result ≡ record { number = row.entry.number; digits = row.entry.digits; limit = limit; items = result.items } }
+        ensures same { result ≡ record {
+          number = row.entry.number;
+          digits = row.entry.digits;
+          limit = limit;
+          items = result.items;
+        } }
         ensures items { IsPermutation row.entry.items result.items }
     {
         let row = row.restart();
@@ -196,7 +201,14 @@ impl<'r> Cache<'r> {
 
     /// Begins to post the cache, round by round.
     pub fn posting(self) -> Posting<'r>
-        ensures { result ≡ record { number = self.entry.number; digits = self.entry.digits; limit = self.entry.limit; round = 0; moves = 0; items = self.entry.items } }
+        ensures { result ≡ record {
+          number = self.entry.number;
+          digits = self.entry.digits;
+          limit = self.entry.limit;
+          round = 0;
+          moves = 0;
+          items = self.entry.items;
+        } }
     {
         let Cache {
             row,
@@ -214,7 +226,8 @@ impl<'r> Cache<'r> {
     /// than a number has digits.
     pub fn post_all<S: BatchSink<'r>>(self, sink: &mut S) -> (Cache<'r>, u64)
         ensures same { result.0 ≡ record self.entry { items = result.0.items } }
-        ensures posts { Posts self.entry.digits self.entry.number self.entry.items (S.given sink.old) (S.given sink.new) result.0.items }
+        ensures posts { Posts self.entry.digits self.entry.number self.entry.items (S.given sink.old) (S.given sink.new)
+            result.0.items }
         ensures stops { (result.0.items ≡ []) ⊎ (b : BatchState) × S.refuses sink.new b }
         ensures moves { result.0.items ≡ [] → shared self.entry.digits self.entry.number self.entry.items < 2 ^ 64
             → result.1 ≡ shared self.entry.digits self.entry.number self.entry.items }

@@ -36,7 +36,8 @@ pub(crate) fn scatter<'r>(
 pub(crate) fn scatter_all<'r>(chains: &mut Chains<'r>, digits: Digits, round: u32, from: Chains<'r>)
     requires { array_vec_len chains.old ≡ 2 ^ digits.width }
     ensures by_digit { IsByDigit digits round chains.old.items → IsByDigit digits round chains.new.items }
-    ensures items { IsPermutation (flat_map (λ x. x) chains.old.items ++ flat_map (λ x. x) from.entry.items) (flat_map (λ x. x) chains.new.items) }
+    ensures items { IsPermutation (flat_map (λ x. x) chains.old.items ++ flat_map (λ x. x) from.entry.items)
+        (flat_map (λ x. x) chains.new.items) }
     ensures len { array_vec_len chains.new ≡ array_vec_len chains.old }
 {
     let mut from = from;

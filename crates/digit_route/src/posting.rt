@@ -31,7 +31,14 @@ impl<'r> Model for Posting<'r> {
 
     ghost Value = { PostingState };
 
-    ghost view = { λ p. record { number = p.row.number; digits = p.row.digits; limit = p.limit; round = p.row.round; moves = p.moves; items = p.row.items } };
+    ghost view = { λ p. record {
+      number = p.row.number;
+      digits = p.row.digits;
+      limit = p.limit;
+      round = p.row.round;
+      moves = p.moves;
+      items = p.row.items;
+    } };
 
     ghost invariant = { λ p. p.limit ≤ 1048576 };
 }
@@ -39,7 +46,14 @@ impl<'r> Model for Posting<'r> {
 impl<'r> Posting<'r> {
     pub(crate) fn new(row: Row<'r>, limit: u64) -> Posting<'r>
         requires { limit ≤ 1048576 }
-        ensures { result ≡ record { number = row.entry.number; digits = row.entry.digits; limit = limit; round = row.entry.round; moves = 0; items = row.entry.items } }
+        ensures { result ≡ record {
+          number = row.entry.number;
+          digits = row.entry.digits;
+          limit = limit;
+          round = row.entry.round;
+          moves = 0;
+          items = row.entry.items;
+        } }
     {
         Posting {
             row,
@@ -71,7 +85,8 @@ impl<'r> Posting<'r> {
 
         // The rounds come in order: a batch has what belongs to the round that the call ends in,
         // and less is not left.
-        ensures here { IfSome result (λ b. All (λ (x : Buffer). common self.old.digits x.owner self.old.number ≡ self.new.round) b.items) }
+        ensures here { IfSome result (λ b.
+            All (λ (x : Buffer). common self.old.digits x.owner self.old.number ≡ self.new.round) b.items) }
         ensures left { All (λ (x : Buffer). self.new.round ≤ common self.old.digits x.owner self.old.number) self.new.items }
         ensures later { self.old.round ≤ self.new.round }
 
@@ -101,7 +116,12 @@ impl<'r> Posting<'r> {
     pub fn put_back(self, batch: Batch<'r>) -> Cache<'r>
         requires sender { batch.sender ≡ self.number }
         requires digits { batch.digits ≡ self.digits }
-        ensures same { result ≡ record { number = self.entry.number; digits = self.entry.digits; limit = self.entry.limit; items = result.items } }
+        ensures same { result ≡ record {
+          number = self.entry.number;
+          digits = self.entry.digits;
+          limit = self.entry.limit;
+          items = result.items;
+        } }
         ensures items { IsPermutation (self.entry.items ++ batch.entry.items) result.items }
     {
         let mut cache = self.end();
@@ -111,7 +131,12 @@ impl<'r> Posting<'r> {
 
     /// Ends the posting: the cache of what is left.
     pub fn end(self) -> Cache<'r>
-        ensures same { result ≡ record { number = self.entry.number; digits = self.entry.digits; limit = self.entry.limit; items = result.items } }
+        ensures same { result ≡ record {
+          number = self.entry.number;
+          digits = self.entry.digits;
+          limit = self.entry.limit;
+          items = result.items;
+        } }
         ensures items { IsPermutation self.entry.items result.items }
     {
         let Posting {
@@ -124,7 +149,12 @@ impl<'r> Posting<'r> {
 
     // The row of what is left, by the first digit.
     pub(crate) fn into_row(self) -> Row<'r>
-        ensures same { result ≡ record { number = self.entry.number; digits = self.entry.digits; round = 0; items = result.items } }
+        ensures same { result ≡ record {
+          number = self.entry.number;
+          digits = self.entry.digits;
+          round = 0;
+          items = result.items;
+        } }
         ensures items { IsPermutation self.entry.items result.items }
     {
         let Posting {

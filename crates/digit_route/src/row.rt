@@ -33,7 +33,12 @@ impl<'r> Model for Row<'r> {
 
     ghost Value = { Shown };
 
-    ghost view = { λ r. record { number = r.number; digits = r.digits; round = r.round; items = flat_map (λ x. x) r.chains.items } };
+    ghost view = { λ r. record {
+      number = r.number;
+      digits = r.digits;
+      round = r.round;
+      items = flat_map (λ x. x) r.chains.items;
+    } };
 
     ghost invariant = { λ r. IsRow r.digits r.number r.round r.chains.items };
 }

@@ -44,7 +44,12 @@ impl<'r> Chunks<'r> {
     /// The chunks of these parts, none of them drawn.
     pub(crate) fn new(alloc: Global, parts: Vec<Part<'r>>) -> Result<Chunks<'r>, NoMemory>
         requires { AreNumbered parts.items }
-        ensures { IfOk result (λ c. c ≡ record { parts = map name_of parts.entry.items; drawn = []; undrawn = map bytes_of parts.entry.items }) }
+        ensures { IfOk result (λ c.
+            c ≡ record {
+              parts = map name_of parts.entry.items;
+              drawn = [];
+              undrawn = map bytes_of parts.entry.items;
+            }) }
     {
         let drawn = Vec::with_capacity(alloc, parts.len())?;
         let names = names_of(&parts);
@@ -72,7 +77,9 @@ impl<'r> Chunks<'r> {
 
     /// Lets go the parts that aren't drawn.
     pub(crate) fn end(self, endings: &mut Endings<'r>)
-        ensures { endings.new ≡ record endings.old { known = ended_parts (drop (length self.entry.drawn) self.entry.parts) self.entry.undrawn ++ endings.old.known } }
+        ensures { endings.new ≡ record endings.old {
+          known = ended_parts (drop (length self.entry.drawn) self.entry.parts) self.entry.undrawn ++ endings.old.known;
+        } }
     {
         let Chunks {
             undrawn,

@@ -24,7 +24,8 @@ fn end_seat<'r>(seat: Seat<'r>, endings: &mut Endings<'r>)
 // The same of all desks.
 fn end_seats<'r>(desks: Vec<Seat<'r>>, endings: &mut Endings<'r>)
     ensures chunks { endings.new.chunks ≡ flat_map chunks_of desks.entry.items ++ endings.old.chunks }
-    ensures known { IsPermutation (map ended_of (flat_map buffers_with desks.entry.items) ++ endings.old.known) endings.new.known }
+    ensures known { IsPermutation (map ended_of (flat_map buffers_with desks.entry.items) ++ endings.old.known)
+        endings.new.known }
 {
     let mut desks = desks;
     while let Some(seat) = desks.pop() {
@@ -36,7 +37,9 @@ impl<'r> Lists<'r> {
     /// Lets go all buffers, the cursors, and the parts that aren't drawn.
     pub(crate) fn end(self) -> Endings<'r>
         ensures chunks { result.chunks ≡ flat_map chunks_of self.entry.desks }
-        ensures known { IsPermutation (map ended_of (buffers_of self.entry) ++ ended_parts (undrawn_parts self.entry) self.entry.undrawn) result.known }
+        ensures known { IsPermutation
+            (map ended_of (buffers_of self.entry) ++ ended_parts (undrawn_parts self.entry) self.entry.undrawn)
+            result.known }
     {
         let Lists {
             digits: _,

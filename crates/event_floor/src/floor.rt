@@ -62,7 +62,8 @@ impl<'r> Floor<'r> {
         requires limit { limit ≤ 1048576 }
         requires parts { AreNumbered parts.items }
         ensures opening { IfOk result (λ f. f ≡ opening desks parts.entry.items digits limit) }
-        ensures shows { IfOk result (λ f. Shown (listing_of f) (machine_opening desks (length parts.entry.items) digits limit) (λ slot. 0)) }
+        ensures shows { IfOk result (λ f.
+            Shown (listing_of f) (machine_opening desks (length parts.entry.items) digits limit) (λ slot. 0)) }
     {
         let _profile = digits.profile();
         let lists = Lists::new(alloc, parts, desks, digits, limit)?;

@@ -75,7 +75,8 @@ impl<'r> Inboxes<'r> {
     /// Links the batch of this number, where it still has to be linked. The index tells the inbox, so it takes a time that grows with the
     /// logarithm of how many wait there.
     pub(crate) fn link(&mut self, number: u32) -> bool
-        ensures { MatchBool result (LinksHalf number self.old self.new) (NonePosted (IsHalf number) self.old × (self.new ≡ self.old)) }
+        ensures { MatchBool result (LinksHalf number self.old self.new)
+            (NonePosted (IsHalf number) self.old × (self.new ≡ self.old)) }
     {
         let Some(half) = self.halves.remove(number) else {
             return false;
@@ -101,7 +102,8 @@ impl<'r> Inboxes<'r> {
     /// Takes the front of the inbox of `b`, or None where there is none or it still has to be linked.
     pub(crate) fn take(&mut self, b: usize) -> Option<Batch<'r>>
         requires { b < length self.old }
-        ensures { MatchOption result (HasNoFront (inbox_at self.old b) × (self.new ≡ self.old)) (λ batch. TakesFrom batch b self.old self.new) }
+        ensures { MatchOption result (HasNoFront (inbox_at self.old b) × (self.new ≡ self.old))
+            (λ batch. TakesFrom batch b self.old self.new) }
     {
         self.inboxes[b].take()
     }

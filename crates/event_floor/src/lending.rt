@@ -15,7 +15,8 @@ use std::alloc::Global;
 
 /// The class of a claim: one of those that the profile uses.
 fn class_of(digits: Digits, number: u32) -> Option<Class>
-    ensures { let limit = classes_of (profile_of digits.bits) in MatchOption result (limit ≤ number) (λ class. (class ≡ number) × (number < limit)) }
+    ensures { let limit = classes_of (profile_of digits.bits) in
+        MatchOption result (limit ≤ number) (λ class. (class ≡ number) × (number < limit)) }
 {
     if number < digits.profile().classes() {
         Class::new(number)

@@ -101,7 +101,8 @@ impl<'r> Lists<'r> {
 
     /// What its type keeps.
     pub(crate) fn keeps(&self)
-        ensures { IsFloor self.now.digits self.now.limit self.now.chunks self.now.desks self.now.lent self.now.inboxes self.now.next }
+        ensures { IsFloor self.now.digits self.now.limit self.now.chunks self.now.desks self.now.lent self.now.inboxes
+            self.now.next }
     {
         let _desks = &self.desks;
     }

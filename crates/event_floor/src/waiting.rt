@@ -22,7 +22,14 @@ impl<'r> Model for Waiting<'r> {
 
     ghost Value = { Posted };
 
-    ghost view = { λ w. record { number = w.number; sender = w.batch.sender; address = w.batch.address; digits = w.batch.digits; linked = w.linked; buffers = w.batch.items } };
+    ghost view = { λ w. record {
+      number = w.number;
+      sender = w.batch.sender;
+      address = w.batch.address;
+      digits = w.batch.digits;
+      linked = w.linked;
+      buffers = w.batch.items;
+    } };
 }
 
 impl<'r> Waiting<'r> {

@@ -20,7 +20,8 @@ pub fn open<'r>(
 ) -> Option<Floor<'r>>
     requires some { 1 ≤ desks }
     requires few { desks ≤ 2 ^ digits.bits }
-    ensures { IfSome result (λ floor. Shown (listing_of floor) (opening desks (length region.old / 4096) digits 4096) (λ slot. 0)) }
+    ensures { IfSome result (λ floor.
+        Shown (listing_of floor) (opening desks (length region.old / 4096) digits 4096) (λ slot. 0)) }
 {
     parts_make_the_whole();
     let Ok(parts) = cut(alloc, region) else {

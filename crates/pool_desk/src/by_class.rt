@@ -58,7 +58,8 @@ pub(crate) fn claim_at<'r>(homes: &mut ByClass<'r>, k: usize, part: Part<'r>)
 pub(crate) fn keep_at<'r>(homes: &mut ByClass<'r>, k: usize, buf: Buf<'r>)
     requires len { k < array_vec_len homes.old }
     requires own { IsAtHome (home_at homes.old.items k).owner (home_at homes.old.items k).class (Kept buf) }
-    ensures same { homes.new.items ≡ slice_set homes.old.items k (record (home_at homes.old.items k) { slots = (home_at homes.new.items k).slots }) }
+    ensures same { homes.new.items ≡ slice_set homes.old.items k
+        (record (home_at homes.old.items k) { slots = (home_at homes.new.items k).slots }) }
     ensures slots { IsPermutation (Kept buf.entry ∷ (home_at homes.old.items k).slots) (home_at homes.new.items k).slots }
 {
     homes[k].keep(buf);
@@ -71,7 +72,11 @@ pub(crate) fn alloc_at<'r>(
     alloc: Global,
 ) -> Result<Buf<'r>, DeskError>
     requires { k < array_vec_len homes.old }
-    ensures same { homes.new.items ≡ slice_set homes.old.items k (record (home_at homes.old.items k) { slots = (home_at homes.new.items k).slots; drawn = (home_at homes.new.items k).drawn }) }
+    ensures same { homes.new.items ≡ slice_set homes.old.items k
+        (record (home_at homes.old.items k) {
+          slots = (home_at homes.new.items k).slots;
+          drawn = (home_at homes.new.items k).drawn;
+        }) }
     ensures value { let h = home_at homes.old.items k in MatchResult result
         (λ b. GivesOne h.owner h.class h.slots b (home_at homes.new.items k).slots h.drawn (home_at homes.new.items k).drawn)
         (λ e. IsRefused h.class h.slots e × (homes.new.items ≡ homes.old.items)) }

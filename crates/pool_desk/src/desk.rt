@@ -37,7 +37,15 @@ impl<'r> Model for Desk<'r> {
 
     ghost Value = { DeskState };
 
-    ghost view = { λ d. record { number = d.cache.number; digits = d.cache.digits; limit = d.cache.limit; worker = d.worker; home = d.homes.slots; drawn = d.homes.drawn; cached = d.cache.items } };
+    ghost view = { λ d. record {
+      number = d.cache.number;
+      digits = d.cache.digits;
+      limit = d.cache.limit;
+      worker = d.worker;
+      home = d.homes.slots;
+      drawn = d.homes.drawn;
+      cached = d.cache.items;
+    } };
 
     ghost invariant = { λ d. d.homes.owner ≡ d.cache.number };
 }
@@ -278,8 +286,12 @@ impl<'r> Desk<'r> {
 
     /// Lets go the buffers at home and in the cache, and the cursors over its chunks. Takes a walk over the buffers, and no memory.
     pub fn end(self, endings: &mut Endings<'r>)
-        ensures chunks { endings.new ≡ record endings.old { known = endings.new.known; chunks = self.entry.drawn ++ endings.old.chunks } }
-        ensures known { IsPermutation (map ended_of (kept_in self.entry.home ++ self.entry.cached) ++ endings.old.known) endings.new.known }
+        ensures chunks { endings.new ≡ record endings.old {
+          known = endings.new.known;
+          chunks = self.entry.drawn ++ endings.old.chunks;
+        } }
+        ensures known { IsPermutation (map ended_of (kept_in self.entry.home ++ self.entry.cached) ++ endings.old.known)
+            endings.new.known }
     {
         let Desk {
             worker: _,

@@ -33,9 +33,15 @@ impl<'r> Model for Home<'r> {
 
     ghost Value = { HomeState };
 
-    ghost view = { λ h. record { owner = h.owner; class = h.class; slots = map Kept h.list ++ unused h.bump; drawn = open_chunk h.bump ++ h.ties.all } };
+    ghost view = { λ h. record {
+      owner = h.owner;
+      class = h.class;
+      slots = map Kept h.list ++ unused h.bump;
+      drawn = open_chunk h.bump ++ h.ties.all;
+    } };
 
-    ghost invariant = { λ h. (h.owner < 4096) × All (λ (b : Buffer). (b.owner ≡ h.owner) × (b.class ≡ h.class)) h.list × IfSome h.bump (λ (b : Bump). b.class ≡ h.class) };
+    ghost invariant = { λ h. (h.owner < 4096) × All (λ (b : Buffer). (b.owner ≡ h.owner) × (b.class ≡ h.class)) h.list
+        × IfSome h.bump (λ (b : Bump). b.class ≡ h.class) };
 }
 
 impl Default for Home<'_> {
@@ -78,7 +84,11 @@ impl<'r> Home<'r> {
     /// Takes a part for the class, where no slot is there.
     pub(crate) fn claim(&mut self, part: Part<'r>)
         requires { self.old.slots ≡ [] }
-        ensures same { self.new ≡ record self.old { slots = unused_from part.entry.chunk self.old.class part.entry.bytes.ghost_name (slots_of self.old.class) 0 part.entry.bytes.now; drawn = self.new.drawn } }
+        ensures same { self.new ≡ record self.old {
+          slots = unused_from part.entry.chunk self.old.class
+              part.entry.bytes.ghost_name (slots_of self.old.class) 0 part.entry.bytes.now;
+          drawn = self.new.drawn;
+        } }
         ensures drawn { Draws part.entry self.old.class self.old.drawn self.new.drawn }
     {
         match &mut self.bump {
@@ -136,7 +146,10 @@ impl<'r> Home<'r> {
 
     /// Lets go the buffers and the cursor.
     pub(crate) fn end(self, endings: &mut Endings<'r>)
-        ensures { endings.new ≡ record { known = map ended_of (kept_in self.entry.slots) ++ endings.old.known; chunks = self.entry.drawn ++ endings.old.chunks } }
+        ensures { endings.new ≡ record {
+          known = map ended_of (kept_in self.entry.slots) ++ endings.old.known;
+          chunks = self.entry.drawn ++ endings.old.chunks;
+        } }
     {
         let Home {
             owner: _,

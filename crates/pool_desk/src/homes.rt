@@ -30,7 +30,11 @@ impl<'r> Model for Homes<'r> {
 
     ghost Value = { HomesState };
 
-    ghost view = { λ h. record { owner = h.owner; slots = flat_map slots_at h.by_class.items; drawn = flat_map drawn_at h.by_class.items } };
+    ghost view = { λ h. record {
+      owner = h.owner;
+      slots = flat_map slots_at h.by_class.items;
+      drawn = flat_map drawn_at h.by_class.items;
+    } };
 
     ghost invariant = { λ h. AreHomes h.owner h.by_class.items };
 }
@@ -59,7 +63,9 @@ impl<'r> Homes<'r> {
         requires { HasClass class self.old.slots → ⊥ }
         ensures same { self.new ≡ record self.old { slots = self.new.slots; drawn = self.new.drawn } }
         ensures needed { LacksClass class self.old.slots }
-        ensures slots { IsPermutation (unused_from part.entry.chunk class part.entry.bytes.ghost_name (slots_of class) 0 part.entry.bytes.now ++ self.old.slots) self.new.slots }
+        ensures slots { IsPermutation
+            (unused_from part.entry.chunk class part.entry.bytes.ghost_name (slots_of class) 0 part.entry.bytes.now
+            ++ self.old.slots) self.new.slots }
         ensures drawn { Draws part.entry class self.old.drawn self.new.drawn }
     {
         claim_at(&mut self.by_class, class.number() as usize, part);
@@ -101,7 +107,10 @@ impl<'r> Homes<'r> {
 
     /// Lets go the buffers and the cursors.
     pub(crate) fn end(self, endings: &mut Endings<'r>)
-        ensures { endings.new ≡ record { known = map ended_of (kept_in self.entry.slots) ++ endings.old.known; chunks = self.entry.drawn ++ endings.old.chunks } }
+        ensures { endings.new ≡ record {
+          known = map ended_of (kept_in self.entry.slots) ++ endings.old.known;
+          chunks = self.entry.drawn ++ endings.old.chunks;
+        } }
     {
         let Homes { owner: _, by_class } = self;
         end_all(by_class, endings);

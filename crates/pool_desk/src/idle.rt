@@ -26,7 +26,13 @@ impl<'r> Model for IdleDesk<'r> {
 
     ghost Value = { IdleState };
 
-    ghost view = { λ d. record { number = d.cache.number; digits = d.cache.digits; limit = d.cache.limit; home = d.homes.slots; drawn = d.homes.drawn } };
+    ghost view = { λ d. record {
+      number = d.cache.number;
+      digits = d.cache.digits;
+      limit = d.cache.limit;
+      home = d.homes.slots;
+      drawn = d.homes.drawn;
+    } };
 
     ghost invariant = { λ d. (d.homes.owner ≡ d.cache.number) × (d.cache.items ≡ []) };
 }
@@ -55,7 +61,16 @@ impl<'r> IdleDesk<'r> {
 
     /// The desk in the hands of a worker, whose number is kept and not looked at. All else stays.
     pub fn adopt(self, worker: u32) -> Desk<'r>
-        ensures { let d = self.entry in result ≡ record { number = d.number; digits = d.digits; limit = d.limit; worker = worker; home = d.home; drawn = d.drawn; cached = [] } }
+        ensures { let d = self.entry in
+            result ≡ record {
+              number = d.number;
+              digits = d.digits;
+              limit = d.limit;
+              worker = worker;
+              home = d.home;
+              drawn = d.drawn;
+              cached = [];
+            } }
     {
         let IdleDesk { homes, cache } = self;
         Desk {
@@ -88,7 +103,10 @@ impl<'r> IdleDesk<'r> {
 
     /// Lets go the buffers at home, and the cursors over its chunks. Takes a walk over the buffers, and no memory.
     pub fn end(self, endings: &mut Endings<'r>)
-        ensures { endings.new ≡ record { known = map ended_of (kept_in self.entry.home) ++ endings.old.known; chunks = self.entry.drawn ++ endings.old.chunks } }
+        ensures { endings.new ≡ record {
+          known = map ended_of (kept_in self.entry.home) ++ endings.old.known;
+          chunks = self.entry.drawn ++ endings.old.chunks;
+        } }
     {
         let IdleDesk { homes, cache: _ } = self;
         homes.end(endings);

@@ -31,12 +31,21 @@ impl<'r> Model for DeskPosting<'r> {
 impl<'r> DeskPosting<'r> {
     /// Takes out all that goes to some owner of a buffer that is left, or says that nothing is left. Takes no memory.
     pub fn next_batch(&mut self) -> Option<Batch<'r>>
-        ensures same { self.new ≡ record self.old { posting = record self.old.posting { round = self.new.posting.round; moves = self.new.posting.moves; items = self.new.posting.items } } }
+        ensures same { self.new ≡ record self.old {
+          posting =
+              record self.old.posting {
+                round = self.new.posting.round;
+                moves = self.new.posting.moves;
+                items = self.new.posting.items;
+              };
+        } }
         ensures value { MatchOption result ((self.old.posting.items ≡ []) × (self.new.posting.items ≡ []))
             (λ b. Gives self.old.posting.digits self.old.posting.number self.old.posting.items b self.new.posting.items) }
         // rounds come in order: the buffers given share just as many digits with the desk as the round's number, those that are left no fewer
-        ensures here { let p = self.old.posting in IfSome result (λ b. All (λ (x : Buffer). common p.digits x.owner p.number ≡ self.new.posting.round) b.items) }
-        ensures left { let p = self.old.posting in All (λ (x : Buffer). self.new.posting.round ≤ common p.digits x.owner p.number) self.new.posting.items }
+        ensures here { let p = self.old.posting in IfSome result (λ b.
+            All (λ (x : Buffer). common p.digits x.owner p.number ≡ self.new.posting.round) b.items) }
+        ensures left { let p = self.old.posting in
+            All (λ (x : Buffer). self.new.posting.round ≤ common p.digits x.owner p.number) self.new.posting.items }
         ensures later { self.old.posting.round ≤ self.new.posting.round }
         ensures counted { all_moves self.old.posting < 2 ^ 64 → all_moves self.new.posting ≡ all_moves self.old.posting }
     {
@@ -45,7 +54,16 @@ impl<'r> DeskPosting<'r> {
 
     /// The desk, with what is left in its cache. Takes no memory.
     pub fn end(self) -> Desk<'r>
-        ensures same { let d = self.entry in let p = d.posting in result ≡ record { number = p.number; digits = p.digits; limit = p.limit; worker = d.worker; home = d.home; drawn = d.drawn; cached = result.cached } }
+        ensures same { let d = self.entry in let p = d.posting in
+            result ≡ record {
+              number = p.number;
+              digits = p.digits;
+              limit = p.limit;
+              worker = d.worker;
+              home = d.home;
+              drawn = d.drawn;
+              cached = result.cached;
+            } }
         ensures items { IsPermutation self.entry.posting.items result.cached }
     {
         let DeskPosting {
@@ -64,7 +82,16 @@ impl<'r> DeskPosting<'r> {
     pub fn refused(self, batch: Batch<'r>) -> Desk<'r>
         requires sender { batch.sender ≡ self.posting.number }
         requires digits { batch.digits ≡ self.posting.digits }
-        ensures same { let d = self.entry in let p = d.posting in result ≡ record { number = p.number; digits = p.digits; limit = p.limit; worker = d.worker; home = d.home; drawn = d.drawn; cached = result.cached } }
+        ensures same { let d = self.entry in let p = d.posting in
+            result ≡ record {
+              number = p.number;
+              digits = p.digits;
+              limit = p.limit;
+              worker = d.worker;
+              home = d.home;
+              drawn = d.drawn;
+              cached = result.cached;
+            } }
         ensures items { IsPermutation (self.entry.posting.items ++ batch.entry.items) result.cached }
     {
         let DeskPosting {

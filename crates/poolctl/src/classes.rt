@@ -24,7 +24,8 @@ fn class_line(alloc: Global, class: Class) -> Result<String, AllocError>
 /// Writes the line of each class of the profile.
 pub fn write_classes<W: Sink>(alloc: Global, profile: Profile, sink: &mut W) -> Outcome
     requires { W.has_failed sink.old ≡ false }
-    ensures done { result ≡ Outcome.Done → Appends (W.contents sink.old) (W.contents sink.new) (class_lines (classes_of profile)) }
+    ensures done { result ≡ Outcome.Done →
+        Appends (W.contents sink.old) (W.contents sink.new) (class_lines (classes_of profile)) }
     ensures known { (result ≡ Outcome.Done) ⊎ (result ≡ Outcome.NoMemory) ⊎ (result ≡ Outcome.WriteFailed) }
     ensures write { (W.has_failed sink.new ≡ true) ↔ (result ≡ Outcome.WriteFailed) }
 {

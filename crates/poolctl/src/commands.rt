@@ -24,7 +24,8 @@ pub fn command<R: Source, W: Sink>(
     requires sink_down { W.has_failed sink.old ≡ false }
     ensures read { (R.has_failed source.new ≡ true) ↔ (result ≡ Outcome.ReadFailed) }
     ensures write { (W.has_failed sink.new ≡ true) ↔ (result ≡ Outcome.WriteFailed) }
-    ensures audit { result ≡ Outcome.AuditFailed → TellsNoMemory (R.remaining source.old) (R.remaining source.new) (W.contents sink.old) (W.contents sink.new) }
+    ensures audit { result ≡ Outcome.AuditFailed →
+        TellsNoMemory (R.remaining source.old) (R.remaining source.new) (W.contents sink.old) (W.contents sink.new) }
 {
     match words::read(alloc, words) {
         Ok(Asked::Classes(profile)) => write_classes(alloc, profile, sink),

@@ -77,7 +77,9 @@ fn route_text(alloc: Global, digits: Digits, from: u16, owner: u16) -> Result<St
 /// goes home.
 pub fn write_route<W: Sink>(alloc: Global, route: Route, sink: &mut W) -> Outcome
     requires { W.has_failed sink.old ≡ false }
-    ensures done { result ≡ Outcome.Done → Appends (W.contents sink.old) (W.contents sink.new) (route_text (scheme_of route.profile route.width) route.from route.owner) }
+    ensures done { result ≡ Outcome.Done →
+        Appends (W.contents sink.old) (W.contents sink.new)
+        (route_text (scheme_of route.profile route.width) route.from route.owner) }
     ensures known { (result ≡ Outcome.Done) ⊎ (result ≡ Outcome.NoMemory) ⊎ (result ≡ Outcome.WriteFailed) }
     ensures write { (W.has_failed sink.new ≡ true) ↔ (result ≡ Outcome.WriteFailed) }
 {

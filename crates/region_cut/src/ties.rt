@@ -30,7 +30,13 @@ pub(crate) fn gather<'r>(
 ) -> PhantomData<&'r mut u8>
     requires unsettled { tie.old.settled ≡ [] }
     requires tied { tie.old.rest ≡ rest.ghost_name }
-    ensures { ties.new.all ≡ record { chunk = chunk; class = class; whole = tie.old.whole; taken = tie.old.taken; rest = rest.old } ∷ ties.old.all }
+    ensures { ties.new.all ≡ record {
+      chunk = chunk;
+      class = class;
+      whole = tie.old.whole;
+      taken = tie.old.taken;
+      rest = rest.old;
+    } ∷ ties.old.all }
 {
     PhantomData
 }

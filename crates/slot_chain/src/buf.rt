@@ -88,7 +88,9 @@ impl<'r> Buf<'r> {
 
     // The place and the length of the bytes.
     fn words(&mut self) -> (*mut u8, usize)
-        ensures { (self.new ≡ self.old) × (result.0 ≡ block_ptr self.old.bytes.ref_ptr.0 self.old.bytes.ref_ptr.1) × (result.1 ≡ length self.old.bytes.now) × (length self.old.bytes.now * 1 < 2 ^ 63) × (length self.old.bytes.now ≡ size_of self.old.class) }
+        ensures { (self.new ≡ self.old) × (result.0 ≡ block_ptr self.old.bytes.ref_ptr.0 self.old.bytes.ref_ptr.1)
+            × (result.1 ≡ length self.old.bytes.now) × (length self.old.bytes.now * 1 < 2 ^ 63)
+            × (length self.old.bytes.now ≡ size_of self.old.class) }
     {
         self.node.lease.words()
     }

@@ -66,10 +66,17 @@ fn take_line(held: &mut Held) -> Option<Held>
 fn refill<R: Source>(held: &mut Held, reader: &mut R) -> Result<bool, Failed>
     requires room { array_vec_len held.old < 65 }
     requires down { R.has_failed reader.old ≡ false }
-    ensures more { IfOk result (λ more. IsTrue more → (given : List ℕ) × (0 < length given) × Consumes (R.remaining reader.old) (R.remaining reader.new) given × (held.new.items ≡ held.old.items ++ given)) }
-    ensures end { IfOk result (λ more. (more ≡ false) → Consumes (R.remaining reader.old) (R.remaining reader.new) [] × IsAtEnd (R.remaining reader.new) × (held.new.items ≡ held.old.items)) }
+    ensures more { IfOk result (λ more.
+        IsTrue more → (given : List ℕ) × (0 < length given)
+        × Consumes (R.remaining reader.old) (R.remaining reader.new) given
+        × (held.new.items ≡ held.old.items ++ given)) }
+    ensures end { IfOk result (λ more.
+        (more ≡ false) → Consumes (R.remaining reader.old) (R.remaining reader.new) []
+        × IsAtEnd (R.remaining reader.new) × (held.new.items ≡ held.old.items)) }
     ensures ok { IfOk result (λ _. R.has_failed reader.new ≡ false) }
-    ensures err { IfErr result (λ _. (R.has_failed reader.new ≡ true) × Keeps (R.remaining reader.old) (R.remaining reader.new) × (held.new.items ≡ held.old.items)) }
+    ensures err { IfErr result (λ _.
+        (R.has_failed reader.new ≡ true) × Keeps (R.remaining reader.old) (R.remaining reader.new)
+        × (held.new.items ≡ held.old.items)) }
 {
     let mut piece = [0u8; 65];
     let room = 65 - held.len();
@@ -86,9 +93,13 @@ fn refill<R: Source>(held: &mut Held, reader: &mut R) -> Result<bool, Failed>
 /// Takes the next line, reading as far as it must.
 pub(crate) fn next_line<R: Source>(held: &mut Held, reader: &mut R) -> Result<Next, Failed>
     requires { R.has_failed reader.old ≡ false }
-    ensures ok { IfOk result (λ next. (given : List ℕ) × Consumes (R.remaining reader.old) (R.remaining reader.new) given × Took (held.old.items ++ given) held.new.items (IsAtEnd (R.remaining reader.new)) next) }
+    ensures ok { IfOk result (λ next.
+        (given : List ℕ) × Consumes (R.remaining reader.old) (R.remaining reader.new) given
+        × Took (held.old.items ++ given) held.new.items (IsAtEnd (R.remaining reader.new)) next) }
     ensures down { IfOk result (λ _. R.has_failed reader.new ≡ false) }
-    ensures err { IfErr result (λ _. (given : List ℕ) × Consumes (R.remaining reader.old) (R.remaining reader.new) given × (held.new.items ≡ held.old.items ++ given) × IsPartial held.new.items) }
+    ensures err { IfErr result (λ _.
+        (given : List ℕ) × Consumes (R.remaining reader.old) (R.remaining reader.new) given
+        × (held.new.items ≡ held.old.items ++ given) × IsPartial held.new.items) }
     ensures up { IfErr result (λ _. R.has_failed reader.new ≡ true) }
 {
     'reading: loop {
@@ -115,10 +126,16 @@ pub(crate) fn next_line<R: Source>(held: &mut Held, reader: &mut R) -> Result<Ne
 /// Whether the input ends here. Asked where no further line may stand: one byte is enough to tell.
 pub(crate) fn is_over<R: Source>(held: &mut Held, reader: &mut R) -> Result<bool, Failed>
     requires { R.has_failed reader.old ≡ false }
-    ensures more { IfOk result (λ over. (over ≡ false) → (given : List ℕ) × Consumes (R.remaining reader.old) (R.remaining reader.new) given × (0 < length (held.old.items ++ given))) }
-    ensures over { IfOk result (λ over. IsTrue over → Consumes (R.remaining reader.old) (R.remaining reader.new) [] × IsAtEnd (R.remaining reader.new) × (held.old.items ≡ [])) }
+    ensures more { IfOk result (λ over.
+        (over ≡ false) → (given : List ℕ) × Consumes (R.remaining reader.old) (R.remaining reader.new) given
+        × (0 < length (held.old.items ++ given))) }
+    ensures over { IfOk result (λ over.
+        IsTrue over → Consumes (R.remaining reader.old) (R.remaining reader.new) [] × IsAtEnd (R.remaining reader.new)
+        × (held.old.items ≡ [])) }
     ensures down { IfOk result (λ _. R.has_failed reader.new ≡ false) }
-    ensures err { IfErr result (λ _. (R.has_failed reader.new ≡ true) × Keeps (R.remaining reader.old) (R.remaining reader.new) × (held.old.items ≡ [])) }
+    ensures err { IfErr result (λ _.
+        (R.has_failed reader.new ≡ true) × Keeps (R.remaining reader.old) (R.remaining reader.new)
+        × (held.old.items ≡ [])) }
 {
     if !held.is_empty() {
         return Ok(false);

@@ -20,9 +20,13 @@ pub(crate) fn drive<R: Source, W: Sink>(
 ) -> Result<End, ReplayError>
     requires reader_down { R.has_failed reader.old ≡ false }
     requires writer_down { W.has_failed writer.old ≡ false }
-    ensures driven { IfOk result (λ end. Driven (R.remaining reader.old) (R.remaining reader.new) held.old.items floor.old floor.new (W.contents writer.old) (W.contents writer.new) end) }
+    ensures driven { IfOk result (λ end.
+        Driven (R.remaining reader.old) (R.remaining reader.new) held.old.items floor.old floor.new
+        (W.contents writer.old) (W.contents writer.new) end) }
     ensures down { IfOk result (λ _. (R.has_failed reader.new ≡ false) × (W.has_failed writer.new ≡ false)) }
-    ensures stopped { IfErr result (λ e. Stopped (R.remaining reader.old) (R.remaining reader.new) held.old.items floor.old (W.contents writer.old) (W.contents writer.new) e) }
+    ensures stopped { IfErr result (λ e.
+        Stopped (R.remaining reader.old) (R.remaining reader.new) held.old.items floor.old (W.contents writer.old)
+        (W.contents writer.new) e) }
     ensures up { IfErr result (λ e. Failures (R.has_failed reader.new) (W.has_failed writer.new) e) }
 {
     for number in 2..1_000_001u32 {

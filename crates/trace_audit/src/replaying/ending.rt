@@ -40,7 +40,8 @@ pub enum ReplayError {
 /// Writes the line of a bad line, if there is one, and the closing lines.
 fn close_behind<W: Sink>(floor: &Floor<'_>, writer: &mut W, end: End) -> Result<(), Failed>
     requires { W.has_failed writer.old ≡ false }
-    ensures { Writes (W.contents writer.old) (W.contents writer.new) (W.has_failed writer.new) (tail_text (told floor.now) end) result }
+    ensures { Writes (W.contents writer.old) (W.contents writer.new) (W.has_failed writer.new)
+        (tail_text (told floor.now) end) result }
 {
     match end {
         End::Whole => close(floor, writer),
@@ -104,8 +105,12 @@ pub(crate) fn only<W: Sink>(
     end: End,
 ) -> Result<(End, Option<Result<(), Fault>>), ReplayError>
     requires { W.has_failed writer.old ≡ false }
-    ensures ok { IfOk result (λ r. (r.0 ≡ end) × (r.1 ≡ None) × Appends (W.contents writer.old) (W.contents writer.new) text.now × (W.has_failed writer.new ≡ false)) }
-    ensures err { IfErr result (λ e. (e ≡ ReplayError.Write) × Begins (W.contents writer.old) (W.contents writer.new) text.now × (W.has_failed writer.new ≡ true)) }
+    ensures ok { IfOk result (λ r.
+        (r.0 ≡ end) × (r.1 ≡ None) × Appends (W.contents writer.old) (W.contents writer.new) text.now
+        × (W.has_failed writer.new ≡ false)) }
+    ensures err { IfErr result (λ e.
+        (e ≡ ReplayError.Write) × Begins (W.contents writer.old) (W.contents writer.new) text.now
+        × (W.has_failed writer.new ≡ true)) }
 {
     match write_all(writer, text) {
         Ok(()) => Ok((end, None)),

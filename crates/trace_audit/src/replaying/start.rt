@@ -74,10 +74,14 @@ fn run<R: Source, W: Sink>(
     requires shows { ShowsPool floor.old }
     requires reader_down { R.has_failed reader.old ≡ false }
     requires writer_down { W.has_failed writer.old ≡ false }
-    ensures ended { IfOk result (λ r. Settles (R.remaining reader.old) (R.remaining reader.new) held.old.items floor.old (with_audit r.1 (Appends (W.contents writer.old) (W.contents writer.new))) r.0) }
+    ensures ended { IfOk result (λ r.
+        Settles (R.remaining reader.old) (R.remaining reader.new) held.old.items floor.old
+        (with_audit r.1 (Appends (W.contents writer.old) (W.contents writer.new))) r.0) }
     ensures audit { IfOk result (λ r. IsAsked audits r.0 r.1) }
     ensures down { IfOk result (λ _. (R.has_failed reader.new ≡ false) × (W.has_failed writer.new ≡ false)) }
-    ensures failed { IfErr result (λ e. FailsSettling audits (R.remaining reader.old) (R.remaining reader.new) held.old.items floor.old (W.contents writer.old) (W.contents writer.new) e) }
+    ensures failed { IfErr result (λ e.
+        FailsSettling audits (R.remaining reader.old) (R.remaining reader.new) held.old.items floor.old
+        (W.contents writer.old) (W.contents writer.new) e) }
     ensures up { IfErr result (λ e. Failures (R.has_failed reader.new) (W.has_failed writer.new) e) }
 {
     runs_keep_numbers();
@@ -101,10 +105,14 @@ fn on_region<R: Source, W: Sink>(
     requires region { length region.old ≡ header.chunks * 4096 }
     requires reader_down { R.has_failed reader.old ≡ false }
     requires writer_down { W.has_failed writer.old ≡ false }
-    ensures ended { IfOk result (λ r. Houses (R.remaining reader.old) (R.remaining reader.new) held.old.items header (with_audit r.1 (Appends (W.contents writer.old) (W.contents writer.new))) r.0) }
+    ensures ended { IfOk result (λ r.
+        Houses (R.remaining reader.old) (R.remaining reader.new) held.old.items header
+        (with_audit r.1 (Appends (W.contents writer.old) (W.contents writer.new))) r.0) }
     ensures audit { IfOk result (λ r. IsAsked audits r.0 r.1) }
     ensures down { IfOk result (λ _. (R.has_failed reader.new ≡ false) × (W.has_failed writer.new ≡ false)) }
-    ensures failed { IfErr result (λ e. FailsHousing audits (R.remaining reader.old) (R.remaining reader.new) held.old.items header (W.contents writer.old) (W.contents writer.new) e) }
+    ensures failed { IfErr result (λ e.
+        FailsHousing audits (R.remaining reader.old) (R.remaining reader.new) held.old.items header
+        (W.contents writer.old) (W.contents writer.new) e) }
     ensures up { IfErr result (λ e. Failures (R.has_failed reader.new) (W.has_failed writer.new) e) }
 {
     match floor_over(alloc, region, header) {
@@ -128,10 +136,14 @@ fn on_floor<R: Source, W: Sink>(
     requires header { IsHeader header }
     requires reader_down { R.has_failed reader.old ≡ false }
     requires writer_down { W.has_failed writer.old ≡ false }
-    ensures ended { IfOk result (λ r. Houses (R.remaining reader.old) (R.remaining reader.new) held.old.items header (with_audit r.1 (Appends (W.contents writer.old) (W.contents writer.new))) r.0) }
+    ensures ended { IfOk result (λ r.
+        Houses (R.remaining reader.old) (R.remaining reader.new) held.old.items header
+        (with_audit r.1 (Appends (W.contents writer.old) (W.contents writer.new))) r.0) }
     ensures audit { IfOk result (λ r. IsAsked audits r.0 r.1) }
     ensures down { IfOk result (λ _. (R.has_failed reader.new ≡ false) × (W.has_failed writer.new ≡ false)) }
-    ensures failed { IfErr result (λ e. FailsHousing audits (R.remaining reader.old) (R.remaining reader.new) held.old.items header (W.contents writer.old) (W.contents writer.new) e) }
+    ensures failed { IfErr result (λ e.
+        FailsHousing audits (R.remaining reader.old) (R.remaining reader.new) held.old.items header
+        (W.contents writer.old) (W.contents writer.new) e) }
     ensures up { IfErr result (λ e. Failures (R.has_failed reader.new) (W.has_failed writer.new) e) }
 {
     match region_of(alloc, header.chunks) {
@@ -160,10 +172,14 @@ fn play<R: Source, W: Sink>(
 ) -> Result<(End, Option<Result<(), Fault>>), ReplayError>
     requires reader_down { R.has_failed reader.old ≡ false }
     requires writer_down { W.has_failed writer.old ≡ false }
-    ensures ended { IfOk result (λ r. Reports (R.remaining reader.old) (R.remaining reader.new) (with_audit r.1 (Appends (W.contents writer.old) (W.contents writer.new))) r.0) }
+    ensures ended { IfOk result (λ r.
+        Reports (R.remaining reader.old) (R.remaining reader.new)
+        (with_audit r.1 (Appends (W.contents writer.old) (W.contents writer.new))) r.0) }
     ensures audit { IfOk result (λ r. IsAsked audits r.0 r.1) }
     ensures down { IfOk result (λ _. (R.has_failed reader.new ≡ false) × (W.has_failed writer.new ≡ false)) }
-    ensures failed { IfErr result (λ e. FailsWith (IsAsked audits) (R.remaining reader.old) (R.remaining reader.new) (W.contents writer.old) (W.contents writer.new) e) }
+    ensures failed { IfErr result (λ e.
+        FailsWith (IsAsked audits) (R.remaining reader.old) (R.remaining reader.new) (W.contents writer.old)
+        (W.contents writer.new) e) }
     ensures up { IfErr result (λ e. Failures (R.has_failed reader.new) (W.has_failed writer.new) e) }
 {
     floors_tell_counts();
@@ -194,11 +210,16 @@ pub fn replay<R: Source, W: Sink>(
     requires reader_down { R.has_failed reader.old ≡ false }
     requires writer_down { W.has_failed writer.old ≡ false }
     // Where the reader's bytes are known, they are a trace with this end, and its report was written and nothing else.
-    ensures trace { IfOk result (λ end. IfSome (R.remaining reader.old) (λ bytes. ReportsTrace bytes (Appends (W.contents writer.old) (W.contents writer.new)) end)) }
+    ensures trace { IfOk result (λ end.
+        IfSome (R.remaining reader.old) (λ bytes.
+        ReportsTrace bytes (Appends (W.contents writer.old) (W.contents writer.new)) end)) }
     // Whatever the reader, the same holds of the bytes that it gave.
-    ensures ended { IfOk result (λ end. Reports (R.remaining reader.old) (R.remaining reader.new) (Appends (W.contents writer.old) (W.contents writer.new)) end) }
+    ensures ended { IfOk result (λ end.
+        Reports (R.remaining reader.old) (R.remaining reader.new)
+        (Appends (W.contents writer.old) (W.contents writer.new)) end) }
     ensures down { IfOk result (λ _. (R.has_failed reader.new ≡ false) × (W.has_failed writer.new ≡ false)) }
-    ensures failed { IfErr result (λ e. Fails (R.remaining reader.old) (R.remaining reader.new) (W.contents writer.old) (W.contents writer.new) e) }
+    ensures failed { IfErr result (λ e.
+        Fails (R.remaining reader.old) (R.remaining reader.new) (W.contents writer.old) (W.contents writer.new) e) }
     ensures begun { IfErr result (λ e. IsBegun (R.remaining reader.old) (W.contents writer.old) (W.contents writer.new) e) }
     ensures up { IfErr result (λ e. Failures (R.has_failed reader.new) (W.has_failed writer.new) e) }
 {
@@ -226,12 +247,19 @@ pub fn replay_audited<R: Source, W: Sink>(
     // Behind closing lines the audit is there, and found nothing wrong unless it had no memory; else there is none.
     ensures audit { IfOk result (λ r. IsAudited r.0 r.1) }
     // Where the reader's bytes are known, they are a trace with this end, and its report was written, the line of the audit, and nothing else.
-    ensures trace { IfOk result (λ r. IfSome (R.remaining reader.old) (λ bytes. ReportsTrace bytes (with_audit r.1 (Appends (W.contents writer.old) (W.contents writer.new))) r.0)) }
+    ensures trace { IfOk result (λ r.
+        IfSome (R.remaining reader.old) (λ bytes.
+        ReportsTrace bytes (with_audit r.1 (Appends (W.contents writer.old) (W.contents writer.new))) r.0)) }
     // Whatever the reader, the same holds of the bytes that it gave.
-    ensures ended { IfOk result (λ r. Reports (R.remaining reader.old) (R.remaining reader.new) (with_audit r.1 (Appends (W.contents writer.old) (W.contents writer.new))) r.0) }
+    ensures ended { IfOk result (λ r.
+        Reports (R.remaining reader.old) (R.remaining reader.new)
+        (with_audit r.1 (Appends (W.contents writer.old) (W.contents writer.new))) r.0) }
     ensures down { IfOk result (λ _. (R.has_failed reader.new ≡ false) × (W.has_failed writer.new ≡ false)) }
-    ensures failed { IfErr result (λ e. FailsAudited (R.remaining reader.old) (R.remaining reader.new) (W.contents writer.old) (W.contents writer.new) e) }
-    ensures begun { IfErr result (λ e. IsBegunAudited (R.remaining reader.old) (W.contents writer.old) (W.contents writer.new) e) }
+    ensures failed { IfErr result (λ e.
+        FailsAudited (R.remaining reader.old) (R.remaining reader.new) (W.contents writer.old) (W.contents writer.new)
+        e) }
+    ensures begun { IfErr result (λ e.
+        IsBegunAudited (R.remaining reader.old) (W.contents writer.old) (W.contents writer.new) e) }
     ensures up { IfErr result (λ e. Failures (R.has_failed reader.new) (W.has_failed writer.new) e) }
 {
     requests_are_answered();

@@ -41,9 +41,15 @@ pub(crate) fn one_line<R: Source, W: Sink>(
 ) -> Result<Turn, ReplayError>
     requires reader_down { R.has_failed reader.old ≡ false }
     requires writer_down { W.has_failed writer.old ≡ false }
-    ensures turn { IfOk result (λ turn. (given : List ℕ) × Consumes (R.remaining reader.old) (R.remaining reader.new) given × Turned (held.old.items ++ given) held.new.items (IsAtEnd (R.remaining reader.new)) floor.old floor.new (W.contents writer.old) (W.contents writer.new) turn) }
+    ensures turn { IfOk result (λ turn.
+        (given : List ℕ) × Consumes (R.remaining reader.old) (R.remaining reader.new) given
+        × Turned (held.old.items ++ given) held.new.items (IsAtEnd (R.remaining reader.new)) floor.old floor.new
+        (W.contents writer.old) (W.contents writer.new) turn) }
     ensures down { IfOk result (λ _. (R.has_failed reader.new ≡ false) × (W.has_failed writer.new ≡ false)) }
-    ensures broke { IfErr result (λ e. (given : List ℕ) × Consumes (R.remaining reader.old) (R.remaining reader.new) given × Broke (held.old.items ++ given) held.new.items floor.old floor.new (W.contents writer.old) (W.contents writer.new) e) }
+    ensures broke { IfErr result (λ e.
+        (given : List ℕ) × Consumes (R.remaining reader.old) (R.remaining reader.new) given
+        × Broke (held.old.items ++ given) held.new.items floor.old floor.new (W.contents writer.old)
+        (W.contents writer.new) e) }
     ensures up { IfErr result (λ e. Failures (R.has_failed reader.new) (W.has_failed writer.new) e) }
 {
     match next_line(held, reader) {
