@@ -1,3 +1,4 @@
 pub mod Outcomes
 pub mod Classes
+pub mod Commands
 pub mod Routes

@@ -1,5 +1,6 @@
 //! What each subcommand does.
 ghost use Rattle.std.specs.Prelude.{◌≡◌, ◌↔◌, false, true};
+ghost use Rattle.poolctl.specs.Commands.{WritesAll, WritesUpTo};
 ghost use Rattle.poolctl.specs.Outcomes.{TellsNoMemory};
 
 use crate::classes::write_classes;
@@ -24,6 +25,11 @@ pub fn command<R: Source, W: Sink>(
     requires sink_down { W.has_failed sink.old ≡ false }
     ensures read { (R.has_failed source.new ≡ true) ↔ (result ≡ Outcome.ReadFailed) }
     ensures write { (W.has_failed sink.new ≡ true) ↔ (result ≡ Outcome.WriteFailed) }
+    ensures done { result ≡ Outcome.Done →
+        WritesAll (R.remaining source.old) (R.remaining source.new) (W.contents sink.old) (W.contents sink.new) }
+    ensures stopped { result ≡ Outcome.Stopped →
+        WritesUpTo (R.remaining source.old) (R.remaining source.new) (W.contents sink.old) (W.contents sink.new) }
+    ensures refused { (text : _) → result ≡ Outcome.Refused text → (source.new ≡ source.old) × (sink.new ≡ sink.old) }
     ensures audit { result ≡ Outcome.AuditFailed →
         TellsNoMemory (R.remaining source.old) (R.remaining source.new) (W.contents sink.old) (W.contents sink.new) }
 {
