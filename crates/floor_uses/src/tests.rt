@@ -52,7 +52,7 @@ fn pool(desks: u32, chunks: usize, width: u32) -> Made {
     }
 }
 
-const fn pool2(desks: u32, chunks: usize, width: u32) -> Made {
+fn pool2(desks: u32, chunks: usize, width: u32) -> Made {
     Made {
         profile: Profile::Pool2,
         desks,
