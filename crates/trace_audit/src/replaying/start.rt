@@ -17,6 +17,7 @@ use crate::wire::{Sink, Source};
 use digit_route::Digits;
 use event_floor::Floor;
 use event_floor::laws::{floors_tell_counts, requests_are_answered, runs_keep_numbers};
+use region_cut::laws::parts_make_the_whole;
 use region_cut::{CHUNK, Profile, cut};
 use slot_chain::NoMemory;
 use std::alloc::{AllocError, Global};
@@ -53,6 +54,7 @@ fn floor_over<'r>(
     requires region { length region.old ≡ header.chunks * 4096 }
     ensures { IfOk result (λ floor. Opens header floor) }
 {
+    parts_make_the_whole();
     let Some(digits) = digits_of(header) else {
         unreachable!()
     };
