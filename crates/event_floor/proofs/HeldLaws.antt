@@ -1,5 +1,5 @@
 -- A desk that a request looks at, and puts back as it was.
-use Rattle.std.proofs.Common.{◌≡◌, ℕ, ◌<◌, ◌≤◌, List, get_or, set, length, sym, ap, ◌∙◌, subst}
+use Rattle.std.proofs.Common.{◌≡◌, ℕ, ◌<◌, ◌≤◌, List, get_or, set, sym, ap, ◌∙◌, subst}
 use Rattle.std.proofs.lemmas.List.{get_or_read, set-get_or, length-set}
 use Rattle.std.specs.Prelude.{Option, Result, Ok, Err, OnErr, Bool, true, IsTrue, false}
 use Rattle.slot_chain.specs.Buffer.{Buffer}

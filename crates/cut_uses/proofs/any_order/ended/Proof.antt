@@ -1,15 +1,13 @@
-use Rattle.region_cut.proofs.Steps.{[], ◌∷◌, ◌≡◌, ◌++◌, ℕ, List, refl, lit<, GName, proved, id⊢, ftrue, flft, fres, emp, named, fact, fact_i, tables, vint, ‵, raw, ◌⊛◌, some, later, ◌$◌, ◌∵◌, !, qed, done, move, keep, drop, use0, use1, use2, split, split3, join, fsplit, fsplit3, fjoin, fpick, pick, await, rewrite, suffices, enter, addr, from, fld, hop, stop, no_more, and_then, agg, sub, whole, lit, returns, alloc_all, pass_all, free_all, look_at, look_in_at, get, get_in, sets, lands_as, u8, yes, no, RattleType, MutSlice, mut_slice_vals, mut_slice_Tells, uint_vals, uint_Tells, plain, mut_slice_of, nothing, heard, peeks, shows, calls_at, lasts, Lasts, triple_of, Stays, stay_dropped, Goes-spent_slice, Goes-dropped, ends_at, framed, name_done, heres_id, coded_list, named_lft, Tuple, Array}
+use Rattle.region_cut.proofs.Steps.{[], ◌∷◌, ◌≡◌, ◌++◌, ℕ, List, refl, lit<, proved, id⊢, ftrue, flft, emp, named, fact, fact_i, tables, vint, ‵, raw, ◌⊛◌, some, later, ◌$◌, ◌∵◌, !, qed, done, move, keep, drop, use0, use1, split, join, fsplit, fjoin, fpick, pick, await, suffices, enter, addr, from, fld, hop, stop, no_more, and_then, agg, sub, whole, lit, returns, alloc_all, pass_all, free_all, look_at, look_in_at, get, get_in, sets, lands_as, u8, yes, no, RattleType, MutSlice, mut_slice_vals, mut_slice_Tells, uint_vals, uint_Tells, plain, mut_slice_of, nothing, heard, peeks, shows, calls_at, lasts, Lasts, triple_of, Stays, stay_dropped, Goes-spent_slice, Goes-dropped, ends_at, framed, named_lft, Tuple, Array}
 use Rattle.std.specs.Int.{w8}
 use mir.Val.{vnil}
 use types.Match.{live}
 use mathlib.Core.Option.{none}
 use denote.Laws.{Is}
 use denote.Follow.{follows_both_if}
-use denote.Struct.Laws.{vals, tells}
 use Rattle.std.specs.Prelude.{slice_set, Option, None}
 use Rattle.std.specs.contracts.option.Option as OP
-use Rattle.region_cut.specs.Joins.{joins_after, ends}
-use Rattle.region_cut.proofs.Joined.{finishes}
+use Rattle.region_cut.specs.Joins.{ends}
 use Rattle.region_cut.specs.contracts.endings.Endings as En
 use Rattle.region_cut.proofs.endings.Endings.TheLaws as EnLaws
 use Rattle.region_cut.specs.Ended.{Ended, EndingsState}

@@ -1,8 +1,8 @@
-use Rattle.std.proofs.Common.{◌≡◌, ℕ, List, [], ◌∷◌, ◌++◌, length, take, drop, slice_set, sym, ap, ◌∙◌, subst, refl, arith}
+use Rattle.std.proofs.Common.{ℕ, List, [], ◌∷◌, ◌++◌, take, drop, slice_set, sym, ap, ◌∙◌, subst}
 use Rattle.std.specs.Borrow.{GName}
-use Rattle.std.specs.List.{All, Contains}
+use Rattle.std.specs.List.{All}
 use Rattle.region_cut.specs.Ended.{Ended, EndingsState, IsKnown, Agrees, ended_front}
-use Rattle.cut_uses.proofs.Two.{two, two_closed, both_known, whole_end, here}
+use Rattle.cut_uses.proofs.Two.{two_closed, both_known, whole_end, here}
 use Rattle.cut_uses.proofs.any_order.noted.Goals as goal
 
 pub close-requires-3-clause-known : goal.close-requires-3-clause-known

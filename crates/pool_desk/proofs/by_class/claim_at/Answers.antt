@@ -1,4 +1,4 @@
-use Rattle.std.proofs.Common.{◌≡◌, [], get_or, length, sym, ap, ◌∙◌, subst}
+use Rattle.std.proofs.Common.{sym, ap, ◌∙◌, subst}
 use Rattle.region_cut.specs.Classes.{slots_of}
 use Rattle.pool_desk.specs.Homes.{HomeState, Draws, unused_from}
 use Rattle.pool_desk.specs.ByClass.{home_at}

@@ -1,5 +1,5 @@
-use Rattle.std.proofs.Common.{◌≡◌, ◌∷◌, get_or, length, sym, ap, ◌∙◌, subst, IsPermutation}
-use Rattle.pool_desk.specs.Homes.{AtHome, HomeState, IsAtHome}
+use Rattle.std.proofs.Common.{◌∷◌, sym, ap, ◌∙◌, subst, IsPermutation}
+use Rattle.pool_desk.specs.Homes.{HomeState, IsAtHome}
 use Rattle.pool_desk.specs.Homes.AtHome.{Kept}
 use Rattle.pool_desk.specs.ByClass.{home_at}
 use Rattle.pool_desk.proofs.SetLaws.{put_at, put_same, taken_up}

@@ -1,4 +1,4 @@
-use Rattle.std.proofs.Common.{◌≡◌, refl, sym, ◌∙◌}
+use Rattle.std.proofs.Common.{refl, sym, ◌∙◌}
 use Rattle.pool_desk.proofs.HomeLaws.{gives_fresh, unused_all, unused_some, unused_none}
 use Rattle.pool_desk.proofs.home.next_slot.Goals as goal
 

@@ -1,4 +1,4 @@
-use Rattle.std.proofs.Common.{◌≡◌, ◌++◌, ◌∷◌, [], ◌∙◌, List, replicate, ap, sym, arith}
+use Rattle.std.proofs.Common.{◌≡◌, ◌++◌, ◌∷◌, [], ◌∙◌, List, replicate, ap, arith}
 use Rattle.std.proofs.lemmas.List.{replicate_more}
 use Rattle.event_floor.specs.Posted.{Posted}
 use Rattle.event_floor.proofs.IndexLaws.{index_new}

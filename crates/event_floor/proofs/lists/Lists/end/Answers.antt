@@ -1,4 +1,4 @@
-use Rattle.std.proofs.Common.{◌≡◌, ◌++◌, List, [], length, drop, map, flat_map, IsPermutation, sym, ap, ◌∙◌, subst, refl}
+use Rattle.std.proofs.Common.{◌≡◌, ◌++◌, List, length, drop, map, flat_map, IsPermutation, ap, ◌∙◌, subst}
 use Rattle.std.proofs.lemmas.List.{append-nil}
 use Rattle.region_cut.specs.Ended.{Ended, EndingsState}
 use Rattle.slot_chain.specs.Buffer.{Buffer, ended_of}

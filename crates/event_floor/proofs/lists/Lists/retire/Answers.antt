@@ -1,4 +1,4 @@
-use Rattle.std.proofs.Common.{◌≡◌, ◌<◌, subst, inr, sym, length}
+use Rattle.std.proofs.Common.{◌<◌, subst, inr, sym}
 use Rattle.event_floor.specs.Floors.{FloorSeen}
 use Rattle.event_floor.specs.Steps.{Refuses}
 use Rattle.event_floor.specs.declared.refusal.Refusal.TheVariants.{Unsettled}
