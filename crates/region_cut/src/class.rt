@@ -2,13 +2,17 @@
 ghost use Rattle.std.specs.Prelude.{◌≡◌, ℕ, ◌<◌, ◌≤◌, MatchOption};
 ghost use Rattle.region_cut.specs.Classes.{size_of, slots_of, class_count};
 
-use crate::CHUNK;
 use std::marker::Model;
 
 /// The size in bytes of each class, by the class's number. No size stands twice, and a class of a
 /// greater number has a greater size.
 pub const SIZES: [usize; 20] = [
     16, 32, 48, 64, 80, 96, 112, 128, 160, 192, 224, 256, 320, 384, 448, 512, 640, 768, 896, 1024,
+];
+
+/// How many slots a chunk of each class has.
+const SLOTS: [u16; 20] = [
+    256, 128, 85, 64, 51, 42, 36, 32, 25, 21, 18, 16, 12, 10, 9, 8, 6, 5, 4, 4,
 ];
 
 /// The number of the least class for a request, by the request's size in steps of 16 bytes, rounded
@@ -80,11 +84,12 @@ impl Class {
         SIZES[self.number as usize]
     }
 
+    #[tactic(auto, using(crate::proofs::BySlots::slots_is))]
     /// How many slots a chunk of the class has. What is left of the chunk behind them is never
     /// handed out.
     pub fn slots(self) -> usize
         ensures value { result ≡ slots_of self }
     {
-        CHUNK / self.size()
+        SLOTS[self.number as usize] as usize
     }
 }
