@@ -85,7 +85,8 @@ impl<'r> Chain<'r> {
     {
         let Buf { mut node } = buf;
         mem::swap(&mut node.below, self);
-        self.top = Some(node);
+        // nothing is below a buffer that is in no chain, so there is nothing to drop
+        mem::forget(mem::replace(&mut self.top, Some(node)));
     }
 
     /// Takes the buffer on top, which came last, or `None` where there is none. Takes constant
@@ -113,7 +114,7 @@ impl<'r> Chain<'r> {
             Some(mut moved) => {
                 mem::swap(&mut moved.below, other);
                 mem::swap(&mut moved.below, self);
-                self.top = Some(moved);
+                mem::forget(mem::replace(&mut self.top, Some(moved)));
                 true
             }
         }
