@@ -132,6 +132,7 @@ impl<'r> Cache<'r> {
     }
 
     /// Adds a buffer, in constant time.
+    #[inline(never)]
     pub fn put(&mut self, item: Buf<'r>)
         requires { IsCached self.old.digits self.old.number item }
         ensures same { self.new ≡ record self.old { items = self.new.items } }
@@ -187,6 +188,38 @@ impl<'r> Cache<'r> {
     ///
     /// It is one turn of a posting. To post all of a cache, `posting` takes fewer steps.
     pub fn next_batch(&mut self) -> Option<Batch<'r>>
+        ensures same { self.new ≡ record self.old { items = self.new.items } }
+        ensures value { MatchOption result ((self.old.items ≡ []) × (self.new.items ≡ []))
+            (λ b. Gives self.old.digits self.old.number self.old.items b self.new.items) }
+    {
+        if let Some(batch) = self.next_near() {
+            return Some(batch);
+        }
+        if self.row.is_empty() {
+            return None;
+        }
+        self.next_far()
+    }
+
+    // Takes out the bucket for some owner with another first digit, or says that there is none.
+    fn next_near(&mut self) -> Option<Batch<'r>>
+        ensures same { self.new ≡ record self.old { items = self.new.items } }
+        ensures value { MatchOption result (self.new.items ≡ self.old.items)
+            (λ b. Gives self.old.digits self.old.number self.old.items b self.new.items) }
+    {
+        match self.row.take_other() {
+            Some(batch) => {
+                self.bytes = bytes_left(self.bytes, batch.bytes(), &self.row);
+                Some(batch)
+            }
+            None => None,
+        }
+    }
+
+    // Takes out the bucket for some owner, in whichever round.
+    #[cold]
+    #[inline(never)]
+    fn next_far(&mut self) -> Option<Batch<'r>>
         ensures same { self.new ≡ record self.old { items = self.new.items } }
         ensures value { MatchOption result ((self.old.items ≡ []) × (self.new.items ≡ []))
             (λ b. Gives self.old.digits self.old.number self.old.items b self.new.items) }

@@ -6,12 +6,13 @@ ghost use Rattle.digit_route.specs.Digits.{digit};
 ghost use Rattle.digit_route.specs.Route.{IsWellRouted, RouteFault, TakesBucket};
 ghost use Rattle.digit_route.specs.Rows.{IsLeft, Keeps};
 ghost use Rattle.digit_route.specs.Slots.{AddsSlots};
+ghost use Rattle.digit_route.specs.States.{Gives};
 
 use crate::chains::{
     Chains, all_empty, bytes, empty_chains, find_other, len, list_slots, push_at, set_at, take_at,
 };
 use crate::moves::{scatter, scatter_all, split};
-use crate::walks::fault_in;
+use crate::walks::{fault_in, some_owner};
 use crate::{Batch, Digits, RouteError};
 use region_cut::Slot;
 use slot_chain::{Buf, Chain, NoMemory};
@@ -189,6 +190,22 @@ impl<'r> Row<'r> {
         ensures left { All (IsLeft self.old.digits self.old.number self.old.round) self.old.items }
     {
         take_at(&mut self.chains, k as usize)
+    }
+
+    /// Takes out a batch of this round, or says that all owners that are left have the desk's own digit, and changes nothing.
+    pub(crate) fn take_other(&mut self) -> Option<Batch<'r>>
+        ensures same { self.new ≡ record self.old { items = self.new.items } }
+        ensures value { MatchOption result (self.new.items ≡ self.old.items)
+            (λ b. Gives self.old.digits self.old.number self.old.items b self.new.items) }
+    {
+        match self.find_other() {
+            Some(k) => {
+                let chain = self.take(k);
+                let address = some_owner(&chain);
+                Some(self.batch(address, chain))
+            }
+            None => None,
+        }
     }
 
     /// The batch of the desk's own that has the chain's buffers.
