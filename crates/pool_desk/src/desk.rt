@@ -98,6 +98,7 @@ impl<'r> Desk<'r> {
     /// Gives out a slot at home of the least class that holds `size` bytes: the one that came home last, else the next that was never handed out.
     /// Only the latter takes memory, for the box of the buffer, which is made first; so a refusal changes nothing. No byte of a slot is written.
     /// Takes constant time.
+    #[inline(always)]
     pub fn alloc(&mut self, alloc: Global, size: usize) -> Result<Buf<'r>, DeskError>
         ensures { Allocs self.old size result self.new }
     {
@@ -110,6 +111,7 @@ impl<'r> Desk<'r> {
     /// Takes an own buffer home, and another into the cache. Always succeeds. Takes constant time and no memory.
     ///
     /// The owner's number is one of the desk's profile.
+    #[inline(always)]
     pub fn free(&mut self, buf: Buf<'r>) -> Freed
         requires { buf.owner < 2 ^ self.old.digits.bits }
         ensures { Frees self.old buf.entry result self.new }

@@ -167,6 +167,8 @@ impl<'r> Home<'r> {
 }
 
 // Gives out the next slot of a cursor.
+#[cold]
+#[inline(never)]
 fn next_slot<'r>(
     bump: &mut Bump<'r>,
     alloc: Global,
