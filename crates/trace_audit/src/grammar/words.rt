@@ -23,20 +23,24 @@ pub(crate) fn number(bytes: &[u8]) -> Option<u32>
     if bytes.is_empty() {
         return None;
     }
-    let first = bytes[0];
-    if first == b'0' {
-        return if bytes.len() == 1 { Some(0) } else { None };
-    }
-    if first == b'+' {
+    // more digits than 4294967295 has; a u64 holds the value of all others
+    if bytes.len() > 10 {
         return None;
     }
-    match str::from_utf8(bytes) {
-        Ok(text) => match text.parse::<u32>() {
-            Ok(number) => Some(number),
-            Err(_) => None,
-        },
-        Err(_) => None,
+    if bytes[0] == b'0' {
+        return if bytes.len() == 1 { Some(0) } else { None };
     }
+    let mut value = 0u64;
+    for (at, byte) in bytes.iter().enumerate() {
+        if *byte < b'0' || *byte > b'9' {
+            return None;
+        }
+        value = value * 10 + (*byte - b'0') as u64;
+    }
+    if value > u32::MAX as u64 {
+        return None;
+    }
+    Some(value as u32)
 }
 
 /// Two numbers with one mark between them.
