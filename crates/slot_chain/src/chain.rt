@@ -1,12 +1,14 @@
 //! Lists of buffers, linked through the boxes that they lie in.
-ghost use Rattle.std.specs.Prelude.{◌≡◌, [], ◌∷◌, ◌++◌, length, map, MatchOption, MatchBool, IsTrue, ◌↔◌};
+ghost use Rattle.std.specs.Prelude.{◌≡◌, [], ◌∷◌, ◌++◌, length, map, MatchOption, MatchBool, IsTrue, ◌↔◌, OnOk, OnErr};
 ghost use Rattle.slot_chain.specs.Buffer.{Buffer, ended_of};
 ghost use Rattle.slot_chain.specs.Counts.{capped, sizes};
+ghost use Rattle.slot_chain.specs.Slots.{AddsSlots, slot_of};
 
 use crate::buf::Buf;
+use crate::error::NoMemory;
 use crate::node::Node;
 use crate::walk::Walk;
-use region_cut::Endings;
+use region_cut::{Endings, Slot};
 use std::marker::Model;
 use std::mem;
 
@@ -196,5 +198,20 @@ impl<'r> Chain<'r> {
         ensures { result ≡ self.now }
     {
         Walk { at: self }
+    }
+    /// Adds the slot of each buffer to the end of `slots`, in no order. Where memory for that is
+    /// refused, `slots` is as before. Takes a walk over the buffers.
+    pub fn list_slots(&self, slots: &mut Vec<Slot>) -> Result<(), NoMemory>
+        ensures ok { OnOk result (AddsSlots (map slot_of self.now) slots.old.items slots.new.items) }
+        ensures err { OnErr result (slots.new.items ≡ slots.old.items) }
+    {
+        let start = slots.len();
+        for tag in self.walk() {
+            if slots.push(tag.slot).is_err() {
+                slots.truncate(start);
+                return Err(NoMemory);
+            }
+        }
+        Ok(())
     }
 }
