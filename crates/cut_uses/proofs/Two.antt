@@ -4,9 +4,9 @@ use Rattle.std.specs.Borrow.{GName}
 use Rattle.std.specs.List.{All, Contains, flat_map}
 use Rattle.std.proofs.lemmas.List.{set-append_left, set-append_right, length-take-le, take-append-drop, length-drop}
 use Rattle.std.proofs.lemmas.List.Elements.{All-cons, All-nil}
-use Rattle.region_cut.specs.declared.tie.Front.{Front}
+use Rattle.region_cut.specs.declared.endings.front.Front.{Front}
 use Rattle.region_cut.specs.Fronts.{whole_of, lent_of, rest_of}
-use Rattle.region_cut.specs.Ended.{Ended, Agrees, IsKnown, end_in, ended_front}
+use Rattle.region_cut.specs.Endings.{Ended, Agrees, IsKnown, end_in, ended_front}
 
 abbrev pub two : GName → List ℕ → GName → List ℕ → List Ended
 two γ b δ d = record { name = γ; bytes = b } ∷ record { name = δ; bytes = d } ∷ []

@@ -2,11 +2,12 @@
 ghost use Rattle.std.specs.Prelude.{◌≡◌, ◌≤◌, ◌++◌, length, slice_set, None};
 ghost use Rattle.std.specs.List.{Contains};
 ghost use Rattle.std.specs.Borrow.{sem, LendsBothIf, Array, u8};
-ghost use Rattle.region_cut.specs.Ended.{Ended};
+ghost use Rattle.region_cut.specs.Endings.{Ended};
 
-use region_cut::{Endings, Front};
+use region_cut::endings::{Endings, Front};
 
-// Cuts two slices of 4 bytes off the region, writes `x` into the first byte of the second, and lets go the second before the first.
+// Cuts two slices of 4 bytes off the region, writes `x` into the first byte of the second, and lets
+// go the second before the first.
 fn noted<'r>(region: &'r mut [u8], x: u8) -> Endings<'r>
     requires { 8 ≤ length region.old }
     ensures { Contains result.known (record { name = region.entry.ghost_name; bytes = slice_set region.old 4 x }) }
@@ -33,8 +34,8 @@ fn ended<'r>(region: &'r mut [u8], x: u8) -> Option<(&'r mut [u8], &'r mut [u8])
     None
 }
 
-/// Cuts two slices of 4 bytes off a region, writes `x` into the first byte of the second, and lets go all of them, the second first.
-/// The region then holds `x` at 4, and what it held elsewhere.
+/// Cuts two slices of 4 bytes off a region, writes `x` into the first byte of the second, and lets
+/// go all of them, the second first. The region then holds `x` at 4, and what it held elsewhere.
 pub fn mark_in_any_order(region: &mut [u8], x: u8)
     requires { 8 ≤ length region.old }
     ensures { region.new ≡ slice_set region.old 4 x }

@@ -6,7 +6,8 @@ ghost use Rattle.region_cut.specs.Fronts.{whole_of, settled_of, lent_of, rest_of
 ghost use Rattle.region_cut.specs.Parts.{name_of, bytes_of};
 
 use region_cut::laws::parts_make_the_whole;
-use region_cut::{CHUNK, Class, Front, Part, cut_with_front};
+use region_cut::endings::{Front, cut_with_front};
+use region_cut::{CHUNK, Class, Part};
 use std::alloc::Global;
 
 // Writes `x` into the first byte of the second slot of 64 bytes, and gives back both slots.
@@ -25,10 +26,11 @@ fn mark_part<'r>(part: Part<'r>, x: u8) -> Front<'r>
     let Some(second) = bump.next() else {
         unreachable!();
     };
-    second.bytes[0] = x;
+    let (_slot, bytes) = second.into_parts();
+    bytes[0] = x;
     let mut chunk = bump.into_front();
     chunk.settle(first.into_front());
-    chunk.settle(second.into_front());
+    chunk.settle(Front::new(bytes));
     chunk
 }
 

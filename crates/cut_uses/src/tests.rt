@@ -137,10 +137,11 @@ fn fill_next(rt: &impl Abort, bump: &mut Bump<'_>, index: u16, byte: u8) {
     );
     let chunk = bump.chunk();
     let piece = bump.next().expect(rt, "a slot");
-    same(rt, "chunk", piece.slot.chunk as usize, chunk as usize);
-    same(rt, "index", piece.slot.index as usize, index as usize);
-    same(rt, "bytes", piece.bytes.len(), 320);
-    piece.bytes.fill(byte);
+    same(rt, "bytes", piece.bytes().len(), 320);
+    let (slot, bytes) = piece.into_parts();
+    same(rt, "chunk", slot.chunk as usize, chunk as usize);
+    same(rt, "index", slot.index as usize, index as usize);
+    bytes.fill(byte);
 }
 
 // Each slot of the chunk is filled with a byte of its own.

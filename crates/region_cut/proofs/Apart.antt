@@ -5,7 +5,8 @@ use Rattle.std.proofs.lemmas.Bool.{cases_order}
 use Rattle.region_cut.specs.declared.TheConstants.{CHUNK}
 use Rattle.region_cut.specs.declared.slot.Slot.{Slot}
 use Rattle.region_cut.specs.Classes.{size_of, slots_of}
-use Rattle.region_cut.specs.Ranges.{SlotsShareNoByte, Covers}
+use Rattle.region_cut.specs.Laws.{SlotsShareNoByte}
+use Rattle.region_cut.specs.Ranges.{Covers}
 
 fits : (i c : ℕ) → i < slots_of c → i * size_of c + size_of c ≤ CHUNK
 fits i c below =

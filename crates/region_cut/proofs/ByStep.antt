@@ -85,3 +85,6 @@ least_of Pool2 n c h holds least = record { is_used = let most : c ≤ 19 = leas
 pub none_for : (p : Profile) (n : ℕ) → largest_of p < n → NoClassFor p n
 none_for Pool n h = λ k below. let rise : size_of k ≤ 512 = sizes_rise k 15 (omega arith) (omega arith) in omega arith
 none_for Pool2 n h = λ k below. let rise : size_of k ≤ 1024 = sizes_rise k 19 (omega arith) (omega arith) in omega arith
+
+-- the least class of a request
+pub ruleset least_class = (class_below, class_holds, class_least)

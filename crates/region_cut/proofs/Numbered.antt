@@ -6,7 +6,7 @@ use Rattle.std.proofs.lemmas.List.{drop-drop, take-append-drop, length-map}
 use Rattle.std.proofs.lemmas.List.Folds.{flat_map-map}
 use Rattle.std.proofs.lemmas.Option.{slice_get-map}
 use Rattle.region_cut.specs.declared.TheConstants.{CHUNK}
-use Rattle.region_cut.specs.Endings.{PartsLieInOrder, PartsMakeTheWhole}
+use Rattle.region_cut.specs.Laws.{PartsLieInOrder, PartsMakeTheWhole}
 use Rattle.region_cut.specs.Parts.{chunks, numbers_from, bytes_of, number_of}
 
 number_at : (k n i x : ℕ) → slice_get (numbers_from k n) i ≡ Some x → x ≡ k + i

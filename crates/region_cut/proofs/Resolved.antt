@@ -16,7 +16,7 @@ use denote.Array.{Array}
 use denote.Builtin.{u8}
 use Rattle.region_cut.specs.Joins.{ends, ends_after}
 use Rattle.region_cut.specs.Carved.{Carved, all_joined}
-use Rattle.region_cut.specs.Ended.{Ended, name_at, IsKnown, HasKnownSlots, Agrees, end_in, ended_chunk, all_end_so}
+use Rattle.region_cut.specs.Endings.{Ended, name_at, IsKnown, HasKnownSlots, Agrees, end_in, ended_chunk, all_end_so}
 
 not_true : (b : Bool) → b ≡ true → b ≡ false → ⊥
 not_true b p q = subst T (sym p ∙ q) tt

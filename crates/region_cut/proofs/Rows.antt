@@ -8,7 +8,7 @@ use Rattle.std.proofs.lemmas.Option.{slice_get_within, get_or_from_slice_get}
 use Rattle.region_cut.specs.declared.TheConstants.{CHUNK}
 use Rattle.region_cut.specs.Classes.{size_of}
 use Rattle.region_cut.specs.Bumps.{pieces_of}
-use Rattle.region_cut.specs.Endings.{Ending, BeginsWith, StandsAt, SlicesLieInOrder, SlotsLieAtTheirRanges, SlicesAreGivenInOrder}
+use Rattle.region_cut.specs.Laws.{Ending, BeginsWith, StandsAt, SlicesLieInOrder, SlotsLieAtTheirRanges, SlicesAreGivenInOrder}
 use Rattle.region_cut.specs.Ranges.{start_of}
 
 lies : (end : Ending) (z : ℕ) (xs : List ℕ) (rest : List ℕ) (i x : ℕ) → AllByRecursion (λ y. length (end y) ≡ z) xs → slice_get xs i ≡ Some x

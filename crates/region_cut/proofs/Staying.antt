@@ -1,7 +1,8 @@
 -- What is known of a slice stays.
 use Rattle.std.proofs.Common.{◌≡◌, ℕ, ◌+◌, ◌<◌, [], ◌++◌, length, map, get_or, sym, ap, ◌∙◌, subst, arith}
 use Rattle.std.proofs.lemmas.List.{length-map, length-append, get_or-map, get_or-append-add}
-use Rattle.region_cut.specs.Ended.{Ended, name_at, KnownEndsStay, end_in}
+use Rattle.region_cut.specs.Endings.{Ended, name_at, end_in}
+use Rattle.region_cut.specs.Laws.{KnownEndsStay}
 
 pub ends_stay : KnownEndsStay
 ends_stay new old one all x known =

@@ -7,7 +7,7 @@ use base.Logic.{ent}
 use types.Logic.{Logic, sem}
 use types.Kit.{‵, ◌⊛◌, ◌$◌, ◌∵◌, !, qed, drop, use1, split, rewrite, done}
 use Rattle.region_cut.specs.Joins.{ends}
-use Rattle.region_cut.specs.Ended.{Ended, name_at, IsKnown, Agrees, end_in, all_end_so}
+use Rattle.region_cut.specs.Endings.{Ended, name_at, IsKnown, Agrees, end_in, all_end_so}
 use Rattle.region_cut.proofs.Resolved.{knows}
 
 noted_known : (es : List Ended) (e : Ended) → Contains es e → IsKnown es e.name

@@ -1,7 +1,6 @@
--- The size classes, over the table of the source, and the two profiles.
-use Rattle.std.specs.Prelude.{ℕ, ◌≤◌, ◌<◌, ◌/◌, slice_index}
-use Rattle.region_cut.specs.declared.TheConstants.{CHUNK}
-use Rattle.region_cut.specs.declared.class.TheConstants.{SIZES}
+-- The size classes, and the two profiles.
+use Rattle.std.specs.Prelude.{ℕ, ◌≤◌, ◌<◌, ◌/◌, List, [], ◌∷◌, slice_index}
+use Rattle.region_cut.specs.Limits.{chunk_size}
 use Rattle.region_cut.specs.declared.profile.Profile.{Profile}
 use Rattle.region_cut.specs.declared.profile.Profile.TheVariants.{Pool, Pool2}
 
@@ -9,13 +8,19 @@ use Rattle.region_cut.specs.declared.profile.Profile.TheVariants.{Pool, Pool2}
 abbrev pub class_count : ℕ
 class_count = 20
 
+-- their sizes in bytes, four to a doubling from 64 on
+abbrev pub class_sizes : List ℕ
+class_sizes =
+    16 ∷ 32 ∷ 48 ∷ 64 ∷ 80 ∷ 96 ∷ 112 ∷ 128 ∷ 160 ∷ 192 ∷ 224 ∷ 256 ∷ 320 ∷ 384 ∷ 448 ∷ 512
+    ∷ 640 ∷ 768 ∷ 896 ∷ 1024 ∷ []
+
 -- the size of the class of this number
 abbrev pub size_of : ℕ → ℕ
-size_of k = slice_index SIZES k
+size_of k = slice_index class_sizes k
 
 -- how many slots of that size a chunk has
 abbrev pub slots_of : ℕ → ℕ
-slots_of k = CHUNK / size_of k
+slots_of k = chunk_size / size_of k
 
 -- how many bits the number of an allocator has
 abbrev pub bits_of : Profile → ℕ

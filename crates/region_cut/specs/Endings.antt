@@ -1,70 +1,51 @@
--- What slices hold when their borrows end, and where a slot's bytes then lie.
-use Rattle.std.specs.Prelude.{ℕ, ◌≡◌, ◌*◌, ◌/◌, List, [], ◌∷◌, ◌++◌, length, take, drop, All, Some}
-use Rattle.std.specs.List.{slice_get, flat_map}
+-- What slices are known to end as.
+use Rattle.std.specs.Prelude.{ℕ, ◌≡◌, ◌==◌, cond, List, [], ◌∷◌, ◌++◌, map}
+use Rattle.std.specs.List.{All, Contains, flat_map}
 use Rattle.std.specs.Borrow.{Fml, GName, ftrue, fsep}
-use base.Fml.{fall, fwand}
-use Rattle.region_cut.specs.declared.TheConstants.{CHUNK}
-use Rattle.region_cut.specs.declared.part.Part.{Part}
-use Rattle.region_cut.specs.declared.part.Piece.{Piece}
-use Rattle.region_cut.specs.declared.part.Bump.{Bump}
-use Rattle.region_cut.specs.declared.slot.Slot.{Slot}
-use Rattle.region_cut.specs.Bumps.{pieces_of, GivesNext}
-use Rattle.region_cut.specs.Classes.{size_of}
-use Rattle.region_cut.specs.Joins.{ends, joins}
-use Rattle.region_cut.specs.Parts.{ArePartsOf, bytes_of}
-use Rattle.region_cut.specs.Ranges.{start_of}
+use Rattle.region_cut.specs.Carved.{Carved}
+use Rattle.region_cut.specs.Fronts.{whole_of, lent_of, rest_of}
+use Rattle.region_cut.specs.Joins.{ends}
+use Rattle.region_cut.specs.declared.endings.front.Front.{Front}
 
--- what the slice of each name holds when its borrow ends
-abbrev pub Ending : Type 0
-Ending = GName → List ℕ
+-- the slice of this name ends as these bytes
+pub record Ended : Type 0 where
+  pub name : GName
+  pub bytes : List ℕ
 
--- the slices of these names end so
-unfoldable pub all_end : Ending → List GName → Fml
-all_end end [] = ftrue
-all_end end (x ∷ xs) = fsep (ends x (end x)) (all_end end xs)
+abbrev pub name_at : Ended → GName
+name_at e = e.name
 
--- Where the slices named xs were lent out of the one named γ, one after the other from its front, and the one named δ is what was left: whatever these end as, γ ends as that, joined in order.
-abbrev pub WholeEndsJoined : Fml
-WholeEndsJoined =
-    fall Ending (λ end. fall GName (λ γ. fall (List GName) (λ xs. fall GName (λ δ.
-    fwand (joins γ xs δ) (fwand (all_end end (xs ++ δ ∷ [])) (ends γ (flat_map end (xs ++ δ ∷ []))))))))
+-- it is known what the slice of the name ends as
+abbrev pub IsKnown : List Ended → GName → Type 0
+IsKnown all x = Contains (map name_at all) x
 
--- the bytes v stand in the bytes w from the place on
-abbrev pub StandsAt : List ℕ → ℕ → List ℕ → Type 0
-StandsAt v place w = take (length v) (drop place w) ≡ v
+-- what the slice of the name ends as, where that is known
+abbrev pub end_in : List Ended → GName → List ℕ
+end_in [] x = []
+end_in (e ∷ es) x = cond (e.name == x) e.bytes (end_in es x)
 
--- The bytes begin with those that the slices named xs end as, in order, each of z bytes.
-pub record BeginsWith (end : Ending) (xs : List GName) (z : ℕ) (bytes : List ℕ) : Type 0 where
-  pub sizes : All (λ x. length (end x) ≡ z) xs
-  pub rest : List ℕ
-  pub joined : bytes ≡ flat_map end xs ++ rest
+-- No slice ends in two ways.
+abbrev pub Agrees : List Ended → Type 0
+Agrees all = All (λ (e : Ended). end_in all e.name ≡ e.bytes) all
 
--- Of such slices the one at the index i lies at i * z.
-abbrev pub SlicesLieInOrder : Type 0
-SlicesLieInOrder =
-    (end : Ending) (xs : List GName) (z : ℕ) (bytes : List ℕ) → BeginsWith end xs z bytes
-    → (i : ℕ) (x : GName) → slice_get xs i ≡ Some x → StandsAt (end x) (i * z) bytes
+-- a chunk ends as the slots that were taken of it, in order, and then what is left of it
+abbrev pub ended_chunk : List Ended → Carved → Ended
+ended_chunk all c = record { name = c.whole; bytes = flat_map (end_in all) c.taken ++ c.rest }
 
--- A region ends as its chunks, and the slot's chunk as the slots of its class: then the slice that is named where the slot stands lies at the slot's range of the region.
-abbrev pub SlotsLieAtTheirRanges : Type 0
-SlotsLieAtTheirRanges =
-    (end : Ending) (s : Slot) (c : ℕ) (region : List ℕ)
-    → (chunks : List GName) → BeginsWith end chunks CHUNK region → (chunk : GName) → slice_get chunks s.chunk ≡ Some chunk
-    → (slots : List GName) → BeginsWith end slots (size_of c) (end chunk) → (slot : GName) → slice_get slots s.index ≡ Some slot
-    → StandsAt (end slot) (start_of s c) region
+-- and so does a slice of which parts are lent
+abbrev pub ended_front : List Ended → Front → Ended
+ended_front all f = record { name = whole_of f; bytes = flat_map (end_in all) (lent_of f) ++ rest_of f }
 
--- A cursor's slice of the index i is the i-th that it gave.
-abbrev pub SlicesAreGivenInOrder : Type 0
-SlicesAreGivenInOrder = (b b' : Bump) (p : Piece) → GivesNext b b' p → slice_get (pieces_of b') p.slot.index ≡ Some p.bytes.ghost_name
+-- what is known, and the chunks of which it is known what they end as once their slots are
+pub record EndingsState : Type 0 where
+  pub known : List Ended
+  pub chunks : List Carved
 
--- The part at the index i of a cut has the number i, and its bytes stand from CHUNK * i on.
-abbrev pub PartsLieInOrder : Type 0
-PartsLieInOrder =
-    (bytes : List ℕ) (parts : List Part) → ArePartsOf bytes parts → (i : ℕ) (p : Part) → slice_get parts i ≡ Some p
-    → (p.chunk ≡ i) × StandsAt p.bytes.now (CHUNK * i) bytes
+-- for each slot that was taken of the chunk it is known what it ends as
+abbrev pub HasKnownSlots : List Ended → Carved → Type 0
+HasKnownSlots all c = All (IsKnown all) c.taken
 
--- There is a part for each whole chunk, and the parts and then the tail behind them, joined in order, are the bytes.
-abbrev pub PartsMakeTheWhole : Type 0
-PartsMakeTheWhole =
-    (bytes : List ℕ) (parts : List Part) → ArePartsOf bytes parts
-    → (length parts ≡ length bytes / CHUNK) × (flat_map bytes_of parts ++ drop (CHUNK * length parts) bytes ≡ bytes)
+-- each of these slices ends so
+unfoldable pub all_end_so : List Ended → Fml
+all_end_so [] = ftrue
+all_end_so (e ∷ es) = fsep (ends e.name e.bytes) (all_end_so es)

@@ -1,7 +1,7 @@
 -- What a front shows: a slice, of which parts were lent one after the other from its front.
 use Rattle.std.specs.Prelude.{ℕ, List, ◌++◌}
 use Rattle.std.specs.Borrow.{GName}
-use Rattle.region_cut.specs.declared.tie.Front.{Front}
+use Rattle.region_cut.specs.declared.endings.front.Front.{Front}
 
 -- the name of the slice
 abbrev pub whole_of : Front → GName

@@ -1,8 +1,12 @@
 //! The size classes.
 ghost use Rattle.std.specs.Prelude.{◌≡◌, ℕ, ◌<◌, ◌≤◌, MatchOption};
-ghost use Rattle.region_cut.specs.Classes.{size_of, slots_of, class_count};
+ghost use Rattle.region_cut.specs.Classes.{size_of, slots_of, class_count, largest_of};
+ghost use Rattle.region_cut.specs.declared.profile.Profile.TheVariants.{Pool2};
 
 use std::marker::Model;
+
+/// How many size classes there are.
+const CLASSES: u32 = 20;
 
 /// The size in bytes of each class, by the class's number. No size stands twice, and a class of a
 /// greater number has a greater size.
@@ -25,7 +29,7 @@ const CLASS_BY_STEP: [u8; 65] = [
 
 /// A size class. All slots of a chunk are of one class. Contracts see it as its number, from 0 to
 /// 19; which of them a pool uses is a matter of its [`Profile`](crate::Profile).
-#[derive(Clone, Copy, Debug, PartialEq, Eq, PartialOrd, Ord)]
+#[derive(Clone, Copy, Debug, PartialEq, Eq, PartialOrd, Ord, Hash)]
 pub struct Class {
     number: u32,
 }
@@ -37,7 +41,9 @@ impl Model for Class {
 
     ghost view = { λ c. c.number };
 
-    ghost invariant = { λ c. c.number < 20 };
+    ghost use Rattle.region_cut.specs.Classes.{class_count};
+
+    ghost invariant = { λ c. c.number < class_count };
 
     ghost inverse = { λ n. record { number = n } };
 }
@@ -50,7 +56,7 @@ impl Class {
     pub fn new(number: u32) -> Option<Class>
         ensures { MatchOption result (class_count ≤ number) (λ c. c ≡ number) }
     {
-        if number < 20 {
+        if number < CLASSES {
             Some(Class { number })
         } else {
             None
@@ -58,9 +64,9 @@ impl Class {
     }
 
     /// The least class whose size is at least `n`, of all classes. One look at a table.
-    #[tactic(auto, using(crate::proofs::ByStep::class_below, crate::proofs::ByStep::class_holds, crate::proofs::ByStep::class_least))]
+    #[tactic(auto, using(crate::proofs::ByStep::least_class))]
     pub(crate) fn least_for(n: usize) -> Class
-        requires { n ≤ 1024 }
+        requires { n ≤ largest_of Pool2 }
         ensures holds { n ≤ size_of result }
         ensures least { (k : ℕ) → n ≤ size_of k → k < class_count → result ≤ k }
     {
@@ -84,9 +90,9 @@ impl Class {
         SIZES[self.number as usize]
     }
 
-    #[tactic(auto, using(crate::proofs::BySlots::slots_is))]
     /// How many slots a chunk of the class has. What is left of the chunk behind them is never
     /// handed out.
+    #[tactic(auto, using(crate::proofs::BySlots::slots_is))]
     pub fn slots(self) -> usize
         ensures value { result ≡ slots_of self }
     {

@@ -1,14 +1,26 @@
-//! Slices are let go, and it is kept what they end as.
+//! What a region holds once its borrow ends, for a caller that wants it proved. A program that only
+//! uses a pool needs none of it.
+//!
+//! A [`Front`] is a slice of which parts were lent; they are given back to it in order. [`Endings`]
+//! takes slices in any order, each after those that were lent out of it. [`Ties`] keeps what is
+//! known of chunks whose cursors are gone. None of it takes memory, and none of it is needed for
+//! the bytes to be right.
 ghost use Rattle.std.specs.Prelude.{◌≡◌, ◌∷◌, ◌++◌, [], map, All};
 ghost use Rattle.region_cut.specs.Carved.{carved_of};
-ghost use Rattle.region_cut.specs.Ended.{IsKnown, HasKnownSlots, ended_chunk, ended_front, Agrees};
+ghost use Rattle.region_cut.specs.Endings.{IsKnown, HasKnownSlots, ended_chunk, ended_front, Agrees};
 ghost use Rattle.region_cut.specs.Fronts.{settled_of, lent_of};
 
-use crate::known::{Known, nothing, resolve};
+mod front;
+mod known;
+pub(crate) mod ties;
+
 use crate::part::Bump;
-use crate::tie::Front;
-use crate::ties::{Ties, gather, join};
+pub use crate::region::cut_with_front;
+pub use front::Front;
+use known::{Known, nothing, resolve};
 use std::marker::{Model, PhantomData};
+pub use ties::Ties;
+use ties::{gather, join};
 
 /// What slices end as that were let go, by their names. A slice ends as the bytes that it held
 /// last; one of which parts were lent ends as what the parts end as, in order, and then as what was
@@ -27,7 +39,7 @@ pub struct Endings<'r> {
 }
 
 impl<'r> Model for Endings<'r> {
-    ghost use Rattle.region_cut.specs.Ended.{EndingsState, Agrees};
+    ghost use Rattle.region_cut.specs.Endings.{EndingsState, Agrees};
 
     ghost Value = { EndingsState };
 
@@ -90,7 +102,10 @@ impl<'r> Endings<'r> {
     /// Closes the chunks of all cursors. All slots that these gave were let go before.
     pub fn close_chunks(&mut self)
         requires { All (HasKnownSlots self.old.known) self.old.chunks }
-        ensures { self.new ≡ record { known = map (ended_chunk self.old.known) self.old.chunks ++ self.old.known; chunks = [] } }
+        ensures { self.new ≡ record {
+          known = map (ended_chunk self.old.known) self.old.chunks ++ self.old.known;
+          chunks = [];
+        } }
     {
         resolve(&mut self.known, &mut self.ties);
     }

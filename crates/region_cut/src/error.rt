@@ -1,4 +1,7 @@
 //! Why a region is not cut.
+ghost use Rattle.std.specs.Prelude.{◌≡◌};
+ghost use Rattle.region_cut.specs.Refusals.{refusal_number};
+
 use thiserror::Error;
 
 /// Why a region is not cut. Its bytes are then as before, and stay so until its borrow ends.
@@ -11,4 +14,16 @@ pub enum CutError {
     /// needs none.
     #[error("no memory")]
     NoMemory,
+}
+
+impl CutError {
+    /// Its number, from 1.
+    pub fn number(self) -> u32
+        ensures { result ≡ refusal_number self }
+    {
+        match self {
+            CutError::TooMany => 1,
+            CutError::NoMemory => 2,
+        }
+    }
 }

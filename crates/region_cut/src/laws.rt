@@ -2,9 +2,9 @@
 //! contract of a function, which does nothing but what the law speaks of.
 ghost use Rattle.std.specs.Prelude.{◌↔◌, IsTrue};
 ghost use Rattle.std.specs.Borrow.{sem};
-ghost use Rattle.region_cut.specs.Endings.{WholeEndsJoined, SlicesLieInOrder, SlicesAreGivenInOrder, PartsLieInOrder, PartsMakeTheWhole, SlotsLieAtTheirRanges};
-ghost use Rattle.region_cut.specs.Ended.{KnownEndsStay};
-ghost use Rattle.region_cut.specs.Ranges.{SlotsShareNoByte};
+ghost use Rattle.region_cut.specs.Laws.{WholeEndsJoined, SlicesLieInOrder, SlicesAreGivenInOrder};
+ghost use Rattle.region_cut.specs.Laws.{PartsLieInOrder, PartsMakeTheWhole, SlotsLieAtTheirRanges};
+ghost use Rattle.region_cut.specs.Laws.{SlotsShareNoByte, KnownEndsStay};
 ghost use Rattle.region_cut.specs.Slots.{IsBefore};
 
 use crate::slot::Slot;

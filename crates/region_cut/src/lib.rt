@@ -10,31 +10,25 @@
 //! each slice has a ghost name: the names that a [`Bump`] gave, in order, are the slots of its
 //! chunk from the front, and the names of the parts, in order, are the chunks of their region
 //! (`specs/Joins.antt`, [`laws`]). A caller that wants to know what its region holds afterwards
-//! gives back to a [`Front`] what was cut off it, in order, or lets go all of it into [`Endings`], in
-//! any order in which a slice goes after those that were lent out of it.
+//! gives back what was cut off it; the module [`endings`] has what that takes, and nobody else needs
+//! it.
 #![tactic(auto)]
 
 mod class;
-mod endings;
+pub mod endings;
 mod error;
-mod known;
 pub mod laws;
 mod part;
 mod profile;
 mod region;
 mod slot;
-mod tie;
-mod ties;
 
 pub use class::{Class, SIZES};
-pub use endings::Endings;
 pub use error::CutError;
 pub use part::{Bump, Part, Piece};
 pub use profile::{Profile, class_for};
-pub use region::{cut, cut_with_front};
+pub use region::cut;
 pub use slot::Slot;
-pub use tie::Front;
-pub use ties::Ties;
 
 /// The bytes of a chunk.
 pub const CHUNK: usize = 4096;

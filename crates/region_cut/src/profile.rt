@@ -65,8 +65,8 @@ impl Profile {
 /// The class for a request of `n` bytes in the profile `Pool`, `None` exactly above 512 bytes.
 pub fn class_for(n: usize) -> Option<Class>
     ensures least { MatchOption result (NoClassFor Pool n) (λ c. IsLeastFor Pool n c) }
-    ensures some { IsSome result ↔ (n ≤ 512) }
-    ensures none { IsNone result ↔ (512 < n) }
+    ensures some { IsSome result ↔ (n ≤ largest_of Pool) }
+    ensures none { IsNone result ↔ (largest_of Pool < n) }
 {
     Profile::Pool.class_for(n)
 }

@@ -2,10 +2,11 @@
 use Rattle.std.specs.Prelude.{◌≡◌, ℕ, ◌<◌, List, length}
 use Rattle.std.specs.Borrow.{MutBor}
 use Rattle.region_cut.specs.Classes.{size_of}
-use Rattle.region_cut.specs.Ended.{Ended}
+use Rattle.region_cut.specs.Endings.{Ended}
 use Rattle.region_cut.specs.declared.slot.Slot.{Slot}
 
--- two buffers are the same where these agree: `bytes` has the bytes now, and the name that tells the bytes when the borrow ends
+-- two buffers are the same where these agree: `bytes` has the bytes now, and the name that tells the bytes when the
+-- borrow ends
 pub record Buffer : Type 0 where
   pub slot : Slot
   pub class : ℕ
@@ -13,9 +14,13 @@ pub record Buffer : Type 0 where
   pub forwards : ℕ
   pub bytes : MutBor (List ℕ)
 
--- its owner is a number of at most 12 bits, and its slice has the class's size
+-- the numbers of allocators are below this: of at most 12 bits
+abbrev pub owner_limit : ℕ
+owner_limit = 4096
+
+-- its owner is the number of an allocator, and its slice has the class's size
 abbrev pub IsBuffer : Buffer → Type 0
-IsBuffer b = (b.owner < 4096) × (length b.bytes.now ≡ size_of b.class)
+IsBuffer b = (b.owner < owner_limit) × (length b.bytes.now ≡ size_of b.class)
 
 -- where the buffer is let go, its slice ends as the bytes that it has
 abbrev pub ended_of : Buffer → Ended

@@ -4,9 +4,11 @@ ghost use Rattle.std.specs.Ptr.{block_ptr};
 ghost use Rattle.region_cut.specs.Classes.{size_of};
 
 use crate::node::Node;
-use region_cut::{Class, Front, Slot};
+use region_cut::endings::Front;
+use region_cut::{Class, Slot};
+use std::convert::AsSlice;
 use std::marker::Model;
-use std::slice;
+use std::{fmt, slice};
 
 /// A buffer: a slot of a region that is borrowed for `'r`, with the slice of bytes that lies there.
 /// It moves as one pointer.
@@ -17,6 +19,7 @@ use std::slice;
 /// Contracts see it as a `Buffer`. Two buffers are the same where slot, class, owner, `forwards`
 /// and the bytes now agree, and the name under which the bytes are known that will be there when
 /// the region's borrow ends.
+#[must_use]
 #[derive(Drop)]
 pub struct Buf<'r> {
     pub(crate) node: Box<Node<'r>>,
@@ -28,18 +31,19 @@ impl<'r> Model for Buf<'r> {
     ghost Value = { Buffer };
 
     ghost use Rattle.slot_chain.specs.Buffer.{IsBuffer};
-    ghost use Rattle.slot_chain.specs.Listed.{kept};
+    ghost use Rattle.slot_chain.specs.Chains.{buffer_of};
 
-    ghost view = { λ a. kept a.node.value };
+    ghost view = { λ a. buffer_of a.node.value };
 
-    ghost invariant = { λ a. IsBuffer (kept a.node.value) };
+    ghost invariant = { λ a. IsBuffer (buffer_of a.node.value) };
 }
 
 impl<'r> Buf<'r> {
     ghost use Rattle.std.specs.Borrow.{sem};
     ghost use Rattle.std.specs.Prelude.{[]};
     ghost use Rattle.region_cut.specs.Fronts.{whole_of, settled_of, lent_of, rest_of};
-    ghost use Rattle.slot_chain.specs.Lends.{LendsBytes};
+    ghost use Rattle.slot_chain.specs.Buffer.{owner_limit};
+    ghost use Rattle.slot_chain.specs.Loans.{LendsBytes};
 
     /// The place of the buffer in its region.
     pub fn slot(&self) -> Slot
@@ -58,7 +62,7 @@ impl<'r> Buf<'r> {
     /// The number of the allocator to which it goes back.
     pub fn owner(&self) -> u16
         ensures value { result ≡ self.now.owner }
-        ensures in_range { result < 4096 }
+        ensures in_range { result < owner_limit }
     {
         self.node.owner
     }
@@ -84,6 +88,13 @@ impl<'r> Buf<'r> {
         ensures size { length result.now ≡ size_of self.now.class }
     {
         self.node.lease.bytes()
+    }
+
+    /// How many bytes the slot has: the size of its class, which is never 0.
+    pub fn len(&self) -> usize
+        ensures { result ≡ size_of self.now.class }
+    {
+        self.class().size()
     }
 
     // The place and the length of the bytes.
@@ -123,5 +134,27 @@ impl<'r> Buf<'r> {
             below: _,
         } = Box::into_inner(node);
         Front::new(lease.into_bytes())
+    }
+}
+
+impl AsSlice<u8> for Buf<'_> {
+    ghost items = { λ b. b.bytes.now };
+
+    fn as_slice(&self) -> &[u8] {
+        self.bytes()
+    }
+}
+
+// The bytes are not printed.
+impl fmt::Debug for Buf<'_> {
+    fn fmt<W: fmt::Write>(&self, f: &mut fmt::Formatter<W>) -> fmt::Result {
+        let node = &self.node;
+        write!(
+            f,
+            "Buf({} of class {}, owner {})",
+            node.slot,
+            node.class.number(),
+            node.owner
+        )
     }
 }

@@ -8,7 +8,8 @@ use crate::buf::Buf;
 use crate::error::NoMemory;
 use crate::node::Node;
 use crate::walk::Walk;
-use region_cut::{Endings, Slot};
+use region_cut::Slot;
+use region_cut::endings::Endings;
 use std::marker::Model;
 use std::mem;
 
@@ -17,6 +18,7 @@ use std::mem;
 ///
 /// A chain is one pointer. No call takes memory, none can fail, and none changes or copies a
 /// buffer. A chain may be dropped, with all its buffers, however long it is.
+#[must_use]
 #[cycle(chain)]
 pub struct Chain<'r> {
     pub(crate) top: Option<Box<Node<'r>>>,
@@ -28,9 +30,9 @@ impl<'r> Model for Chain<'r> {
 
     ghost Value = { List Buffer };
 
-    ghost use Rattle.slot_chain.specs.Listed.{listed, top_is_buffer};
+    ghost use Rattle.slot_chain.specs.Chains.{buffers_of, top_is_buffer};
 
-    ghost view = { λ a. listed a.top };
+    ghost view = { λ a. buffers_of a.top };
 
     ghost invariant = { λ a. top_is_buffer a.top };
 

@@ -1,6 +1,8 @@
 //! The room that a buffer takes in memory.
 ghost use Rattle.std.specs.Prelude.{◌≡◌, ◌<◌, length};
 ghost use Rattle.region_cut.specs.Classes.{size_of};
+ghost use Rattle.region_cut.specs.Pieces.{place_of, slice_of};
+ghost use Rattle.slot_chain.specs.Buffer.{owner_limit};
 
 use crate::buf::Buf;
 use crate::chain::Chain;
@@ -47,16 +49,16 @@ impl<'r> Room<'r> {
     /// The piece has to be as long as a slot of `class`. `owner` is the number of the allocator to
     /// which the buffer goes back, of at most 12 bits. The bytes stay as they are.
     pub fn fill(self, piece: Piece<'r>, class: Class, owner: u16) -> Buf<'r>
-        requires size { length piece.bytes.now ≡ size_of class }
-        requires owner { owner < 4096 }
-        ensures slot { result.slot ≡ piece.entry.slot }
+        requires size { length (slice_of piece).now ≡ size_of class }
+        requires owner { owner < owner_limit }
+        ensures slot { result.slot ≡ place_of piece.entry }
         ensures class { result.class ≡ class }
         ensures owner { result.owner ≡ owner }
         ensures forwards { result.forwards ≡ 0 }
-        ensures bytes { result.bytes ≡ piece.entry.bytes }
+        ensures bytes { result.bytes ≡ slice_of piece.entry }
     {
         let Room { mut node } = self;
-        let Piece { slot, bytes } = piece;
+        let (slot, bytes) = piece.into_parts();
         node.slot = slot;
         node.class = class;
         node.owner = owner;

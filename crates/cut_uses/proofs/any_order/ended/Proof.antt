@@ -10,7 +10,7 @@ use Rattle.std.specs.contracts.option.Option as OP
 use Rattle.region_cut.specs.Joins.{ends}
 use Rattle.region_cut.specs.contracts.endings.Endings as En
 use Rattle.region_cut.proofs.endings.Endings.TheLaws as EnLaws
-use Rattle.region_cut.specs.Ended.{Ended, EndingsState}
+use Rattle.region_cut.specs.Endings.{Ended, EndingsState}
 use Rattle.region_cut.proofs.Telling.{noted_ends}
 use Rattle.std.proofs.Common.{sym, ap, subst}
 use Rattle.std.specs.List.{Contains}

@@ -1,7 +1,7 @@
 use Rattle.std.proofs.Common.{ℕ, List, [], ◌∷◌, ◌++◌, take, drop, slice_set, sym, ap, ◌∙◌, subst}
 use Rattle.std.specs.Borrow.{GName}
 use Rattle.std.specs.List.{All}
-use Rattle.region_cut.specs.Ended.{Ended, EndingsState, IsKnown, Agrees, ended_front}
+use Rattle.region_cut.specs.Endings.{Ended, EndingsState, IsKnown, Agrees, ended_front}
 use Rattle.cut_uses.proofs.Two.{two_closed, both_known, whole_end, here}
 use Rattle.cut_uses.proofs.any_order.noted.Goals as goal
 

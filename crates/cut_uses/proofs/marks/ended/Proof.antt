@@ -12,8 +12,8 @@ use Rattle.std.specs.contracts.alloc.Global as Gl
 use Rattle.std.proofs.alloc.Global.TheLaws as GlLaws
 use Rattle.region_cut.specs.Joins.{joins_after, ends}
 use Rattle.region_cut.proofs.Joined.{finishes}
-use Rattle.region_cut.specs.contracts.tie.Front as Fr
-use Rattle.region_cut.proofs.tie.Front.TheLaws as FrLaws
+use Rattle.region_cut.specs.contracts.endings.front.Front as Fr
+use Rattle.region_cut.proofs.endings.front.Front.TheLaws as FrLaws
 use Rattle.cut_uses.proofs.Made.{none_of, given_back}
 use Rattle.cut_uses.specs.contracts.marks.ended as f
 use Rattle.cut_uses.proofs.marks.ended.Statement.{statement}

@@ -1,5 +1,5 @@
 use Rattle.region_cut.proofs.Steps.{[], ◌∷◌, refl, proved, vunit, raw, ‵, ◌$◌, ◌∵◌, !, qed, done, drop, use0, feq_i, suffices, group, enter, of_opd, unit_lit, returns, alloc_all, pass_all, free_all, look_at, sets, nothing, on_entry, Stays, ends_at}
-use Rattle.region_cut.specs.Endings.{WholeEndsJoined}
+use Rattle.region_cut.specs.Laws.{WholeEndsJoined}
 use Rattle.region_cut.proofs.Joined.{whole_law}
 use Rattle.region_cut.specs.contracts.laws.whole_ends_joined as f
 use Rattle.region_cut.proofs.laws.whole_ends_joined.Statement.{statement}

@@ -2,7 +2,7 @@ use Rattle.std.proofs.Common.{[], ◌∷◌, List, sym, ap, ◌∙◌, subst}
 use Rattle.std.specs.List.{All}
 use Rattle.std.proofs.lemmas.List.Elements.{All-cons, All-nil}
 use Rattle.region_cut.specs.Carved.{Carved}
-use Rattle.region_cut.specs.Ended.{EndingsState, HasKnownSlots, IsKnown}
+use Rattle.region_cut.specs.Endings.{EndingsState, HasKnownSlots, IsKnown}
 use Rattle.region_cut.proofs.endings.Endings.close.Goals as goal
 
 pub resolve-requires : goal.resolve-requires

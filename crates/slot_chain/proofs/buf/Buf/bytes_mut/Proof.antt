@@ -35,7 +35,7 @@ use denote.Triple.Table.{framed}
 use denote.Triple.Walked.{Stays, walk_of, says, stay_dropped, Goes-spent_ref, ends_at}
 use Rattle.region_cut.specs.Classes.{size_of}
 use Rattle.slot_chain.specs.Buffer.{Buffer}
-use Rattle.slot_chain.specs.Lends.{with_buffer}
+use Rattle.slot_chain.specs.Loans.{with_buffer}
 use Rattle.slot_chain.specs.contracts.buf.Buf as buf_type
 use Rattle.slot_chain.proofs.BufLending.{lends_buf}
 use Rattle.slot_chain.proofs.Words.{pair_own}

@@ -22,7 +22,7 @@ use denote.Slice.{MutSlice}
 use denote.Steps.{nothing, peeks}
 use denote.Triple.Entry.{alive}
 use denote.Triple.Walked.{Stays, stay_dropped, Goes-dropped, walk_of}
-use Rattle.slot_chain.specs.Lent.{slice_word, lease_owns}
+use Rattle.slot_chain.specs.Leases.{slice_word, lease_owns}
 use Rattle.slot_chain.specs.contracts.lease.Lease as lease_type
 use Rattle.slot_chain.proofs.Words.{lease_val, lease_told, place_told}
 use Rattle.slot_chain.specs.contracts.lease.Lease.into_bytes as f
