@@ -11,6 +11,7 @@
 mod buf;
 mod chain;
 mod error;
+mod into_iter;
 mod lease;
 mod node;
 mod room;
@@ -19,5 +20,6 @@ mod walk;
 pub use buf::Buf;
 pub use chain::Chain;
 pub use error::NoMemory;
+pub use into_iter::IntoIter;
 pub use room::Room;
 pub use walk::{Tag, Walk};
