@@ -12,4 +12,5 @@ marked b byte = with_bytes_now b (slice_set b.bytes.now 0 byte)
 
 -- the last buffer of the list has this first byte, and all else of the list stays
 abbrev pub MarksTop : List Buffer → List Buffer → ℕ → Type 0
-MarksTop old new byte = (rest : List Buffer) × (b : Buffer) × (old ≡ rest ++ b ∷ []) × (new ≡ rest ++ marked b byte ∷ [])
+MarksTop old new byte =
+    (rest : List Buffer) × (b : Buffer) × (old ≡ rest ++ b ∷ []) × (new ≡ rest ++ marked b byte ∷ [])

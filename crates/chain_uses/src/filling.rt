@@ -1,13 +1,16 @@
 //! From a region to a chain of its buffers, and back.
 ghost use Rattle.std.specs.Prelude.{◌≡◌, ◌+◌, ◌*◌, ◌/◌, ◌<◌, length, OnOk, IfOk};
 ghost use Rattle.region_cut.specs.Classes.{slots_of};
+ghost use Rattle.region_cut.specs.Limits.{chunk_size};
+ghost use Rattle.slot_chain.specs.Buffer.{owner_limit};
 
 use crate::writing::mark;
 use region_cut::{Class, CutError, Part, cut};
 use slot_chain::{Chain, NoMemory, Room};
 use std::alloc::Global;
 
-/// Puts a buffer for each slot of `part` on top of `chain`, in order. After [`NoMemory`] those that were made are on it.
+/// Puts a buffer for each slot of `part` on top of `chain`, in order. After [`NoMemory`] those that
+/// were made are on it.
 pub fn fill_part<'r>(
     alloc: Global,
     part: Part<'r>,
@@ -15,7 +18,7 @@ pub fn fill_part<'r>(
     owner: u16,
     chain: &mut Chain<'r>,
 ) -> Result<(), NoMemory>
-    requires { owner < 4096 }
+    requires { owner < owner_limit }
     ensures { OnOk result (length chain.new ≡ length chain.old + slots_of class) }
 {
     let mut bump = part.bump(class);
@@ -28,7 +31,8 @@ pub fn fill_part<'r>(
     }
 }
 
-/// Cuts a region, and puts a buffer for each of its slots on one chain, in order. [`CutError::NoMemory`] also says that a room was refused.
+/// Cuts a region, and puts a buffer for each of its slots on one chain, in order.
+/// [`CutError::NoMemory`] also says that a room was refused.
 #[tactic(auto, using(crate::proofs::Counting::parts_length))]
 pub fn fill_region<'r>(
     alloc: Global,
@@ -36,8 +40,8 @@ pub fn fill_region<'r>(
     class: Class,
     owner: u16,
 ) -> Result<Chain<'r>, CutError>
-    requires { owner < 4096 }
-    ensures { IfOk result (λ chain. length chain ≡ length region.old / 4096 * slots_of class) }
+    requires { owner < owner_limit }
+    ensures { IfOk result (λ chain. length chain ≡ length region.old / chunk_size * slots_of class) }
 {
     let mut chain = Chain::new();
     for part in cut(alloc, region)? {
@@ -48,7 +52,8 @@ pub fn fill_region<'r>(
     Ok(chain)
 }
 
-/// Writes the first byte of each slot of a region, through its buffers, which are dropped before the region's borrow ends.
+/// Writes the first byte of each slot of a region, through its buffers, which are dropped before the
+/// region's borrow ends.
 pub fn mark_region(alloc: Global, region: &mut [u8], class: Class, byte: u8) -> Result<(), CutError>
     ensures { length region.new ≡ length region.old }
 {

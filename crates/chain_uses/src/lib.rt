@@ -1,10 +1,12 @@
-//! Callers of `region_cut` and `slot_chain` together: what they learn from the contracts, and the tests that cross the two crates.
+//! Callers of `region_cut` and `slot_chain` together: what they learn from the contracts, and the
+//! tests that cross the two crates.
 //!
 //! The pool itself calls nothing of this crate.
 #![tactic(auto)]
 
 mod crossing;
 mod filling;
+mod knowing;
 #[cfg(test)]
 mod tests;
 mod walking;
@@ -12,5 +14,6 @@ mod writing;
 
 pub use crossing::{buf_crosses, chain_crosses, piece_crosses, room_crosses};
 pub use filling::{fill_part, fill_region, mark_region};
+pub use knowing::mark_first;
 pub use walking::{count_owned, list_slots};
 pub use writing::{clear, copy_in, mark, mark_top, stamped};

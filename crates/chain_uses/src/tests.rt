@@ -2,8 +2,10 @@
 //!
 //! A test that takes memory is made again where it was refused, since then it is there.
 ghost use Rattle.std.specs.Prelude.{◌<◌};
+ghost use Rattle.slot_chain.specs.Buffer.{owner_limit};
 
 mod bytes;
+mod giving;
 mod long;
 mod order;
 mod refusal;
@@ -34,7 +36,7 @@ fn filled<'r>(
     class: Class,
     owner: u16,
 ) -> Result<Chain<'r>, NoMemory>
-    requires { owner < 4096 }
+    requires { owner < owner_limit }
 {
     match fill_region(alloc, region, class, owner) {
         Ok(chain) => Ok(chain),

@@ -27,25 +27,26 @@ write_second p f h s t x whole rest first second =
     ∙ ap (λ z. slice_set z 64 x) (sym whole)
 
 -- the byte is written in the first chunk
-pub write_front : (bytes : List ℕ) (x : ℕ) → CHUNK ≤ length bytes → slice_set (take CHUNK bytes) 64 x ++ drop CHUNK bytes ≡ slice_set bytes 64 x
-write_front bytes x long =
+pub write_front : (bytes : List ℕ) (at x : ℕ) → at < CHUNK → CHUNK ≤ length bytes
+    → slice_set (take CHUNK bytes) at x ++ drop CHUNK bytes ≡ slice_set bytes at x
+write_front bytes at x within long =
     let size : length (take CHUNK bytes) ≡ CHUNK = length-take-le CHUNK bytes long in
-    let inside : 64 < length (take CHUNK bytes) = omega (arith, size) in
-    sym (set-append_left (take CHUNK bytes) (drop CHUNK bytes) 64 x inside) ∙ ap (λ z. slice_set z 64 x) (take-append-drop CHUNK bytes)
+    let inside : at < length (take CHUNK bytes) = omega (arith, size) in
+    sym (set-append_left (take CHUNK bytes) (drop CHUNK bytes) at x inside) ∙ ap (λ z. slice_set z at x) (take-append-drop CHUNK bytes)
 
 pub removed_first : (ps qs : List Part) (p : Part) → 0 < length ps → p ≡ slice_index_or ps 0 p → qs ≡ remove ps 0 → ps ≡ p ∷ qs
 removed_first [] qs p some value items = absurd (omega (arith, some))
 removed_first (y ∷ ys) qs p some value items = ap (λ z. z ∷ ys) (sym value) ∙ ap (λ zs. p ∷ zs) (sym items)
 
-pub write_part : (bytes : List ℕ) (ps qs : List Part) (p : Part) (s r t : List ℕ) (x : ℕ) → ps ≡ p ∷ qs → flat_map bytes_of ps ++ t ≡ bytes
-    → s ≡ slice_set (bytes_of p) 64 x ++ flat_map bytes_of qs → r ≡ t → s ++ r ≡ slice_set bytes 64 x
-write_part bytes ps qs p s r t x first whole settled rest =
+pub write_part : (bytes : List ℕ) (ps qs : List Part) (p : Part) (s r t : List ℕ) (at x : ℕ) → at < CHUNK → ps ≡ p ∷ qs → flat_map bytes_of ps ++ t ≡ bytes
+    → s ≡ slice_set (bytes_of p) at x ++ flat_map bytes_of qs → r ≡ t → s ++ r ≡ slice_set bytes at x
+write_part bytes ps qs p s r t at x low first whole settled rest =
     let f : List ℕ = bytes_of p in let g : List ℕ = flat_map bytes_of qs in
     let size : length f ≡ CHUNK = p.is_whole in
-    let inside : 64 < length f = omega (arith, size) in
+    let inside : at < length f = omega (arith, size, low) in
     let long : length (f ++ g) ≡ length f + length g = length-append f g in
-    let within : 64 < length (f ++ g) = omega (arith, size, long) in
-    ap (λ z. z ++ r) settled ∙ ap (λ z. (slice_set f 64 x ++ g) ++ z) rest
-    ∙ ap (λ z. z ++ t) (sym (set-append_left f g 64 x inside))
-    ∙ sym (set-append_left (f ++ g) t 64 x within)
-    ∙ ap (λ z. slice_set z 64 x) (ap (λ l. flat_map bytes_of l ++ t) (sym first) ∙ whole)
+    let within : at < length (f ++ g) = omega (arith, size, long) in
+    ap (λ z. z ++ r) settled ∙ ap (λ z. (slice_set f at x ++ g) ++ z) rest
+    ∙ ap (λ z. z ++ t) (sym (set-append_left f g at x inside))
+    ∙ sym (set-append_left (f ++ g) t at x within)
+    ∙ ap (λ z. slice_set z at x) (ap (λ l. flat_map bytes_of l ++ t) (sym first) ∙ whole)

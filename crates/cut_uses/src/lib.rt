@@ -9,4 +9,4 @@ mod tests;
 
 pub use any_order::mark_in_any_order;
 pub use callers::{cleared, count, may_cross_threads};
-pub use marks::{mark, marked_byte};
+pub use marks::{mark, marked_byte, settle_all};

@@ -5,8 +5,8 @@ ghost use Rattle.std.specs.Borrow.{sem, LendsBothIf, Array, u8};
 ghost use Rattle.region_cut.specs.Fronts.{whole_of, settled_of, lent_of, rest_of, end_of};
 ghost use Rattle.region_cut.specs.Parts.{name_of, bytes_of};
 
-use region_cut::laws::parts_make_the_whole;
 use region_cut::endings::{Front, cut_with_front};
+use region_cut::laws::parts_make_the_whole;
 use region_cut::{CHUNK, Class, Part};
 use std::alloc::Global;
 
@@ -34,8 +34,8 @@ fn mark_part<'r>(part: Part<'r>, x: u8) -> Front<'r>
     chunk
 }
 
-// Gives back parts of which nothing was lent, in their order.
-fn settle_all<'r>(mut front: Front<'r>, parts: Vec<Part<'r>>) -> Front<'r>
+/// Gives back parts of which nothing was lent, in their order.
+pub fn settle_all<'r>(mut front: Front<'r>, parts: Vec<Part<'r>>) -> Front<'r>
     requires { lent_of front ≡ map name_of parts.items }
     ensures whole { whole_of result ≡ whole_of front.entry }
     ensures lent { lent_of result ≡ [] }

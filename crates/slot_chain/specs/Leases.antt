@@ -20,4 +20,5 @@ lease_owns κ p n x = (MutSlice (named 0) κ u8).own_val x (slice_word p n ∷ [
 -- what a `&` to it holds: that these words stand for the slice, and its bytes, for the time of both
 abbrev pub lease_lent : Lft → Ptr → ℕ → MutBor (List ℕ) → Lft → Fml
 lease_lent κ p n x =
-    beside (said (mut_slice_at u8 x (slice_word p n ∷ []))) (within κ (elements_shared u8 x.now x.ref_ptr.0 x.ref_ptr.1))
+    beside (said (mut_slice_at u8 x (slice_word p n ∷ [])))
+    (within κ (elements_shared u8 x.now x.ref_ptr.0 x.ref_ptr.1))

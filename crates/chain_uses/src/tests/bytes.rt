@@ -1,8 +1,9 @@
 //! What is written through buffers is what the region holds when its borrow ends.
 use crate::filling::mark_region;
+use crate::knowing::mark_first;
 use crate::tests::{filled, same};
 use crate::writing::{clear, copy_in, mark_top, stamped};
-use region_cut::class_for;
+use region_cut::{CHUNK, class_for};
 use slot_chain::{Buf, Chain, NoMemory};
 use std::alloc::Global;
 use std::process::Abort;
@@ -38,7 +39,7 @@ fn write_each(rt: &impl Abort, mut chain: Chain<'_>) {
 // Class 2 has 85 slots of 48 bytes in a chunk, and 16 bytes at its end that are in no slot.
 fn write_all(rt: &impl Abort, alloc: Global) -> Result<(), NoMemory> {
     let class = class_for(48).expect(rt, "a class of 48 bytes");
-    let mut region = Vec::from_elem(alloc, 201u8, 2 * 4096 + 100)?;
+    let mut region = Vec::from_elem(alloc, 201u8, 2 * CHUNK + 100)?;
     let chain = filled(alloc, &mut region, class, 0)?;
     same(rt, "the slots", chain.len(), 170);
     write_each(rt, chain);
@@ -98,7 +99,7 @@ fn rewrite_top(rt: &impl Abort, mut chain: Chain<'_>) {
 
 fn write_and_read(rt: &impl Abort, alloc: Global) -> Result<(), NoMemory> {
     let class = class_for(16).expect(rt, "a class of 16 bytes");
-    let mut region = Vec::from_elem(alloc, 3u8, 4096)?;
+    let mut region = Vec::from_elem(alloc, 3u8, CHUNK)?;
     rewrite_top(rt, filled(alloc, &mut region, class, 63)?);
     assert!(rt; !mark_top(&mut Chain::new(), 7));
     check_bytes(rt, &region, &[(4079, 3), (4080, 0)]);
@@ -114,7 +115,7 @@ fn writes_are_read_back(rt: HostRuntime) {
 
 fn mark_all(rt: &impl Abort, alloc: Global) -> Result<(), NoMemory> {
     let class = class_for(512).expect(rt, "a class of 512 bytes");
-    let mut region = Vec::from_elem(alloc, 1u8, 2 * 4096 + 1)?;
+    let mut region = Vec::from_elem(alloc, 1u8, 2 * CHUNK + 1)?;
     let Ok(()) = mark_region(alloc, &mut region, class, 9) else {
         return Err(NoMemory);
     };
@@ -127,5 +128,14 @@ fn mark_all(rt: &impl Abort, alloc: Global) -> Result<(), NoMemory> {
 fn marks_each_slot(rt: HostRuntime) {
     if mark_all(&rt, rt.alloc()).is_err() {
         assert!(rt; mark_all(&rt, rt.alloc()).is_ok());
+    }
+}
+
+#[test]
+fn the_first_byte_is_written_through_a_buffer(rt: HostRuntime) {
+    let mut region = [7u8; 10000];
+    mark_first(rt.alloc(), &mut region, 9);
+    for (at, byte) in region.iter().copied().enumerate() {
+        assert!(rt; byte == if at == 0 { 9 } else { 7 }, "byte {at}");
     }
 }

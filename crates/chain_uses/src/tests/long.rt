@@ -1,7 +1,7 @@
 //! A chain that is too long for a recursion.
 use crate::tests::{filled, same};
 use crate::walking::count_owned;
-use region_cut::class_for;
+use region_cut::{CHUNK, class_for};
 use slot_chain::{Chain, NoMemory};
 use std::alloc::Global;
 use std::process::Abort;
@@ -19,7 +19,7 @@ fn append(rt: &impl Abort, mut chain: Chain<'_>) {
 
 fn append_all(rt: &impl Abort, alloc: Global) -> Result<(), NoMemory> {
     let class = class_for(16).expect(rt, "a class of 16 bytes");
-    let mut region = Vec::from_elem(alloc, 0u8, 400 * 4096)?;
+    let mut region = Vec::from_elem(alloc, 0u8, 400 * CHUNK)?;
     append(rt, filled(alloc, &mut region, class, 1)?);
     Ok(())
 }

@@ -2,12 +2,13 @@
 use crate::filling::fill_part;
 use crate::tests::{parts, same};
 use crate::walking::{count_owned, list_slots};
-use region_cut::{Class, Slot};
+use region_cut::{CHUNK, Class, Slot};
 use slot_chain::{Buf, Chain, NoMemory, Tag};
 use std::alloc::Global;
 use std::process::Abort;
 
-// A chain for each chunk of the region, which has eight slots of 512 bytes, and belongs to the allocator 7 or, from its second chunk on, to 4,095.
+// A chain for each chunk of the region, which has eight slots of 512 bytes, and belongs to the
+// allocator 7 or, from its second chunk on, to 4,095.
 fn chains<'r>(
     rt: &impl Abort,
     alloc: Global,
@@ -84,7 +85,7 @@ fn take_last(rt: &impl Abort, mut second: Chain<'_>) {
 }
 
 fn take_all(rt: &impl Abort, alloc: Global) -> Result<(), NoMemory> {
-    let mut region = Vec::from_elem(alloc, 0u8, 2 * 4096)?;
+    let mut region = Vec::from_elem(alloc, 0u8, 2 * CHUNK)?;
     let (first, second) = chains(rt, alloc, &mut region)?;
     same(rt, "the slots", first.len(), 8);
     same(rt, "the bytes", first.bytes_total(), 4096);
@@ -113,7 +114,7 @@ fn append_both<'r>(rt: &impl Abort, first: &mut Chain<'r>, second: &mut Chain<'r
 }
 
 fn append_twice(rt: &impl Abort, alloc: Global) -> Result<(), NoMemory> {
-    let mut region = Vec::from_elem(alloc, 0u8, 2 * 4096)?;
+    let mut region = Vec::from_elem(alloc, 0u8, 2 * CHUNK)?;
     let (mut first, mut second) = chains(rt, alloc, &mut region)?;
     append_both(rt, &mut first, &mut second);
     check_popped(rt, alloc, second, &[1, 0])
@@ -156,7 +157,7 @@ fn check_top(rt: &impl Abort, chain: &Chain<'_>) {
 }
 
 fn walk_both(rt: &impl Abort, alloc: Global) -> Result<(), NoMemory> {
-    let mut region = Vec::from_elem(alloc, 0u8, 2 * 4096)?;
+    let mut region = Vec::from_elem(alloc, 0u8, 2 * CHUNK)?;
     let (mut first, mut second) = chains(rt, alloc, &mut region)?;
     first.append(&mut second);
     assert!(rt; second.walk().next().is_none());

@@ -1,4 +1,4 @@
-use Rattle.std.proofs.Common.{◌<◌, ◌*◌, ◌∙◌, ◌++◌, length, take, drop, slice_set, ap, subst, arith}
+use Rattle.std.proofs.Common.{◌<◌, ◌*◌, ◌∙◌, ◌++◌, length, take, drop, slice_set, ap, subst, arith, lit<}
 use Rattle.std.specs.List.{flat_map}
 use Rattle.std.proofs.lemmas.List.{length-map}
 use Rattle.region_cut.specs.declared.TheConstants.{CHUNK}
@@ -20,7 +20,7 @@ returns-in-Ok-clause-end c =
     let rest = c.settle_all.ensures.rest ∙ c.settle.ensures.rest ∙ front.tail ∙ ap (λ n. drop (CHUNK * n) bytes) names in
     let marked = c.settle.ensures.settled ∙ ap (λ z. z ++ end_of c.mark_part.result) front.settled ∙ c.mark_part.ensures.end in
     let settled = c.settle_all.ensures.settled ∙ ap (λ z. z ++ flat_map bytes_of c.remove-first.new.self.items) marked in
-    write_part bytes parts c.remove-first.new.self.items c.remove-first.result _ _ _ x first whole.1 settled rest
+    write_part bytes parts c.remove-first.new.self.items c.remove-first.result _ _ _ 64 x (lit< tt) first whole.1 settled rest
 
 pub returns-clause-end : goal.returns-clause-end
 returns-clause-end c =
@@ -31,4 +31,4 @@ returns-clause-end c =
     ap (λ z. z ++ rest_of c.new.result) c.new.ensures.settled
     ∙ c.new.ensures.rest ∙ ap (λ z. slice_set z 64 x) (c.take-whole.ensures.bytes ∙ ap (λ z. take CHUNK z) tail) in
     let rest = c.settle-2.ensures.rest ∙ c.take-whole.ensures.rest ∙ ap (λ z. drop CHUNK z) tail in
-    end_settled _ _ _ _ _ _ c.settle-2.ensures.settled (c.take-whole.ensures.settled ∙ front.settled) marked rest ∙ write_front bytes x c.requires
+    end_settled _ _ _ _ _ _ c.settle-2.ensures.settled (c.take-whole.ensures.settled ∙ front.settled) marked rest ∙ write_front bytes 64 x (lit< tt) c.requires
