@@ -1,5 +1,7 @@
 //! The table of the classes, requests and their classes, and regions that are cut. Each test also holds where an
 //! allocation is refused.
+mod words;
+
 use crate::mark;
 use region_cut::{Bump, CHUNK, Class, CutError, Part, Profile, Slot, class_for, cut};
 use std::alloc::Global;
@@ -182,7 +184,7 @@ fn fill_all_chunks(rt: &impl Abort, alloc: Global, region: &mut [u8]) -> usize {
 
 #[test]
 fn a_region_is_cut(rt: HostRuntime) {
-    let mut region = bytes_of(&rt, rt.alloc(), 2 * 4096 + 1808, 1);
+    let mut region = bytes_of(&rt, rt.alloc(), 2 * CHUNK + 1808, 1);
     same(
         &rt,
         "chunks",
@@ -233,7 +235,7 @@ fn is_cut(rt: &impl Abort, alloc: Global, region: &mut [u8], count: usize) {
 
 #[test]
 fn a_region_of_1025_chunks_is_refused(rt: HostRuntime) {
-    let mut region = bytes_of(&rt, rt.alloc(), 1025 * 4096, 7);
+    let mut region = bytes_of(&rt, rt.alloc(), 1025 * CHUNK, 7);
     assert!(rt; chunks_of(rt.alloc(), &mut region) == Err(CutError::TooMany));
     all_are(&rt, &region, 7);
     let (_, less) = region.split_first_mut().expect(&rt, "a first byte");
