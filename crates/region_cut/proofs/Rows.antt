@@ -5,7 +5,7 @@ use Rattle.std.proofs.Math.Seq.{take-append_seam, drop-append-add}
 use Rattle.std.proofs.lemmas.List.{drop-take, drop-drop, length-take, length-drop, take-take}
 use Rattle.std.proofs.lemmas.List.Elements.{recursion_from_All}
 use Rattle.std.proofs.lemmas.Option.{slice_get_within, get_or_from_slice_get}
-use Rattle.region_cut.specs.declared.TheConstants.{CHUNK}
+use Rattle.region_cut.specs.Limits.{chunk_size}
 use Rattle.region_cut.specs.Classes.{size_of}
 use Rattle.region_cut.specs.Bumps.{pieces_of}
 use Rattle.region_cut.specs.Laws.{Ending, BeginsWith, StandsAt, SlicesLieInOrder, SlotsLieAtTheirRanges, SlicesAreGivenInOrder}
@@ -61,11 +61,11 @@ within (x ∷ v) u w i k inner outer =
 
 pub ranges_lie : SlotsLieAtTheirRanges
 ranges_lie end s c region chunks whole chunk chunk_at slots cut slot slot_at =
-    let same : s.chunk * CHUNK + s.index * size_of c ≡ start_of s c = omega arith in
+    let same : s.chunk * chunk_size + s.index * size_of c ≡ start_of s c = omega arith in
     subst (λ n. StandsAt (end slot) n region) same
-    (within (end slot) (end chunk) region (s.index * size_of c) (s.chunk * CHUNK)
+    (within (end slot) (end chunk) region (s.index * size_of c) (s.chunk * chunk_size)
     (slices_lie end slots (size_of c) (end chunk) cut s.index slot slot_at)
-    (slices_lie end chunks CHUNK region whole s.chunk chunk chunk_at))
+    (slices_lie end chunks chunk_size region whole s.chunk chunk chunk_at))
 
 last_of : (xs : List ℕ) (x : ℕ) → slice_get (xs ++ x ∷ []) (length xs) ≡ Some x
 last_of [] x = refl
