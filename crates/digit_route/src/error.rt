@@ -1,4 +1,7 @@
 //! Why a call of this crate is refused.
+ghost use Rattle.std.specs.Prelude.{◌≡◌};
+ghost use Rattle.digit_route.specs.Refusals.{refusal_number};
+
 use thiserror::Error;
 
 /// Why a desk has no batch for the address that was asked for. The cache is then as before.
@@ -15,4 +18,17 @@ pub enum RouteError {
     /// The bucket isn't empty, but the address owns nothing in it.
     #[error("that desk owns none of the buffers that would go to it")]
     NotAnOwner,
+}
+
+impl RouteError {
+    /// Its number, from 1, in the order in which the refusals are tested.
+    pub fn number(self) -> u32
+        ensures { result ≡ refusal_number self }
+    {
+        match self {
+            RouteError::ToSelf => 1,
+            RouteError::NothingFor => 2,
+            RouteError::NotAnOwner => 3,
+        }
+    }
 }

@@ -2,6 +2,7 @@
 mod desks;
 mod listing;
 mod numbers;
+mod refusals;
 mod rounds;
 mod samples;
 mod sinks;
