@@ -7,7 +7,7 @@ use Rattle.digit_route.specs.Digits.{Scheme, common}
 use Rattle.digit_route.specs.Route.{IsInBucket}
 use Rattle.digit_route.specs.Rows.{Row, IsByDigit}
 use Rattle.digit_route.specs.Slots.{slot_of}
-use Rattle.digit_route.specs.Posts.{IsFrom, buffers_of, shared}
+use Rattle.digit_route.specs.Posts.{GivesAll, buffers_of, shared}
 use Rattle.digit_route.specs.States.{BatchState, PostingState, all_moves}
 
 -- a loop that moves the buffers of a chain into a row
@@ -64,5 +64,5 @@ pub record Posted (s : Scheme) (a limit : ℕ) (items : List Buffer) (old given 
   pub added : List BatchState
   pub appended : given ≡ old ++ added
   pub together : IsPermutation items (buffers_of added ++ left.items)
-  pub routed : All (IsFrom s a) added
+  pub whole : GivesAll s a items added left.items
   pub counted : shared s a items < 2 ^ 64 → all_moves left ≡ shared s a items

@@ -2,7 +2,7 @@
 ghost use Rattle.std.specs.Prelude.{◌≡◌, ◌-◌, ◌*◌, ◌^◌, ◌<◌, ◌≤◌, ◌↔◌, ◌⊎◌, [], ◌∷◌, ◌++◌, length, All, Some, None, MatchOption, MatchResult, IsTrue, IsPermutation, OnOk, OnErr};
 ghost use Rattle.slot_chain.specs.Counts.{capped, sizes};
 ghost use Rattle.digit_route.specs.Digits.{Scheme, IsScheme, count};
-ghost use Rattle.digit_route.specs.Posts.{Posts, shared};
+ghost use Rattle.digit_route.specs.Posts.{Moved, Posts, shared};
 ghost use Rattle.digit_route.specs.Route.{IsCached, RouteFault};
 ghost use Rattle.digit_route.specs.Slots.{AddsSlots};
 ghost use Rattle.digit_route.specs.States.{BatchState, Gives};
@@ -255,15 +255,16 @@ impl<'r> Cache<'r> {
     /// left, and how often a buffer was moved from one round's row into the next, or the greatest
     /// `u64` where that is less.
     ///
-    /// Each buffer is moved once for each digit that its owner shares with the desk, so less often
-    /// than a number has digits.
+    /// Each buffer that is given is moved once for each digit that its owner shares with the desk,
+    /// so less often than a number has digits. Those that are left were moved once for each digit
+    /// that all of them share.
     pub fn post_all<S: BatchSink<'r>>(self, sink: &mut S) -> (Cache<'r>, u64)
         ensures same { result.0 ≡ record self.entry { items = result.0.items } }
         ensures posts { Posts self.entry.digits self.entry.number self.entry.items (S.given sink.old) (S.given sink.new)
             result.0.items }
         ensures stops { (result.0.items ≡ []) ⊎ (b : BatchState) × S.refuses sink.new b }
-        ensures moves { result.0.items ≡ [] → shared self.entry.digits self.entry.number self.entry.items < 2 ^ 64
-            → result.1 ≡ shared self.entry.digits self.entry.number self.entry.items }
+        ensures moves { shared self.entry.digits self.entry.number self.entry.items < 2 ^ 64
+            → Moved self.entry.digits self.entry.number self.entry.items result.0.items result.1 }
         ensures few { result.1 ≤ (count self.entry.digits - 1) * length self.entry.items }
     {
         let _known = self.number();

@@ -45,32 +45,39 @@ fn posts_all(rt: HostRuntime) {
     }
 }
 
-// Of five batches as many are left as the first shelf has no room for.
-fn post_twice(
-    rt: &impl Abort,
-    alloc: Global,
-    cache: Cache<'_>,
-    room: usize,
-    left: usize,
-) -> Result<(), NoMemory> {
-    let (cache, _) = post(rt, alloc, cache, room, room)?;
+// A shelf with room for so many of five batches, how many are left, the moves until it refused one, and the moves of
+// the posting that gives what was left.
+type Row = (usize, usize, u64, u64);
+
+fn post_twice(rt: &impl Abort, alloc: Global, cache: Cache<'_>, row: Row) -> Result<(), NoMemory> {
+    let (room, left, first, second) = row;
+    let (cache, moves) = post(rt, alloc, cache, room, room)?;
     same(rt, "buffers left", cache.len(), left as u64);
-    let (cache, _) = post(rt, alloc, cache, 5, left)?;
+    same(rt, "the moves until then", moves, first);
+    let (cache, moves) = post(rt, alloc, cache, 5, left)?;
     assert!(rt; cache.is_empty());
+    same(rt, "the moves of what was left", moves, second);
     Ok(())
 }
 
-fn post_some(rt: &impl Abort, alloc: Global, room: usize, left: usize) -> Result<(), NoMemory> {
+fn post_some(rt: &impl Abort, alloc: Global, row: Row) -> Result<(), NoMemory> {
     let mut region = Vec::from_elem(alloc, 0u8, 4096)?;
     let cache = filled_in(rt, alloc, &mut region, 0, 2, &[1, 2, 3, 16, 32])?;
-    post_twice(rt, alloc, cache, room, left)
+    post_twice(rt, alloc, cache, row)
 }
 
+// The owners 16 and 32 share two digits with desk 0, and the others none.
 #[test]
 fn keeps_what_is_refused(rt: HostRuntime) {
-    for (room, left) in [(0, 5), (1, 4), (2, 3), (3, 2), (4, 1)] {
-        if post_some(&rt, rt.alloc(), room, left).is_err() {
-            assert!(rt; post_some(&rt, rt.alloc(), room, left).is_ok());
+    for row in [
+        (0, 5, 0, 4),
+        (1, 4, 0, 4),
+        (2, 3, 0, 4),
+        (3, 2, 4, 4),
+        (4, 1, 4, 2),
+    ] {
+        if post_some(&rt, rt.alloc(), row).is_err() {
+            assert!(rt; post_some(&rt, rt.alloc(), row).is_ok());
         }
     }
 }

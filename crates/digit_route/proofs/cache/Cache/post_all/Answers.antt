@@ -2,7 +2,7 @@ use Rattle.std.proofs.Common.{◌≡◌, ◌∙◌, ap, inl}
 use Rattle.std.proofs.lemmas.List.Sorted.{IsPermutation-sym}
 use Rattle.digit_route.specs.States.{PostingState}
 use Rattle.digit_route.proofs.PostingLaws.{nil_permutation}
-use Rattle.digit_route.proofs.PostLaws.{Posted-start, Posted-more, Posted-end, Posted-back, Posted-moves, Posted-few, Gives-fewer, left_some}
+use Rattle.digit_route.proofs.PostLaws.{Posted-start, Posted-more, Posted-end, Posted-back, Posted-few, Gives-fewer, Moved-end, Moved-back}
 use Rattle.digit_route.proofs.cache.Cache.post_all.Goals as goal
 
 pub loop-batch-init : goal.loop-batch-init
@@ -34,8 +34,11 @@ returns-in-Err-clause-posts g c =
 
 pub returns-in-Err-clause-moves : goal.returns-in-Err-clause-moves
 returns-in-Err-clause-moves g c =
-    λ none fits. absurd (left_some _ _ _ c.in-Some.batch c.next_batch.new.self.items _ c.in-Some.ensures.value
-    (rw c.in-Err.ensures.err.0 at c.put_back.ensures.items) none)
+    let e = c.in-Some.ensures in
+    λ fits. rw c.moves-moves.ensures
+    (Moved-back _ _ _ _ _ _ c.loop-batch.posting c.next_batch.new.self c.in-Some.batch _ c.loop-batch.invariant
+    (ap (λ (p : PostingState). p.number) e.same) (ap (λ (p : PostingState). p.digits) e.same) e.value e.here e.left e.counted
+    (rw c.in-Err.ensures.err.0 at c.put_back.ensures.items) fits)
 
 pub returns-in-Err-clause-few : goal.returns-in-Err-clause-few
 returns-in-Err-clause-few g c =
@@ -64,8 +67,11 @@ returns-clause-stops g c =
 
 pub returns-clause-moves : goal.returns-clause-moves
 returns-clause-moves g c =
-    λ none fits. c.moves-moves-2.ensures ∙ Posted-moves _ _ _ _ _ _ c.loop-batch.posting c.next_batch.new.self c.loop-batch.invariant
-    c.in_default.ensures.counted c.in_default.ensures.value.1 fits
+    let e = c.in_default.ensures in
+    let none = nil_permutation _ (IsPermutation-sym _ _ (rw e.value.1 at c.end.ensures.items)) in
+    λ fits. rw c.moves-moves-2.ensures
+    (Moved-end _ _ _ _ _ _ c.loop-batch.posting c.next_batch.new.self _ c.loop-batch.invariant
+    (ap (λ (p : PostingState). p.number) e.same) (ap (λ (p : PostingState). p.digits) e.same) e.counted e.value.1 none fits)
 
 pub returns-clause-few : goal.returns-clause-few
 returns-clause-few g c =
