@@ -1,12 +1,10 @@
 -- What the loops of this crate keep.
-use Rattle.std.specs.Prelude.{◌≡◌, ◌≢◌, ℕ, ◌-◌, ◌^◌, ◌<◌, ◌≤◌, ◌++◌, List, Bool, length, min, reverse, map, All, Any, MatchBool, IsPermutation}
+use Rattle.std.specs.Prelude.{◌≡◌, ◌≢◌, ℕ, ◌-◌, ◌^◌, ◌<◌, ◌≤◌, ◌++◌, List, Bool, length, min, All, Any, MatchBool, IsPermutation}
 use Rattle.std.specs.List.{flat_map}
-use Rattle.region_cut.specs.declared.slot.Slot.{Slot}
 use Rattle.slot_chain.specs.Buffer.{Buffer}
 use Rattle.digit_route.specs.Digits.{Scheme, common}
 use Rattle.digit_route.specs.Route.{IsInBucket}
 use Rattle.digit_route.specs.Rows.{Row, IsByDigit}
-use Rattle.digit_route.specs.Slots.{slot_of}
 use Rattle.digit_route.specs.Posts.{GivesAll, buffers_of, shared}
 use Rattle.digit_route.specs.States.{BatchState, PostingState, all_moves}
 
@@ -36,12 +34,6 @@ pub record Parts (s : Scheme) (near t : ℕ) (whole rest nearer others : List Bu
   pub items : IsPermutation whole (rest ++ (nearer ++ others))
   pub above : All (λ (b : Buffer). near < common s b.owner t) nearer
   pub below : All (λ (b : Buffer). common s b.owner t ≤ near) others
-
--- the slots of a chain are listed from its end
-pub record Lists (old : List Slot) (whole : List Buffer) (new : List Slot) (rest : List Buffer) : Type 0 where
-  pub added : List Slot
-  pub so_far : new ≡ old ++ added
-  pub all : new ++ reverse (map slot_of rest) ≡ old ++ reverse (map slot_of whole)
 
 -- a row as a posting
 abbrev pub posting_of : Row → ℕ → ℕ → PostingState

@@ -1,16 +1,17 @@
 //! The cache of a desk.
-ghost use Rattle.std.specs.Prelude.{◌≡◌, ◌-◌, ◌*◌, ◌^◌, ◌<◌, ◌≤◌, ◌↔◌, ◌⊎◌, [], ◌∷◌, ◌++◌, length, All, Some, None, MatchOption, MatchResult, IsTrue, IsPermutation, OnOk, OnErr};
+ghost use Rattle.std.specs.Prelude.{◌≡◌, ◌-◌, ◌*◌, ◌^◌, ◌<◌, ◌≤◌, ◌↔◌, ◌⊎◌, [], ◌∷◌, ◌++◌, length, map, All, Some, None, MatchOption, MatchResult, IsTrue, IsPermutation, OnOk, OnErr};
+ghost use Rattle.slot_chain.specs.Buffer.{ended_of};
 ghost use Rattle.slot_chain.specs.Counts.{capped, sizes};
 ghost use Rattle.digit_route.specs.Digits.{Scheme, IsScheme, count};
 ghost use Rattle.digit_route.specs.Posts.{Moved, Posts, shared};
 ghost use Rattle.digit_route.specs.Route.{IsCached, RouteFault};
-ghost use Rattle.digit_route.specs.Slots.{AddsSlots};
+ghost use Rattle.slot_chain.specs.Slots.{AddsSlots, slot_of};
 ghost use Rattle.digit_route.specs.States.{BatchState, Gives};
 
 use crate::counter::bytes_left;
 use crate::row::Row;
 use crate::{Batch, BatchSink, Digits, Posting, RouteError};
-use region_cut::Slot;
+use region_cut::{Endings, Slot};
 use slot_chain::{Buf, NoMemory};
 use std::marker::Model;
 use std::mem;
@@ -125,10 +126,22 @@ impl<'r> Cache<'r> {
     ///
     /// An error says that `slots` could not grow. It then has what it had before.
     pub fn list_slots(&self, slots: &mut Vec<Slot>) -> Result<(), NoMemory>
-        ensures ok { OnOk result (AddsSlots self.now.items slots.old.items slots.new.items) }
+        ensures ok { OnOk result (AddsSlots (map slot_of self.now.items) slots.old.items slots.new.items) }
         ensures err { OnErr result (slots.new.items ≡ slots.old.items) }
     {
         self.row.list_slots(slots)
+    }
+
+    /// Lets go of all buffers: it is then known what each ends as. Takes a walk over them.
+    pub fn end(self, endings: &mut Endings<'r>)
+        ensures { endings.new ≡ record endings.old { known = map ended_of self.entry.items ++ endings.old.known } }
+    {
+        let Cache {
+            row,
+            limit: _,
+            bytes: _,
+        } = self;
+        row.end(endings);
     }
 
     /// Adds a buffer, in constant time.

@@ -1,13 +1,13 @@
 //! A row of chains, one for each value of a digit.
-ghost use Rattle.std.specs.Prelude.{◌≡◌, ◌≢◌, ℕ, ◌+◌, ◌<◌, ◌≤◌, ◌↔◌, [], ◌∷◌, ◌++◌, length, slice_index_or, slice_set, replicate, MatchOption, IsTrue, OnOk, OnErr};
+ghost use Rattle.std.specs.Prelude.{◌≡◌, ◌≢◌, ℕ, ◌+◌, ◌<◌, ◌≤◌, ◌↔◌, [], ◌∷◌, ◌++◌, length, map, slice_index_or, slice_set, replicate, MatchOption, IsTrue, OnOk, OnErr};
 ghost use Rattle.std.specs.List.{flat_map};
 ghost use Rattle.arrayvec.specs.ArrayVec.{array_vec_len};
+ghost use Rattle.slot_chain.specs.Buffer.{ended_of};
 ghost use Rattle.slot_chain.specs.Counts.{capped, sizes};
-ghost use Rattle.digit_route.specs.Slots.{AddsSlots};
+ghost use Rattle.slot_chain.specs.Slots.{AddsSlots, slot_of};
 
-use crate::walks;
 use arrayvec::ArrayVec;
-use region_cut::Slot;
+use region_cut::{Endings, Slot};
 use slot_chain::{Buf, Chain, NoMemory};
 use std::mem;
 
@@ -96,15 +96,27 @@ pub(crate) fn bytes(chains: &[Chain<'_>]) -> u64
 
 /// Adds the slots of all buffers, or none.
 pub(crate) fn list_slots(chains: &[Chain<'_>], slots: &mut Vec<Slot>) -> Result<(), NoMemory>
-    ensures ok { OnOk result (AddsSlots (flat_map (λ x. x) chains.now) slots.old.items slots.new.items) }
+    ensures ok { OnOk result (AddsSlots (map slot_of (flat_map (λ x. x) chains.now)) slots.old.items slots.new.items) }
     ensures err { OnErr result (slots.new.items ≡ slots.old.items) }
 {
     let start = slots.len();
     for chain in chains {
-        if let Err(refused) = walks::list_slots(chain, slots) {
+        if let Err(refused) = chain.list_slots(slots) {
             slots.truncate(start);
             return Err(refused);
         }
     }
     Ok(())
+}
+
+/// Lets go all buffers.
+pub(crate) fn end_all<'r>(chains: Chains<'r>, endings: &mut Endings<'r>)
+    ensures { endings.new ≡ record endings.old {
+      known = map ended_of (flat_map (λ x. x) chains.entry.items) ++ endings.old.known;
+    } }
+{
+    let mut chains = chains;
+    while let Some(chain) = chains.pop() {
+        chain.end(endings);
+    }
 }

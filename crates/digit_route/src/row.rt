@@ -1,20 +1,21 @@
 //! The row that a cache and a posting stand on.
-ghost use Rattle.std.specs.Prelude.{◌≡◌, ◌≢◌, ℕ, ◌+◌, ◌^◌, ◌<◌, ◌≤◌, ◌↔◌, [], ◌∷◌, ◌++◌, length, MatchOption, All, Any, IsPermutation, IsTrue, OnOk, OnErr};
-ghost use Rattle.slot_chain.specs.Buffer.{Buffer};
+ghost use Rattle.std.specs.Prelude.{◌≡◌, ◌≢◌, ℕ, ◌+◌, ◌^◌, ◌<◌, ◌≤◌, ◌↔◌, [], ◌∷◌, ◌++◌, length, map, MatchOption, All, Any, IsPermutation, IsTrue, OnOk, OnErr};
+ghost use Rattle.slot_chain.specs.Buffer.{Buffer, ended_of};
 ghost use Rattle.slot_chain.specs.Counts.{capped, sizes};
 ghost use Rattle.digit_route.specs.Digits.{digit};
 ghost use Rattle.digit_route.specs.Route.{IsWellRouted, RouteFault, TakesBucket};
 ghost use Rattle.digit_route.specs.Rows.{IsLeft, Keeps};
-ghost use Rattle.digit_route.specs.Slots.{AddsSlots};
+ghost use Rattle.slot_chain.specs.Slots.{AddsSlots, slot_of};
 ghost use Rattle.digit_route.specs.States.{Gives};
 
 use crate::chains::{
-    Chains, all_empty, bytes, empty_chains, find_other, len, list_slots, push_at, set_at, take_at,
+    Chains, all_empty, bytes, empty_chains, end_all, find_other, len, list_slots, push_at, set_at,
+    take_at,
 };
 use crate::moves::{scatter, scatter_all, split};
 use crate::walks::{fault_in, some_owner};
 use crate::{Batch, Digits, RouteError};
-use region_cut::Slot;
+use region_cut::{Endings, Slot};
 use slot_chain::{Buf, Chain, NoMemory};
 use std::marker::Model;
 
@@ -107,10 +108,23 @@ impl<'r> Row<'r> {
 
     /// Adds the slots of all buffers, or none.
     pub(crate) fn list_slots(&self, slots: &mut Vec<Slot>) -> Result<(), NoMemory>
-        ensures ok { OnOk result (AddsSlots self.now.items slots.old.items slots.new.items) }
+        ensures ok { OnOk result (AddsSlots (map slot_of self.now.items) slots.old.items slots.new.items) }
         ensures err { OnErr result (slots.new.items ≡ slots.old.items) }
     {
         list_slots(self.chains.as_slice(), slots)
+    }
+
+    /// Lets go all buffers.
+    pub(crate) fn end(self, endings: &mut Endings<'r>)
+        ensures { endings.new ≡ record endings.old { known = map ended_of self.entry.items ++ endings.old.known } }
+    {
+        let Row {
+            number: _,
+            digits: _,
+            round: _,
+            chains,
+        } = self;
+        end_all(chains, endings);
     }
 
     /// Adds a buffer.

@@ -1,13 +1,11 @@
 //! What is found by a walk along one chain.
-ghost use Rattle.std.specs.Prelude.{◌≡◌, ◌≢◌, [], ◌++◌, Any, OnOk, OnErr, map, reverse};
+ghost use Rattle.std.specs.Prelude.{◌≡◌, ◌≢◌, [], Any};
 ghost use Rattle.slot_chain.specs.Buffer.{Buffer};
 ghost use Rattle.digit_route.specs.Digits.{Scheme};
 ghost use Rattle.digit_route.specs.Route.{RouteFault};
-ghost use Rattle.digit_route.specs.Slots.{slot_of};
 
 use crate::{Digits, RouteError};
-use region_cut::Slot;
-use slot_chain::{Chain, NoMemory};
+use slot_chain::Chain;
 
 /// The owner of some buffer of the chain.
 pub(crate) fn some_owner(chain: &Chain<'_>) -> u16
@@ -40,19 +38,4 @@ pub(crate) fn fault_in(chain: &Chain<'_>, digits: Digits, a: u16, t: u16) -> Opt
     } else {
         Some(RouteError::NothingFor)
     }
-}
-
-/// Adds the slots of the chain, the last buffer's first, or none.
-pub(crate) fn list_slots(chain: &Chain<'_>, slots: &mut Vec<Slot>) -> Result<(), NoMemory>
-    ensures ok { OnOk result (slots.new.items ≡ slots.old.items ++ reverse (map slot_of chain.now)) }
-    ensures err { OnErr result (slots.new.items ≡ slots.old.items) }
-{
-    let start = slots.len();
-    for tag in chain.walk() {
-        if slots.push(tag.slot).is_err() {
-            slots.truncate(start);
-            return Err(NoMemory);
-        }
-    }
-    Ok(())
 }
