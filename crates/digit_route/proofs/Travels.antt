@@ -1,0 +1,22 @@
+-- Which types of this crate, and of chains, cross threads, each by the lemmas of what it holds.
+use denote.Ref.{NamedLft}
+use denote.Param.Send.{IsSend, sendable}
+use Rattle.std.proofs.Crossing.{crosses}
+use Rattle.slot_chain.proofs.chain.Chain.TheLaws.TheKnot.{send-Chain, send-Node}
+use Rattle.slot_chain.proofs.lease.Lease.TheSendSync.{the_send as lease_send}
+use Rattle.slot_chain.specs.contracts.chain.Chain as Chain
+use Rattle.slot_chain.specs.contracts.buf.Buf as Buf
+use Rattle.digit_route.specs.contracts.batch.Batch as Batch
+use Rattle.digit_route.specs.contracts.cache.Cache as Cache
+
+pub chain_send : (a : NamedLft) → IsSend (Chain.the_row a)
+chain_send a = search (sendable, crosses, send-Chain, lease_send) depth 40 fits 6000
+
+pub buf_send : (a : NamedLft) → IsSend (Buf.the_row a)
+buf_send a = search (sendable, crosses, send-Node, chain_send, lease_send) depth 40 fits 6000
+
+pub batch_send : (a : NamedLft) → IsSend (Batch.the_row a)
+batch_send a = search (sendable, crosses, chain_send) depth 40 fits 6000
+
+pub cache_send : (a : NamedLft) → IsSend (Cache.the_row a)
+cache_send a = search (sendable, crosses, chain_send) depth 40 fits 6000
