@@ -48,6 +48,16 @@ fn check(rt: &impl Abort, row: &Row) {
     laws::symmetric(digits, desk, owner);
 }
 
+// The laws for all numbers cost nothing to call.
+#[test]
+fn has_laws(_rt: HostRuntime) {
+    laws::shared_both_ways();
+    laws::shared_at_most_all();
+    laws::shared_by_equals();
+    laws::shared_by_others();
+    laws::shared_on_the_way();
+}
+
 #[test]
 fn reads_digits(rt: HostRuntime) {
     let rows = [
