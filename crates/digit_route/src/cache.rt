@@ -93,6 +93,13 @@ impl<'r> Cache<'r> {
         self.row.digits()
     }
 
+    /// The bytes above which it is due.
+    pub fn limit(&self) -> u64
+        ensures { result ≡ self.now.limit }
+    {
+        self.limit
+    }
+
     /// Whether there is no buffer.
     pub fn is_empty(&self) -> bool
         ensures { IsTrue result ↔ (self.now.items ≡ []) }

@@ -13,7 +13,7 @@ use Rattle.region_cut.specs.declared.part.Part.{Part}
 use Rattle.slot_chain.specs.Buffer.{Buffer}
 use Rattle.pool_desk.specs.declared.error.DeskError.{DeskError}
 use Rattle.pool_desk.specs.declared.error.DeskError.TheVariants.{TooLarge, NeedChunk, NotNeeded, Unsettled, NoMemory}
-use Rattle.pool_desk.specs.Homes.{AtHome, HomeState, IsAtHome, GivesOne, Names, Draws, IsUncut, class_at, IsUnused, IsRefused, unused_from}
+use Rattle.pool_desk.specs.Homes.{AtHome, HomeState, IsAtHome, IsOwn, GivesOne, Names, Draws, IsUncut, class_at, IsUnused, IsRefused, unused_from}
 use Rattle.pool_desk.specs.Homes.AtHome.{Kept, Fresh}
 use Rattle.pool_desk.specs.ByClass.{HomesState, slots_at, drawn_at, no_home, home_at, empties, IsHome, AreHomes, HasClass, LacksClass, IsWanting}
 use Rattle.pool_desk.proofs.HomeLaws.{unused_class}
@@ -133,6 +133,16 @@ are_set owner k hs h are l is = record {
 class_of : (owner j : ℕ) (s : AtHome) → IsAtHome owner j s → class_at s ≡ j
 class_of owner j (Kept b) is = is.1
 class_of owner j (Fresh u) is = is
+
+own_at : (owner j : ℕ) (s : AtHome) → IsAtHome owner j s → IsOwn owner s
+own_at owner j (Kept b) is = is.0
+own_at owner j (Fresh u) is = tt
+
+-- all that came home is the owner's
+pub own_joined : (owner : ℕ) (hs : List HomeState) → AreHomes owner hs → All (IsOwn owner) (flat_map slots_at hs)
+own_joined owner hs are =
+    All-joined (IsOwn owner) hs
+    (λ k l. All-weaker (IsAtHome owner k) (IsOwn owner) (own_at owner k) (home_at hs k).slots (are.each k (rw are.count at l)).each)
 
 -- no slot of class k is there where the home k is empty
 none_joined : (owner k : ℕ) (hs : List HomeState) → AreHomes owner hs → k < class_count → (home_at hs k).slots ≡ [] → LacksClass k (flat_map slots_at hs)

@@ -65,26 +65,11 @@ homes_end hs h s t e =
     ∙ (ap (λ zs. let_go zs (flat_map drawn_at hs ++ h.drawn) s) (sym (flat_map-append slots_at hs (h ∷ []) ∙ ap (λ zs. flat_map slots_at hs ++ zs) (append-nil h.slots)))
     ∙ ap (λ cs. let_go (flat_map slots_at (hs ++ h ∷ [])) cs s) (sym (flat_map-append drawn_at hs (h ∷ []) ∙ ap (λ zs. flat_map drawn_at hs ++ zs) (append-nil h.drawn)))))
 
--- a batch of a cache, and then what is left of it
-pub batch_ends : (all cached batch left : List Buffer) (first old new : List Ended) → IsPermutation cached (batch ++ left) → new ≡ map ended_of batch ++ old
-    → IsPermutation (map ended_of all ++ first) (map ended_of cached ++ old) → IsPermutation (map ended_of all ++ first) (map ended_of left ++ new)
-batch_ends all cached batch left first old new p e before =
-    let q : IsPermutation (map ended_of cached) (map ended_of left ++ map ended_of batch) =
-    IsPermutation-trans _ _ _ (IsPermutation-map ended_of _ _ (IsPermutation-trans _ _ _ p (IsPermutation-append_comm batch left)))
-    (subst (λ zs. IsPermutation (map ended_of (left ++ batch)) zs) (map-append ended_of left batch) (IsPermutation-refl _)) in
-    IsPermutation-trans _ _ _ before
-    (subst (λ zs. IsPermutation (map ended_of cached ++ old) zs) (append_assoc (map ended_of left) (map ended_of batch) old ∙ ap (λ zs. map ended_of left ++ zs) (sym e))
-    (IsPermutation-append_left old _ _ q))
-
--- a batch that has a buffer leaves fewer
-pub fewer_left : {P : Buffer → Type 0} (all batch left : List Buffer) → IsPermutation all (batch ++ left) → Any P batch → length left < length all
-fewer_left all batch left p some =
-    let both = length_permutation all (batch ++ left) p in let sum = length-append batch left in let low = some.2 in
-    omega (arith, both, sum, low)
-
 -- a cache, and then the homes
-pub desk_ends : (kept cached : List Buffer) (old mid new : List Ended) → IsPermutation (map ended_of cached ++ old) mid → new ≡ map ended_of kept ++ mid
+pub desk_ends : (kept cached : List Buffer) (old mid new : List Ended) → mid ≡ map ended_of cached ++ old → new ≡ map ended_of kept ++ mid
     → IsPermutation (map ended_of (kept ++ cached) ++ old) new
 desk_ends kept cached old mid new p e =
-    subst (λ zs. IsPermutation zs new) (sym (ap (λ zs. zs ++ old) (map-append ended_of kept cached) ∙ append_assoc (map ended_of kept) (map ended_of cached) old))
-    (subst (λ zs. IsPermutation (map ended_of kept ++ (map ended_of cached ++ old)) zs) (sym e) (IsPermutation-append_right (map ended_of kept) _ _ p))
+    let all : map ended_of (kept ++ cached) ++ old ≡ new =
+    ap (λ zs. zs ++ old) (map-append ended_of kept cached) ∙ (append_assoc (map ended_of kept) (map ended_of cached) old
+    ∙ (ap (λ zs. map ended_of kept ++ zs) (sym p) ∙ sym e)) in
+    rw all (IsPermutation-refl new)

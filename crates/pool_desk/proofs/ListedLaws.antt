@@ -8,14 +8,14 @@ use Rattle.std.specs.List.{flat_map}
 use Rattle.std.proofs.lemmas.List.Sorted.{IsPermutation-refl, IsPermutation-append}
 use Rattle.std.proofs.lemmas.List.{map-append, take_more, take_all, reverse-append}
 use Rattle.std.proofs.lemmas.Grind.{flat_map-append}
-use Rattle.digit_route.specs.Slots.{AddsSlots}
+use Rattle.slot_chain.specs.Slots.{AddsSlots, slot_of}
 use Rattle.pool_desk.specs.ByClass.{slots_at}
 use Rattle.std.proofs.Math.Seq.{take-append_seam}
 use Rattle.region_cut.specs.declared.slot.Slot.{Slot}
 use Rattle.slot_chain.specs.Buffer.{Buffer}
 use Rattle.pool_desk.specs.Homes.{AtHome, HomeState, slot_at, unused_from}
 use Rattle.pool_desk.specs.Homes.AtHome.{Kept}
-use Rattle.pool_desk.specs.Listed.{Adds, AddsOn, places, slot_of, slots_in}
+use Rattle.pool_desk.specs.Listed.{AddsOn, places, slots_in}
 
 -- of the slots whole those before rest were added
 pub record Adding (whole rest old new : List Slot) : Type 0 where
@@ -41,14 +41,14 @@ pub Adding-stop : {T E : Type 0} (e : E) (slots whole rest old new : List Slot) 
 Adding-stop e slots whole rest old new a = record { added = a.added; appended = a.so_far; each = tt }
 
 -- nothing was added
-pub Adds-none : (old : List Slot) → Adds [] old old
+pub Adds-none : (old : List Slot) → AddsSlots [] old old
 Adds-none old = record { added = []; appended = sym (append-nil old); each = IsPermutation-refl [] }
 
-pub Adds-ok : {T E : Type 0} (t : T) (slots old new : List Slot) → AddsOn {T = T} {E = E} (Ok t) slots old new → Adds slots old new
+pub Adds-ok : {T E : Type 0} (t : T) (slots old new : List Slot) → AddsOn {T = T} {E = E} (Ok t) slots old new → AddsSlots slots old new
 Adds-ok t slots old new a = record { added = a.added; appended = a.appended; each = a.each }
 
 -- more slots after those that were added
-pub AddsOn-more : {T E : Type 0} (r : Result T E) (xs ys old mid new : List Slot) → Adds xs old mid → AddsOn r ys mid new → AddsOn r (xs ++ ys) old new
+pub AddsOn-more : {T E : Type 0} (r : Result T E) (xs ys old mid new : List Slot) → AddsSlots xs old mid → AddsOn r ys mid new → AddsOn r (xs ++ ys) old new
 AddsOn-more (Ok t) xs ys old mid new a b = record {
   added = a.added ++ b.added;
   appended = b.appended ∙ (ap (λ (z : List Slot). z ++ b.added) a.appended ∙ append_assoc old a.added b.added);
@@ -77,19 +77,19 @@ kept_slots (b ∷ bs) = ap (λ (z : List Slot). b.slot ∷ z) (kept_slots bs)
 home_slots : (bs : List Buffer) (us : List AtHome) → map slot_at (map {A = Buffer} {B = AtHome} (λ x. Kept x) bs ++ us) ≡ map slot_of bs ++ map slot_at us
 home_slots bs us = map-append slot_at (map {A = Buffer} {B = AtHome} (λ x. Kept x) bs) us ∙ ap (λ (z : List Slot). z ++ map slot_at us) (kept_slots bs)
 
-pub home_listed : {T E : Type 0} (r : Result T E) (t : T) (bs : List Buffer) (us : List AtHome) (old mid new : List Slot)
-    → AddsOn {T = T} {E = E} (Ok t) (map slot_of bs) old mid → AddsOn r (map slot_at us) mid new
+pub home_listed : {T E : Type 0} (r : Result T E) (bs : List Buffer) (us : List AtHome) (old mid new : List Slot)
+    → AddsSlots (map slot_of bs) old mid → AddsOn r (map slot_at us) mid new
     → AddsOn r (map slot_at (map {A = Buffer} {B = AtHome} (λ x. Kept x) bs ++ us)) old new
-home_listed r t bs us old mid new a b =
-    subst (λ z. AddsOn r z old new) (sym (home_slots bs us)) (AddsOn-more r (map slot_of bs) (map slot_at us) old mid new (Adds-ok t _ _ _ a) b)
+home_listed r bs us old mid new a b =
+    subst (λ z. AddsOn r z old new) (sym (home_slots bs us)) (AddsOn-more r (map slot_of bs) (map slot_at us) old mid new a b)
 
 pub none_listed : {T E : Type 0} (t : T) (old : List Slot) → AddsOn {T = T} {E = E} (Ok t) [] old old
 none_listed t old = record { added = []; appended = sym (append-nil old); each = IsPermutation-refl [] }
 
 -- one home more
 pub homes_listed : {T E : Type 0} (t : T) (hs : List HomeState) (i : ℕ) (h : HomeState) (old mid new : List Slot) → i < length hs → h ≡ get_or hs i h
-    → Adds (map slot_at (flat_map slots_at (take i hs))) old mid → AddsOn {T = T} {E = E} (Ok t) (map slot_at h.slots) mid new
-    → Adds (map slot_at (flat_map slots_at (take (i + 1) hs))) old new
+    → AddsSlots (map slot_at (flat_map slots_at (take i hs))) old mid → AddsOn {T = T} {E = E} (Ok t) (map slot_at h.slots) mid new
+    → AddsSlots (map slot_at (flat_map slots_at (take (i + 1) hs))) old new
 homes_listed {T = T} {E = E} t hs i h old mid new l is a b =
     let front : take (i + 1) hs ≡ take i hs ++ h ∷ [] = take_more hs i h l ∙ ap (λ (z : HomeState). take i hs ++ z ∷ []) (sym is) in
     let slots : map slot_at (flat_map slots_at (take (i + 1) hs)) ≡ map slot_at (flat_map slots_at (take i hs)) ++ map slot_at h.slots
@@ -98,9 +98,9 @@ homes_listed {T = T} {E = E} t hs i h old mid new l is a b =
     ∙ (map-append slot_at (flat_map slots_at (take i hs)) (h.slots ++ [])
     ∙ ap (λ (z : List AtHome). map slot_at (flat_map slots_at (take i hs)) ++ map slot_at z) (append-nil h.slots))) in
     let r : Result T E = Ok t in
-    subst (λ z. Adds z old new) (sym slots) (Adds-ok t _ _ _ (AddsOn-more r _ _ old mid new a b))
+    subst (λ z. AddsSlots z old new) (sym slots) (Adds-ok t _ _ _ (AddsOn-more r _ _ old mid new a b))
 
-pub Adds-true : {T E : Type 0} (r : Result T E) (slots old new : List Slot) → is_ok r ≡ true → AddsOn r slots old new → Adds slots old new
+pub Adds-true : {T E : Type 0} (r : Result T E) (slots old new : List Slot) → is_ok r ≡ true → AddsOn r slots old new → AddsSlots slots old new
 Adds-true (Ok t) slots old new e a = Adds-ok t slots old new a
 Adds-true (Err x) slots old new e a = absurd (cc)
 
@@ -109,43 +109,32 @@ OnOk-true (Ok t) P e h = h
 OnOk-true (Err x) P e h = absurd (cc)
 
 -- the slots of a cache after others
-pub cache_listed : (xs : List Slot) (cached : List Buffer) (old mid new : List Slot) → Adds xs old mid → AddsSlots cached mid new → Adds (xs ++ map slot_of cached) old new
+pub cache_listed : (xs : List Slot) (cached : List Buffer) (old mid new : List Slot) → AddsSlots xs old mid → AddsSlots (map slot_of cached) mid new → AddsSlots (xs ++ map slot_of cached) old new
 cache_listed xs cached old mid new a b = record {
   added = a.added ++ b.added;
   appended = b.appended ∙ (ap (λ (z : List Slot). z ++ b.added) a.appended ∙ append_assoc old a.added b.added);
-  each = IsPermutation-append _ _ _ _ a.each b.slots;
+  each = IsPermutation-append _ _ _ _ a.each b.each;
 }
-
--- a chain's last buffer is the next to be listed
-pub Adding-last : (whole : List Slot) (bs rest : List Buffer) (b : Buffer) (s : Slot) (old mid new : List Slot)
-    → Adding whole (reverse (map slot_of bs)) old mid → bs ≡ rest ++ b ∷ [] → b.slot ≡ s → new ≡ mid ++ s ∷ []
-    → Adding whole (reverse (map slot_of rest)) old new
-Adding-last whole bs rest b s old mid new a is e more =
-    let next : reverse (map slot_of bs) ≡ s ∷ reverse (map slot_of rest)
-    = ap (λ (z : List Buffer). reverse (map slot_of z)) is
-    ∙ (ap reverse (map-append slot_of rest (b ∷ []))
-    ∙ (reverse-append (map slot_of rest) (b.slot ∷ []) ∙ ap (λ (z : Slot). z ∷ reverse (map slot_of rest)) e)) in
-    rw more (Adding-next whole s (reverse (map slot_of rest)) old mid (rw next at a))
 
 -- where the call was refused it does not matter which were added
 pub AddsOn-refused : {T E : Type 0} (r : Result T E) (slots added old new : List Slot) → IsErr r → new ≡ old ++ added → AddsOn r slots old new
 AddsOn-refused (Ok t) slots added old new e is = absurd (cc)
 AddsOn-refused (Err x) slots added old new e is = record { added = added; appended = is; each = tt }
 
-pub AddsOn-refused_more : {T E : Type 0} (r q : Result T E) (slots xs ys old mid new : List Slot) → IsErr r → Adds xs old mid → AddsOn q ys mid new → AddsOn r slots old new
+pub AddsOn-refused_more : {T E : Type 0} (r q : Result T E) (slots xs ys old mid new : List Slot) → IsErr r → AddsSlots xs old mid → AddsOn q ys mid new → AddsOn r slots old new
 AddsOn-refused_more r q slots xs ys old mid new e a b =
     AddsOn-refused r slots (a.added ++ b.added) old new e (b.appended ∙ (ap (λ (z : List Slot). z ++ b.added) a.appended ∙ append_assoc old a.added b.added))
 
 -- the slots at home alone
-pub home_alone : (home : List AtHome) (old new : List Slot) → Adds (map slot_at home) old new → Adds (slots_in home []) old new
-home_alone home old new a = subst (λ (z : List Slot). Adds z old new) (sym (append-nil (map slot_at home))) a
+pub home_alone : (home : List AtHome) (old new : List Slot) → AddsSlots (map slot_at home) old new → AddsSlots (slots_in home []) old new
+home_alone home old new a = subst (λ (z : List Slot). AddsSlots z old new) (sym (append-nil (map slot_at home))) a
 
 -- all homes are listed
-pub homes_done : {T E : Type 0} (t : T) (hs : List HomeState) (i : ℕ) (old new : List Slot) → length hs ≤ i → Adds (map slot_at (flat_map slots_at (take i hs))) old new
+pub homes_done : {T E : Type 0} (t : T) (hs : List HomeState) (i : ℕ) (old new : List Slot) → length hs ≤ i → AddsSlots (map slot_at (flat_map slots_at (take i hs))) old new
     → AddsOn {T = T} {E = E} (Ok t) (map slot_at (flat_map slots_at hs)) old new
 homes_done t hs i old new l a =
-    let b : Adds (map slot_at (flat_map slots_at hs)) old new
-    = subst (λ (z : List HomeState). Adds (map slot_at (flat_map slots_at z)) old new) (take_all i hs l) a in
+    let b : AddsSlots (map slot_at (flat_map slots_at hs)) old new
+    = subst (λ (z : List HomeState). AddsSlots (map slot_at (flat_map slots_at z)) old new) (take_all i hs l) a in
     record { added = b.added; appended = b.appended; each = b.each }
 
 -- all places that a cursor has still to give are listed

@@ -23,6 +23,11 @@ pub data AtHome : Type 0 where
   Kept : (buffer : Buffer) → AtHome
   Fresh : (unused : Unused) → AtHome
 
+-- a buffer that came home is this owner's
+abbrev pub IsOwn : ℕ → AtHome → Type 0
+IsOwn owner (Kept b) = b.owner ≡ owner
+IsOwn owner (Fresh u) = Unit {0}
+
 -- the buffers among the slots at home
 abbrev pub kept_in : List AtHome → List Buffer
 kept_in [] = []

@@ -1,20 +1,22 @@
 //! A desk that a worker holds.
-ghost use Rattle.std.specs.Prelude.{◌≡◌, ◌≢◌, ◌<◌, ◌^◌, ◌↔◌, [], ◌++◌, length, map, IsTrue, IsPermutation, Some, None, MatchBool, MatchOption, MatchResult, OnOk, OnErr};
+ghost use Rattle.std.specs.Prelude.{◌≡◌, ◌≢◌, ◌<◌, ◌≤◌, ◌^◌, ◌↔◌, [], ◌++◌, length, map, All, IsTrue, IsPermutation, Some, None, MatchBool, MatchOption, MatchResult, OnOk, OnErr};
 ghost use Rattle.region_cut.specs.Classes.{classes_of};
 ghost use Rattle.slot_chain.specs.Buffer.{ended_of};
-ghost use Rattle.slot_chain.specs.Counts.{capped};
-ghost use Rattle.digit_route.specs.Route.{RouteFault};
-ghost use Rattle.digit_route.specs.Slots.{AddsSlots};
+ghost use Rattle.slot_chain.specs.Counts.{capped, sizes};
+ghost use Rattle.digit_route.specs.Digits.{IsScheme};
+ghost use Rattle.digit_route.specs.Route.{IsCached, RouteFault};
+ghost use Rattle.slot_chain.specs.Slots.{AddsSlots, slot_of};
 ghost use Rattle.digit_route.specs.States.{Gives};
 ghost use Rattle.pool_desk.specs.ByClass.{HasClass};
 ghost use Rattle.pool_desk.specs.Desks.{profile_at};
-ghost use Rattle.pool_desk.specs.Homes.{kept_in};
-ghost use Rattle.pool_desk.specs.Listed.{Adds, slots_in};
+ghost use Rattle.pool_desk.specs.Homes.{IsOwn, kept_in};
+ghost use Rattle.pool_desk.specs.Listed.{slots_in};
 ghost use Rattle.pool_desk.specs.Steps.{Claims, NotNeededFor, Allocs, Frees, Handles, Counted};
 ghost use Rattle.pool_desk.specs.Handling.{IsPassed, GoesHome, GoesOn};
 
 use crate::homes::Homes;
 use crate::{Counts, DeskError, DeskPosting, Freed, IdleDesk};
+use digit_route::laws::shared_at_most_all;
 use digit_route::{Batch, Cache, Digits, RouteError};
 use region_cut::{Class, Endings, Part, Slot};
 use slot_chain::{Buf, NoMemory};
@@ -52,10 +54,19 @@ impl<'r> Model for Desk<'r> {
 
 impl<'r> Desk<'r> {
     /// Its number, by which its buffers name their owner.
+    ///
+    /// Its contract also tells what the type keeps of every desk: each buffer in the cache is of
+    /// another desk, and was passed on at most as often as its owner shares digits with this one;
+    /// and each buffer that came home is the desk's own.
     pub fn number(&self) -> u16
         ensures value { result ≡ self.now.number }
+        ensures scheme { IsScheme self.now.digits }
         ensures in_range { self.now.number < 2 ^ self.now.digits.bits }
+        ensures limit { self.now.limit ≤ 1048576 }
+        ensures cached { All (IsCached self.now.digits self.now.number) self.now.cached }
+        ensures home { All (IsOwn self.now.number) self.now.home }
     {
+        let _owner = self.homes.owner();
         self.cache.number()
     }
 
@@ -64,6 +75,27 @@ impl<'r> Desk<'r> {
         ensures { result ≡ self.now.digits }
     {
         self.cache.digits()
+    }
+
+    /// The bytes of the cache above which it is due.
+    pub fn limit(&self) -> u64
+        ensures { result ≡ self.now.limit }
+    {
+        self.cache.limit()
+    }
+
+    /// The bytes in the cache, or the greatest `u64` where that is less. Takes constant time.
+    pub fn cached_bytes(&self) -> u64
+        ensures { result ≡ capped (sizes self.now.cached) }
+    {
+        self.cache.bytes()
+    }
+
+    /// Whether the cache has more bytes than the limit, so that it is to be posted. Takes constant time.
+    pub fn is_due(&self) -> bool
+        ensures { IsTrue result ↔ (self.now.limit < sizes self.now.cached) }
+    {
+        self.cache.is_due()
     }
 
     /// The worker that holds it.
@@ -141,6 +173,7 @@ impl<'r> Desk<'r> {
             return true;
         }
         let _most = self.cache.digits().count();
+        shared_at_most_all();
         let mut buf = buf;
         let forwards = buf.forwards();
         buf.set_forwards(forwards + 1);
@@ -254,11 +287,12 @@ impl<'r> Desk<'r> {
 
     /// Adds the slots at home and in the cache to the end of `slots`, each as often as it is there, in no order. Where memory for that is refused, `slots` is as before.
     pub fn list_slots(&self, slots: &mut Vec<Slot>) -> Result<(), NoMemory>
-        ensures ok { OnOk result (Adds (slots_in self.now.home self.now.cached) slots.old.items slots.new.items) }
+        ensures ok { OnOk result (AddsSlots (slots_in self.now.home self.now.cached) slots.old.items slots.new.items) }
         ensures err { OnErr result (slots.new.items ≡ slots.old.items) }
     {
         let start = slots.len();
-        if self.homes.add_slots(slots).is_ok() && self.cache.list_slots(slots).is_ok() {
+        self.homes.list_slots(slots)?;
+        if self.cache.list_slots(slots).is_ok() {
             return Ok(());
         }
         slots.truncate(start);
@@ -267,20 +301,15 @@ impl<'r> Desk<'r> {
 
     /// Adds the slots at home alone, as `list_slots` does.
     pub fn list_home(&self, slots: &mut Vec<Slot>) -> Result<(), NoMemory>
-        ensures ok { OnOk result (Adds (slots_in self.now.home []) slots.old.items slots.new.items) }
+        ensures ok { OnOk result (AddsSlots (slots_in self.now.home []) slots.old.items slots.new.items) }
         ensures err { OnErr result (slots.new.items ≡ slots.old.items) }
     {
-        let before = slots.len();
-        if self.homes.add_slots(slots).is_ok() {
-            return Ok(());
-        }
-        slots.truncate(before);
-        Err(NoMemory)
+        self.homes.list_slots(slots)
     }
 
     /// Adds the slots in the cache alone, as `list_slots` does.
     pub fn list_cached(&self, slots: &mut Vec<Slot>) -> Result<(), NoMemory>
-        ensures ok { OnOk result (AddsSlots self.now.cached slots.old.items slots.new.items) }
+        ensures ok { OnOk result (AddsSlots (map slot_of self.now.cached) slots.old.items slots.new.items) }
         ensures err { OnErr result (slots.new.items ≡ slots.old.items) }
     {
         self.cache.list_slots(slots)
@@ -300,18 +329,7 @@ impl<'r> Desk<'r> {
             homes,
             cache,
         } = self;
-        end_cache(cache, endings);
+        cache.end(endings);
         homes.end(endings);
-    }
-}
-
-// Lets go the buffers of a cache.
-fn end_cache<'r>(cache: Cache<'r>, endings: &mut Endings<'r>)
-    ensures chunks { endings.new ≡ record endings.old { known = endings.new.known } }
-    ensures known { IsPermutation (map ended_of cache.entry.items ++ endings.old.known) endings.new.known }
-{
-    let mut cache = cache;
-    while let Some(batch) = cache.next_batch() {
-        batch.into_chain().end(endings);
     }
 }

@@ -8,7 +8,7 @@ ghost use Rattle.region_cut.specs.Classes.{slots_of};
 ghost use Rattle.pool_desk.specs.Listed.{AddsOn};
 
 use crate::DeskError;
-use crate::listing::{add_chain, add_unused};
+use crate::listing::add_unused;
 use region_cut::{Bump, Class, Endings, Part, Slot, Ties};
 use slot_chain::{Buf, Chain, NoMemory, Room};
 use std::alloc::Global;
@@ -137,7 +137,7 @@ impl<'r> Home<'r> {
     pub(crate) fn add_slots(&self, slots: &mut Vec<Slot>) -> Result<(), NoMemory>
         ensures { AddsOn result (map slot_at self.now.slots) slots.old.items slots.new.items }
     {
-        add_chain(&self.list, slots)?;
+        self.list.list_slots(slots)?;
         match &self.bump {
             None => Ok(()),
             Some(bump) => add_unused(bump, slots),

@@ -1,11 +1,11 @@
 //! All slots at home of one owner.
-ghost use Rattle.std.specs.Prelude.{◌≡◌, ◌≢◌, ◌<◌, ◌↔◌, [], ◌∷◌, ◌++◌, IsTrue, IsPermutation, MatchResult, length, map};
+ghost use Rattle.std.specs.Prelude.{◌≡◌, ◌≢◌, ◌<◌, ◌↔◌, [], ◌∷◌, ◌++◌, IsTrue, IsPermutation, MatchResult, OnOk, OnErr, All, length, map};
 ghost use Rattle.region_cut.specs.Classes.{slots_of};
 ghost use Rattle.slot_chain.specs.Buffer.{ended_of};
 ghost use Rattle.slot_chain.specs.Counts.{capped};
-ghost use Rattle.pool_desk.specs.Homes.{Draws, GivesOne, kept_in, slot_at, unused_from};
+ghost use Rattle.pool_desk.specs.Homes.{Draws, GivesOne, IsOwn, kept_in, slot_at, unused_from};
 ghost use Rattle.pool_desk.specs.Homes.AtHome.{Kept};
-ghost use Rattle.pool_desk.specs.Listed.{AddsOn};
+ghost use Rattle.slot_chain.specs.Slots.{AddsSlots};
 ghost use Rattle.pool_desk.specs.ByClass.{HasClass, LacksClass, IsWanting};
 
 use crate::DeskError;
@@ -49,6 +49,14 @@ impl<'r> Homes<'r> {
             owner,
             by_class: empty_homes(owner),
         }
+    }
+
+    /// The desk that owns all of it.
+    pub(crate) fn owner(&self) -> u16
+        ensures value { result ≡ self.now.owner }
+        ensures own { All (IsOwn self.now.owner) self.now.slots }
+    {
+        self.owner
     }
 
     /// Whether a slot of the class is there.
@@ -98,11 +106,17 @@ impl<'r> Homes<'r> {
         count_all(self.by_class.as_slice())
     }
 
-    /// Adds the slots. Where memory is refused some of them are added.
-    pub(crate) fn add_slots(&self, slots: &mut Vec<Slot>) -> Result<(), NoMemory>
-        ensures { AddsOn result (map slot_at self.now.slots) slots.old.items slots.new.items }
+    /// Adds the slots to the end of `slots`, or none where memory is refused.
+    pub(crate) fn list_slots(&self, slots: &mut Vec<Slot>) -> Result<(), NoMemory>
+        ensures ok { OnOk result (AddsSlots (map slot_at self.now.slots) slots.old.items slots.new.items) }
+        ensures err { OnErr result (slots.new.items ≡ slots.old.items) }
     {
-        add_all(self.by_class.as_slice(), slots)
+        let start = slots.len();
+        if add_all(self.by_class.as_slice(), slots).is_ok() {
+            return Ok(());
+        }
+        slots.truncate(start);
+        Err(NoMemory)
     }
 
     /// Lets go the buffers and the cursors.

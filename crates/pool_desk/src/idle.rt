@@ -1,10 +1,11 @@
 //! A desk that no worker holds.
-ghost use Rattle.std.specs.Prelude.{◌≡◌, ◌<◌, ◌≤◌, ◌^◌, ◌++◌, [], length, map, OnOk, OnErr};
-ghost use Rattle.digit_route.specs.Digits.{Scheme};
+ghost use Rattle.std.specs.Prelude.{◌≡◌, ◌<◌, ◌≤◌, ◌^◌, ◌++◌, [], All, length, map, OnOk, OnErr};
+ghost use Rattle.digit_route.specs.Digits.{IsScheme, Scheme};
 ghost use Rattle.slot_chain.specs.Buffer.{ended_of};
 ghost use Rattle.slot_chain.specs.Counts.{capped};
-ghost use Rattle.pool_desk.specs.Homes.{kept_in};
-ghost use Rattle.pool_desk.specs.Listed.{Adds, slots_in};
+ghost use Rattle.pool_desk.specs.Homes.{IsOwn, kept_in};
+ghost use Rattle.slot_chain.specs.Slots.{AddsSlots};
+ghost use Rattle.pool_desk.specs.Listed.{slots_in};
 
 use crate::desk::Desk;
 use crate::homes::Homes;
@@ -53,10 +54,32 @@ impl<'r> IdleDesk<'r> {
     }
 
     /// Its number, by which its buffers name their owner.
+    ///
+    /// Its contract also tells what the type keeps of every desk: each buffer that came home is the
+    /// desk's own.
     pub fn number(&self) -> u16
-        ensures { result ≡ self.now.number }
+        ensures value { result ≡ self.now.number }
+        ensures scheme { IsScheme self.now.digits }
+        ensures in_range { self.now.number < 2 ^ self.now.digits.bits }
+        ensures limit { self.now.limit ≤ 1048576 }
+        ensures home { All (IsOwn self.now.number) self.now.home }
     {
+        let _owner = self.homes.owner();
         self.cache.number()
+    }
+
+    /// How the numbers of desks are read.
+    pub fn digits(&self) -> Digits
+        ensures { result ≡ self.now.digits }
+    {
+        self.cache.digits()
+    }
+
+    /// The bytes of its cache above which it is due.
+    pub fn limit(&self) -> u64
+        ensures { result ≡ self.now.limit }
+    {
+        self.cache.limit()
     }
 
     /// The desk in the hands of a worker, whose number is kept and not looked at. All else stays.
@@ -90,15 +113,10 @@ impl<'r> IdleDesk<'r> {
 
     /// Adds the slots at home to the end of `slots`, each as often as it is there, in no order. Where memory for that is refused, `slots` is as before.
     pub fn list_slots(&self, slots: &mut Vec<Slot>) -> Result<(), NoMemory>
-        ensures ok { OnOk result (Adds (slots_in self.now.home []) slots.old.items slots.new.items) }
+        ensures ok { OnOk result (AddsSlots (slots_in self.now.home []) slots.old.items slots.new.items) }
         ensures err { OnErr result (slots.new.items ≡ slots.old.items) }
     {
-        let start = slots.len();
-        if self.homes.add_slots(slots).is_ok() {
-            return Ok(());
-        }
-        slots.truncate(start);
-        Err(NoMemory)
+        self.homes.list_slots(slots)
     }
 
     /// Lets go the buffers at home, and the cursors over its chunks. Takes a walk over the buffers, and no memory.

@@ -1,20 +1,9 @@
-//! Slots are listed.
-ghost use Rattle.std.specs.Prelude.{map};
+//! Slots that were never handed out are listed.
 ghost use Rattle.region_cut.specs.Bumps.{left_of};
-ghost use Rattle.pool_desk.specs.Listed.{AddsOn, places, slot_of};
+ghost use Rattle.pool_desk.specs.Listed.{AddsOn, places};
 
 use region_cut::{Bump, Slot};
-use slot_chain::{Chain, NoMemory};
-
-/// Adds the slots of a chain. Where memory is refused some of them are added.
-pub(crate) fn add_chain(chain: &Chain<'_>, slots: &mut Vec<Slot>) -> Result<(), NoMemory>
-    ensures { AddsOn result (map slot_of chain.now) slots.old.items slots.new.items }
-{
-    for tag in chain.walk() {
-        slots.push(tag.slot)?;
-    }
-    Ok(())
-}
+use slot_chain::NoMemory;
 
 /// Adds the slots that a cursor has still to give. Where memory is refused some of them are added.
 pub(crate) fn add_unused(bump: &Bump<'_>, slots: &mut Vec<Slot>) -> Result<(), NoMemory>

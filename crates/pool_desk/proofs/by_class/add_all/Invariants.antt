@@ -2,8 +2,8 @@ use Rattle.std.proofs.Common.{take, map}
 use Rattle.std.specs.List.{flat_map}
 use Rattle.pool_desk.specs.Homes.{slot_at}
 use Rattle.pool_desk.specs.ByClass.{slots_at}
-use Rattle.pool_desk.specs.Listed.{Adds}
+use Rattle.slot_chain.specs.Slots.{AddsSlots}
 use Rattle.pool_desk.proofs.by_class.add_all.Given as goal
 
 abbrev pub invariant-loop-home : goal.invariant-loop-home
-invariant-loop-home l = Adds (map slot_at (flat_map slots_at (take l.home-index l.homes))) l.initial.slots.items l.slots.items
+invariant-loop-home l = AddsSlots (map slot_at (flat_map slots_at (take l.home-index l.homes))) l.initial.slots.items l.slots.items

@@ -1,6 +1,5 @@
 use Rattle.std.proofs.Common.{rules, arith, ◌≡◌, ◌≢◌, ◌≤◌, ◌+◌, sym, ap, ◌∙◌}
 use Rattle.digit_route.specs.Digits.{count}
-use Rattle.digit_route.proofs.DigitLaws.{common-le}
 use Rattle.pool_desk.specs.Desks.{DeskState}
 use Rattle.pool_desk.specs.Handling.{IsPassed}
 use Rattle.pool_desk.proofs.DeskLaws.{goes_on}
@@ -11,7 +10,7 @@ overflow_add-forwards c =
     let other : c.args.buf.owner ≢ c.args.self.now.number = λ e. c.if-owner-number.false (c.owner.ensures.value ∙ (e ∙ sym (c.number-number.ensures.value ∙ ap (λ (d : DeskState). d.number) c.self.view_is))) in
     let one : IsPassed c.args.self.now.digits c.args.self.now.number c.args.buf = c.requires other in
     let below = one.forwards in
-    let within = common-le c.args.self.now.digits c.args.buf.owner c.args.self.now.number in
+    let within = c.shared_at_most_all.ensures c.args.self.now.digits c.args.buf.owner c.args.self.now.number in
     let digits : c.digits.result ≡ c.args.self.now.digits = c.digits.ensures ∙ ap (λ (d : DeskState). d.digits) c.self.view_is in
     let most : c.count-most.result ≡ count c.args.self.now.digits = c.count-most.ensures.value ∙ ap count digits in
     let high = c.count-most.ensures.high in

@@ -1,11 +1,6 @@
-use Rattle.std.proofs.Common.{sym, ap, take, ◌∙◌}
-use Rattle.pool_desk.proofs.ListedLaws.{Adds-true, home_alone, cut_back}
+use Rattle.std.proofs.lemmas.Result.{on_ok_weaker}
+use Rattle.pool_desk.proofs.ListedLaws.{home_alone}
 use Rattle.pool_desk.proofs.idle.IdleDesk.list_slots.Goals as goal
 
-pub returns-then-is_ok-clause-ok : goal.returns-then-is_ok-clause-ok
-returns-then-is_ok-clause-ok c =
-    rw (← c.self.view_is) (home_alone _ _ _ (Adds-true _ _ _ _ (sym c.is_ok.ensures.value ∙ c.if-is_ok.true) c.add_slots.ensures))
-
-pub returns-clause-err : goal.returns-clause-err
-returns-clause-err c =
-    c.truncate.ensures.items ∙ (ap (λ n. take n c.add_slots.new.slots.items) (c.len-start.ensures ∙ c.args.slots.now.ok.0) ∙ cut_back _ _ _ _ c.add_slots.ensures)
+pub returns-clause-ok : goal.returns-clause-ok
+returns-clause-ok c = rw (← c.self.view_is) (on_ok_weaker _ (home_alone _ _ _) c.list_slots.ensures.ok)
