@@ -5,3 +5,4 @@ pub mod HomeLaws
 pub mod ListedLaws
 pub mod EndLaws
 pub mod SetLaws
+pub mod Travels
