@@ -1,10 +1,13 @@
 //! What a caller of a desk learns.
-ghost use Rattle.std.specs.Prelude.{◌≡◌, Any, IfErr, IfOk, OnOk, length, replicate};
+ghost use Rattle.std.specs.Prelude.{◌≡◌, ◌<◌, All, Any, IfErr, IfOk, OnOk, length, replicate};
 ghost use Rattle.desk_uses.specs.Filled.{IsFilled};
+ghost use Rattle.digit_route.specs.Digits.{count};
+ghost use Rattle.slot_chain.specs.Buffer.{Buffer};
 ghost use Rattle.pool_desk.specs.Steps.{AllocFault};
 ghost use Rattle.pool_desk.specs.declared.freed.Freed.TheVariants.{Home};
 ghost use Rattle.region_cut.specs.Classes.{size_of};
 
+use digit_route::laws::shared_by_others;
 use pool_desk::{Desk, DeskError, Freed};
 use slot_chain::Buf;
 use std::alloc::Global;
@@ -23,6 +26,15 @@ pub fn lend_and_take_back(
     let _number = desk.number();
     let buf = desk.alloc(alloc, size)?;
     Ok(desk.free(buf))
+}
+
+/// The desk's number. No buffer in its cache was passed on as often as a number has digits.
+pub fn cached_were_passed_on_few_times(desk: &Desk<'_>) -> u16
+    ensures number { result ≡ desk.now.number }
+    ensures few { All (λ (b : Buffer). b.forwards < count desk.now.digits) desk.now.cached }
+{
+    shared_by_others();
+    desk.number()
 }
 
 // Sets each byte, as many as the class has.

@@ -8,5 +8,5 @@ mod crossing;
 #[cfg(test)]
 mod tests;
 
-pub use callers::{lend_and_take_back, written};
+pub use callers::{cached_were_passed_on_few_times, lend_and_take_back, written};
 pub use crossing::{desk_crosses, idle_desk_crosses};

@@ -24,6 +24,7 @@ use std::mem;
 /// buffer was passed on.
 ///
 /// No call but `list_slots` takes memory. The order of the buffers is open.
+#[must_use]
 #[derive(Drop)]
 pub struct Cache<'r> {
     row: Row<'r>,

@@ -18,6 +18,7 @@ use std::marker::Model;
 /// owner shares with the desk, less often than a number has digits.
 ///
 /// No call takes memory.
+#[must_use]
 #[derive(Drop)]
 pub struct Posting<'r> {
     row: Row<'r>,

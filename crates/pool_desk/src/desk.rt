@@ -26,6 +26,7 @@ use std::marker::Model;
 /// An allocator that a worker holds: its slots at home, and a cache of others' buffers that were freed here.
 ///
 /// Nothing of it is shared, so no call waits. Only [`Desk::alloc`] of a slot that was never handed out takes memory, and `list_slots`.
+#[must_use]
 #[derive(Drop)]
 pub struct Desk<'r> {
     pub(crate) worker: u32,

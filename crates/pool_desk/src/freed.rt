@@ -1,6 +1,7 @@
 //! Where a freed buffer went.
 
 /// Where a freed buffer went.
+#[must_use]
 #[derive(Clone, Copy, Debug, PartialEq, Eq)]
 pub enum Freed {
     /// To the slots at home: the desk owns it.

@@ -15,6 +15,7 @@ use slot_chain::NoMemory;
 use std::marker::Model;
 
 /// An allocator that no worker holds. Nothing is in its cache; its slots at home stay, for the worker that adopts it.
+#[must_use]
 #[derive(Drop)]
 pub struct IdleDesk<'r> {
     pub(crate) homes: Homes<'r>,

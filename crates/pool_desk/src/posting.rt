@@ -10,6 +10,7 @@ use digit_route::{Batch, Posting};
 use std::marker::Model;
 
 /// A desk whose cache is being posted, round by round. [`DeskPosting::end`] or [`DeskPosting::refused`] gives the desk back.
+#[must_use]
 #[derive(Drop)]
 pub struct DeskPosting<'r> {
     pub(crate) worker: u32,

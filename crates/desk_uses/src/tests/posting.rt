@@ -2,15 +2,25 @@
 use super::{
     claim, class, comes_home, counts_are, desk, free_is, goes_home, lend, parts, region, retired,
 };
+use crate::cached_were_passed_on_few_times;
 use pool_desk::{Desk, Freed, IdleDesk};
 use region_cut::Part;
 use std::alloc::Global;
 use std::process::Abort;
 
+// So many bytes are in the cache, which is due above 4,096.
+fn cached_is(rt: &impl Abort, desk: &Desk<'_>, bytes: u64) {
+    assert!(rt; desk.cached_bytes() == bytes);
+    assert!(rt; desk.limit() == 4096 && !desk.is_due());
+    assert!(rt; cached_were_passed_on_few_times(desk) == desk.number());
+}
+
 // The cache gets one buffer of the other desk.
 fn cache_one<'r>(rt: &impl Abort, alloc: Global, desk: &mut Desk<'r>, owner: &mut Desk<'r>) {
     let buf = lend(rt, alloc, owner, 512);
+    cached_is(rt, desk, 0);
     free_is(rt, desk, buf, Freed::Cached);
+    cached_is(rt, desk, 512);
 }
 
 // Its one batch comes back to it.
@@ -39,6 +49,7 @@ fn is_unsettled<'r>(rt: &impl Abort, desk: Desk<'r>) -> Desk<'r> {
 }
 
 fn goes_to_another_worker(rt: &impl Abort, idle: IdleDesk<'_>, home: u64) {
+    assert!(rt; idle.limit() == 4096 && idle.digits().count() == 3);
     let desk = idle.adopt(5);
     assert!(rt; desk.worker() == 5);
     counts_are(rt, &desk, home, 0);
