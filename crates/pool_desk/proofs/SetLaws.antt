@@ -1,13 +1,16 @@
 -- One home among the homes of the classes is taken up and put back.
-use Rattle.std.proofs.Common.{◌≡◌, ℕ, ◌<◌, List, ◌++◌, length, get_or, set, take, drop, sym, ap, ◌∙◌, subst}
+use Rattle.std.proofs.Common.{◌≡◌, ℕ, ◌<◌, List, ◌∷◌, ◌++◌, IsPermutation, length, get_or, set, take, drop, sym, ap, ◌∙◌, subst}
 use Rattle.std.specs.Prelude.{Result, Ok, Err, MatchResult}
 use Rattle.std.specs.List.{refill}
 use Rattle.std.proofs.lemmas.List.{get_or-set_same, get_or_default, length-set, set-get_or}
 use Rattle.std.proofs.Math.Seq.{take-append_seam}
 use Rattle.slot_chain.specs.Buffer.{Buffer}
 use Rattle.pool_desk.specs.declared.error.DeskError.{DeskError}
-use Rattle.pool_desk.specs.Homes.{HomeState, GivesOne, IsRefused}
+use Rattle.region_cut.specs.declared.part.Part.{Part}
+use Rattle.pool_desk.specs.Homes.{HomeState, Draws, GivesOne, IsRefused}
+use Rattle.pool_desk.specs.Homes.AtHome.{Kept}
 use Rattle.pool_desk.specs.ByClass.{home_at, no_home}
+use Rattle.pool_desk.proofs.ByClassLaws.{claimed}
 
 -- the homes after n took the place of the home k
 abbrev pub put_back : List HomeState → List HomeState → ℕ → HomeState → List HomeState
@@ -28,6 +31,41 @@ taken_up hs ds k r e l = ap (λ (z : List HomeState). get_or z k r) e ∙ get_or
 
 pub put_same : (hs ds : List HomeState) (k : ℕ) (n m : HomeState) → ds ≡ hs → n ≡ m → put_back hs ds k n ≡ set hs k m
 put_same hs ds k n m e same = put_is hs ds k n e ∙ ap (set hs k) same
+
+-- a home that gave a slot
+pub put_given : (hs ds : List HomeState) (k : ℕ) (g n : HomeState) → ds ≡ hs → k < length hs → g ≡ home_at hs k
+    → n ≡ record g { slots = n.slots; drawn = n.drawn }
+    → put_back hs ds k n ≡ set hs k (record (home_at hs k) { slots = (home_at (put_back hs ds k n) k).slots; drawn = (home_at (put_back hs ds k n) k).drawn })
+put_given hs ds k g n e l is same =
+    put_same hs ds k n _ e (same ∙ (ap (λ (z : HomeState). record z { slots = n.slots; drawn = n.drawn }) is
+    ∙ ap (λ (z : HomeState). record (home_at hs k) { slots = z.slots; drawn = z.drawn }) (sym (put_at hs ds k n e l))))
+
+-- a home that a buffer came to
+pub put_kept : (hs ds : List HomeState) (k : ℕ) (g n : HomeState) → ds ≡ hs → k < length hs → g ≡ home_at hs k
+    → n ≡ record g { slots = n.slots } → put_back hs ds k n ≡ set hs k (record (home_at hs k) { slots = (home_at (put_back hs ds k n) k).slots })
+put_kept hs ds k g n e l is same =
+    put_same hs ds k n _ e (same ∙ (ap (λ (z : HomeState). record z { slots = n.slots }) is
+    ∙ ap (λ (z : HomeState). record (home_at hs k) { slots = z.slots }) (sym (put_at hs ds k n e l))))
+
+pub put_keeps : (hs ds : List HomeState) (k : ℕ) (g n : HomeState) (b : Buffer) → ds ≡ hs → k < length hs → g ≡ home_at hs k
+    → IsPermutation (Kept b ∷ g.slots) n.slots → IsPermutation (Kept b ∷ (home_at hs k).slots) (home_at (put_back hs ds k n) k).slots
+put_keeps hs ds k g n b e l is p =
+    subst (λ (z : HomeState). IsPermutation (Kept b ∷ (home_at hs k).slots) z.slots) (sym (put_at hs ds k n e l))
+    (subst (λ (z : HomeState). IsPermutation (Kept b ∷ z.slots) n.slots) is p)
+
+-- a home that took a part
+pub put_claimed : (hs ds : List HomeState) (k : ℕ) (g n : HomeState) (part : Part) → ds ≡ hs → k < length hs → g ≡ home_at hs k
+    → n ≡ record g { slots = claimed part g.class; drawn = n.drawn }
+    → put_back hs ds k n ≡ set hs k (record (home_at hs k) { slots = claimed part (home_at hs k).class; drawn = (home_at (put_back hs ds k n) k).drawn })
+put_claimed hs ds k g n part e l is same =
+    put_same hs ds k n _ e (same ∙ (ap (λ (z : HomeState). record z { slots = claimed part z.class; drawn = n.drawn }) is
+    ∙ ap (λ (z : HomeState). record (home_at hs k) { slots = claimed part (home_at hs k).class; drawn = z.drawn }) (sym (put_at hs ds k n e l))))
+
+pub put_drawn : (hs ds : List HomeState) (k : ℕ) (g n : HomeState) (part : Part) → ds ≡ hs → k < length hs → g ≡ home_at hs k
+    → Draws part g.class g.drawn n.drawn → Draws part (home_at hs k).class (home_at hs k).drawn (home_at (put_back hs ds k n) k).drawn
+put_drawn hs ds k g n part e l is d =
+    subst (λ (z : HomeState). Draws part (home_at hs k).class (home_at hs k).drawn z.drawn) (sym (put_at hs ds k n e l))
+    (subst (λ (z : HomeState). Draws part z.class z.drawn n.drawn) is d)
 
 -- what the home gave or refused, told of the homes
 pub put_gives : (hs ds : List HomeState) (k : ℕ) (g n : HomeState) (r : Result Buffer DeskError) → ds ≡ hs → k < length hs → g ≡ home_at hs k

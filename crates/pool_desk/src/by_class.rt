@@ -35,55 +35,6 @@ pub(crate) fn empty_homes<'r>(owner: u16) -> ByClass<'r>
     homes
 }
 
-/// Whether a slot of the class `k` is there.
-pub(crate) fn has_at(homes: &ByClass<'_>, k: usize) -> bool
-    requires { k < array_vec_len homes.now }
-    ensures { IsTrue result ↔ ((home_at homes.now.items k).slots ≢ []) }
-{
-    homes[k].has()
-}
-
-/// Takes a part for the class `k`.
-pub(crate) fn claim_at<'r>(homes: &mut ByClass<'r>, k: usize, part: Part<'r>)
-    requires len { k < array_vec_len homes.old }
-    requires none { (home_at homes.old.items k).slots ≡ [] }
-    ensures same { let h = home_at homes.old.items k in homes.new.items ≡ slice_set homes.old.items k
-        (record h { slots = unused_from part.entry.chunk h.class part.entry.bytes.ghost_name (slots_of h.class) 0 part.entry.bytes.now; drawn = (home_at homes.new.items k).drawn }) }
-    ensures drawn { let h = home_at homes.old.items k in Draws part.entry h.class h.drawn (home_at homes.new.items k).drawn }
-{
-    homes[k].claim(part);
-}
-
-/// Takes a buffer home.
-pub(crate) fn keep_at<'r>(homes: &mut ByClass<'r>, k: usize, buf: Buf<'r>)
-    requires len { k < array_vec_len homes.old }
-    requires own { IsAtHome (home_at homes.old.items k).owner (home_at homes.old.items k).class (Kept buf) }
-    ensures same { homes.new.items ≡ slice_set homes.old.items k
-        (record (home_at homes.old.items k) { slots = (home_at homes.new.items k).slots }) }
-    ensures slots { IsPermutation (Kept buf.entry ∷ (home_at homes.old.items k).slots) (home_at homes.new.items k).slots }
-{
-    homes[k].keep(buf);
-}
-
-/// Gives out a slot of the class `k`.
-pub(crate) fn alloc_at<'r>(
-    homes: &mut ByClass<'r>,
-    k: usize,
-    alloc: Global,
-) -> Result<Buf<'r>, DeskError>
-    requires { k < array_vec_len homes.old }
-    ensures same { homes.new.items ≡ slice_set homes.old.items k
-        (record (home_at homes.old.items k) {
-          slots = (home_at homes.new.items k).slots;
-          drawn = (home_at homes.new.items k).drawn;
-        }) }
-    ensures value { let h = home_at homes.old.items k in MatchResult result
-        (λ b. GivesOne h.owner h.class h.slots b (home_at homes.new.items k).slots h.drawn (home_at homes.new.items k).drawn)
-        (λ e. IsRefused h.class h.slots e × (homes.new.items ≡ homes.old.items)) }
-{
-    homes[k].alloc(alloc)
-}
-
 /// The number of slots, or the greatest u64.
 pub(crate) fn count_all(homes: &[Home<'_>]) -> u64
     ensures { result ≡ capped (length (flat_map slots_at homes.now)) }

@@ -9,9 +9,7 @@ ghost use Rattle.slot_chain.specs.Slots.{AddsSlots};
 ghost use Rattle.pool_desk.specs.ByClass.{HasClass, LacksClass, IsWanting};
 
 use crate::DeskError;
-use crate::by_class::{
-    ByClass, add_all, alloc_at, claim_at, count_all, empty_homes, end_all, has_at, keep_at,
-};
+use crate::by_class::{ByClass, add_all, count_all, empty_homes, end_all};
 use region_cut::{Class, Endings, Part, Slot};
 use slot_chain::{Buf, NoMemory};
 use std::alloc::Global;
@@ -63,7 +61,7 @@ impl<'r> Homes<'r> {
     pub(crate) fn has(&self, class: Class) -> bool
         ensures { IsTrue result ↔ HasClass class self.now.slots }
     {
-        has_at(&self.by_class, class.number() as usize)
+        self.by_class[class.number() as usize].has()
     }
 
     /// Takes a part for a class of which no slot is there.
@@ -76,7 +74,7 @@ impl<'r> Homes<'r> {
             ++ self.old.slots) self.new.slots }
         ensures drawn { Draws part.entry class self.old.drawn self.new.drawn }
     {
-        claim_at(&mut self.by_class, class.number() as usize, part);
+        self.by_class[class.number() as usize].claim(part);
     }
 
     /// Gives out a slot of the class: the one that came last, else the next that was never handed out.
@@ -86,7 +84,7 @@ impl<'r> Homes<'r> {
             (λ b. GivesOne self.old.owner class self.old.slots b self.new.slots self.old.drawn self.new.drawn)
             (λ e. IsWanting class self.old.slots e × (self.new ≡ self.old)) }
     {
-        alloc_at(&mut self.by_class, class.number() as usize, alloc)
+        self.by_class[class.number() as usize].alloc(alloc)
     }
 
     /// Takes an own buffer home.
@@ -96,7 +94,7 @@ impl<'r> Homes<'r> {
         ensures slots { IsPermutation (Kept buf.entry ∷ self.old.slots) self.new.slots }
     {
         let class = buf.class();
-        keep_at(&mut self.by_class, class.number() as usize, buf);
+        self.by_class[class.number() as usize].keep(buf);
     }
 
     /// The number of slots, or the greatest `u64` where that is less.

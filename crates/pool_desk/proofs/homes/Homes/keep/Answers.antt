@@ -1,24 +1,46 @@
-use Rattle.std.proofs.Common.{◌≡◌, sym, ap, ◌∙◌}
+use Rattle.std.proofs.Common.{◌<◌, length, ◌≡◌, sym, ap, ◌∙◌, subst}
+use Rattle.pool_desk.specs.Homes.{HomeState, IsAtHome}
+use Rattle.pool_desk.specs.Homes.AtHome.{Kept}
 use Rattle.pool_desk.specs.ByClass.{HomesState}
 use Rattle.pool_desk.proofs.ByClassLaws.{keep_keeps, keep_slots, keep_shown, own_kept}
+use Rattle.pool_desk.proofs.SetLaws.{put_back, put_kept, put_keeps, taken_up}
 use Rattle.pool_desk.proofs.homes.Homes.keep.Goals as goal
 
-pub keep_at-requires-clause-own : goal.keep_at-requires-clause-own
-keep_at-requires-clause-own c =
+pub keep-requires : goal.keep-requires
+keep-requires c =
+    let hs = c.self.inside.by_class.items in let ds = c.deref_mut.result.now in let k = c.number.result in let l = c.number.ensures.in_range in
+    let e = c.deref_mut.ensures.value in let within : k < length hs = rw c.self.invariant.count l in
+    let one = taken_up hs ds k c.index-deref_mut-number.result e within in
     let owner : c.args.buf.owner ≡ c.self.inside.owner = c.requires ∙ ap (λ (h : HomesState). h.owner) (sym c.self.view_is) in
-    own_kept c.self.inside.owner c.number.result c.self.inside.by_class.items c.args.buf c.self.invariant c.number.ensures.in_range owner (sym c.class-class.ensures ∙ sym c.number.ensures.value)
+    let class : c.args.buf.class ≡ k = sym c.class-class.ensures ∙ sym c.number.ensures.value in
+    subst (λ (g : HomeState). IsAtHome g.owner g.class (Kept c.args.buf)) (sym one)
+    (own_kept c.self.inside.owner k hs c.args.buf c.self.invariant l owner class)
 
 pub invariant_of-self : goal.invariant_of-self
 invariant_of-self c =
+    let hs = c.self.inside.by_class.items in let ds = c.deref_mut.result.now in let k = c.number.result in let l = c.number.ensures.in_range in
+    let e = c.deref_mut.ensures.value in let within : k < length hs = rw c.self.invariant.count l in
+    let one = taken_up hs ds k c.index-deref_mut-number.result e within in
     let owner : c.args.buf.owner ≡ c.self.inside.owner = c.requires ∙ ap (λ (h : HomesState). h.owner) (sym c.self.view_is) in
-    keep_keeps c.self.inside.owner c.number.result c.self.inside.by_class.items c.keep_at.new.homes.items c.args.buf c.self.invariant c.number.ensures.in_range
-    (owner, sym c.class-class.ensures ∙ sym c.number.ensures.value) c.keep_at.ensures.same c.keep_at.ensures.slots
+    let class : c.args.buf.class ≡ k = sym c.class-class.ensures ∙ sym c.number.ensures.value in
+    let n = c.keep.new.self in
+    keep_keeps c.self.inside.owner k hs (put_back hs ds k n) c.args.buf c.self.invariant l (owner, class)
+    (put_kept hs ds k _ n e within one c.keep.ensures.same) (put_keeps hs ds k _ n c.args.buf e within one c.keep.ensures.slots)
 
 pub returns-clause-same : goal.returns-clause-same
 returns-clause-same c =
-    rw (← c.self.view_is) (keep_shown c.self.inside.owner c.number.result c.self.inside.by_class.items c.keep_at.new.homes.items c.keep_at.ensures.same)
+    let hs = c.self.inside.by_class.items in let ds = c.deref_mut.result.now in let k = c.number.result in let l = c.number.ensures.in_range in
+    let e = c.deref_mut.ensures.value in let within : k < length hs = rw c.self.invariant.count l in
+    let one = taken_up hs ds k c.index-deref_mut-number.result e within in
+    let n = c.keep.new.self in
+    rw (← c.self.view_is) (keep_shown c.self.inside.owner k hs (put_back hs ds k n) (put_kept hs ds k _ n e within one c.keep.ensures.same))
 
 pub returns-clause-slots : goal.returns-clause-slots
 returns-clause-slots c =
+    let hs = c.self.inside.by_class.items in let ds = c.deref_mut.result.now in let k = c.number.result in let l = c.number.ensures.in_range in
+    let e = c.deref_mut.ensures.value in let within : k < length hs = rw c.self.invariant.count l in
+    let one = taken_up hs ds k c.index-deref_mut-number.result e within in
+    let n = c.keep.new.self in
     rw (← c.self.view_is)
-    (keep_slots c.self.inside.owner c.number.result c.self.inside.by_class.items c.keep_at.new.homes.items c.args.buf c.self.invariant c.number.ensures.in_range c.keep_at.ensures.same c.keep_at.ensures.slots)
+    (keep_slots c.self.inside.owner k hs (put_back hs ds k n) c.args.buf c.self.invariant l
+    (put_kept hs ds k _ n e within one c.keep.ensures.same) (put_keeps hs ds k _ n c.args.buf e within one c.keep.ensures.slots))
