@@ -6,7 +6,8 @@ use Rattle.std.proofs.lemmas.List.Sorted.{sum_by-IsPermutation}
 use Rattle.slot_chain.specs.Buffer.{Buffer}
 use Rattle.slot_chain.specs.Counts.{capped, buffer_size, sizes}
 use Rattle.digit_route.specs.Digits.{Scheme}
-use Rattle.digit_route.specs.States.{BatchState, Gives}
+use Rattle.digit_route.specs.States.{BatchState}
+use Rattle.digit_route.specs.Route.{GivesBucket}
 
 -- buffers were added
 pub counted_more : (old more new : List Buffer) (before size after : ℕ) → before ≡ capped (sizes old) → size ≡ capped (sizes more)
@@ -34,7 +35,7 @@ counted_left old taken new before size h s p =
 
 -- a batch was taken out, or there was none
 pub counted_batch : (s : Scheme) (a : ℕ) (old new : List Buffer) (r : Option BatchState) (before size : ℕ) → before ≡ capped (sizes old)
-    → MatchOption r (size ≡ 0) (λ b. size ≡ capped (sizes b.items)) → MatchOption r ((old ≡ []) × (new ≡ [])) (λ b. Gives s a old b new)
+    → MatchOption r (size ≡ 0) (λ b. size ≡ capped (sizes b.items)) → MatchOption r ((old ≡ []) × (new ≡ [])) (λ b. GivesBucket s a old b new)
     → (gone : ℕ) × (size ≡ capped gone) × (before ≡ capped (gone + sizes new))
 counted_batch s a old new None before size h z none =
     let same : sizes old ≡ sizes new = ap sizes (none.0 ∙ sym none.1) in

@@ -12,7 +12,8 @@ use Rattle.slot_chain.specs.Buffer.{Buffer}
 use Rattle.digit_route.specs.Digits.{Scheme, IsScheme, count, common}
 use Rattle.digit_route.specs.Posts.{GivesAll, Moved, Posts, buffers_of, shared}
 use Rattle.digit_route.specs.Route.{IsCached}
-use Rattle.digit_route.specs.States.{BatchState, PostingState, Gives, ahead, all_moves}
+use Rattle.digit_route.specs.States.{BatchState, PostingState, ahead, all_moves}
+use Rattle.digit_route.specs.Route.{GivesBucket}
 use Rattle.digit_route.proofs.DigitLaws.{common-lt}
 use Rattle.digit_route.proofs.PostingLaws.{TakesBucket-before, ahead_none}
 use Rattle.digit_route.proofs.Joined.{Any-permutation}
@@ -37,7 +38,7 @@ shared-le s a (x ∷ xs) i la h =
 
 -- the same from a list in another order
 Gives-before : (s : Scheme) (a : ℕ) (older old : List Buffer) (b : BatchState) (new : List Buffer) → IsPermutation older old
-    → Gives s a old b new → Gives s a older b new
+    → GivesBucket s a old b new → GivesBucket s a older b new
 Gives-before s a older old b new p h = record {
   sender = h.sender;
   digits = h.digits;
@@ -47,7 +48,7 @@ Gives-before s a older old b new p h = record {
 
 -- one batch more
 GivesAll-push : (s : Scheme) (a : ℕ) (items : List Buffer) (bs : List BatchState) (mid : List Buffer) (b : BatchState) (new : List Buffer)
-    → GivesAll s a items bs mid → Gives s a mid b new → GivesAll s a items (bs ++ b ∷ []) new
+    → GivesAll s a items bs mid → GivesBucket s a mid b new → GivesAll s a items (bs ++ b ∷ []) new
 GivesAll-push s a items [] mid b new h g = (new, Gives-before s a items mid b new h g, IsPermutation-refl new)
 GivesAll-push s a items (x ∷ bs) mid b new h g = (h.0, h.1, GivesAll-push s a h.0 bs mid b new h.2 g)
 
@@ -72,10 +73,10 @@ Posted-start s a limit items old = record {
 
 -- one batch more is given away
 pub Posted-more : (s : Scheme) (a limit : ℕ) (items : List Buffer) (old given next : List BatchState) (p q : PostingState) (b : BatchState)
-    → Posted s a limit items old given p → q.number ≡ p.number → q.digits ≡ p.digits → q.limit ≡ p.limit → Gives p.digits p.number p.items b q.items
+    → Posted s a limit items old given p → q.number ≡ p.number → q.digits ≡ p.digits → q.limit ≡ p.limit → GivesBucket p.digits p.number p.items b q.items
     → (all_moves p < 2 ^ 64 → all_moves q ≡ all_moves p) → next ≡ given ++ b ∷ [] → Posted s a limit items old next q
 Posted-more s a limit items old given next p q b h number digits same_limit gives counted e =
-    let own : Gives s a p.items b q.items = rw (h.number, h.digits) at gives in
+    let own : GivesBucket s a p.items b q.items = rw (h.number, h.digits) at gives in
     let out : buffers_of (h.added ++ b ∷ []) ≡ buffers_of h.added ++ b.items =
     flat_map-append (λ (x : BatchState). x.items) h.added (b ∷ []) ∙ ap (λ x. buffers_of h.added ++ x) (append-nil b.items) in
     let apart : IsPermutation (buffers_of h.added ++ p.items) (buffers_of h.added ++ (b.items ++ q.items)) =
@@ -92,7 +93,7 @@ Posted-more s a limit items old given next p q b h number digits same_limit give
     }
 
 -- each batch has a buffer
-pub Gives-fewer : (s : Scheme) (a : ℕ) (old : List Buffer) (b : BatchState) (new : List Buffer) → Gives s a old b new → length new < length old
+pub Gives-fewer : (s : Scheme) (a : ℕ) (old : List Buffer) (b : BatchState) (new : List Buffer) → GivesBucket s a old b new → length new < length old
 Gives-fewer s a old b new h =
     let len = length_permutation old (b.items ++ new) h.taken.together in
     let some = h.routed.owned in
@@ -110,7 +111,7 @@ Posted-end s a limit items old given p left h back = record {
 
 -- a batch was handed back
 pub Posted-back : (s : Scheme) (a limit : ℕ) (items : List Buffer) (old given new : List BatchState) (p q : PostingState) (b : BatchState) (left : List Buffer)
-    → Posted s a limit items old given p → Gives p.digits p.number p.items b q.items → new ≡ given → IsPermutation (q.items ++ b.items) left
+    → Posted s a limit items old given p → GivesBucket p.digits p.number p.items b q.items → new ≡ given → IsPermutation (q.items ++ b.items) left
     → Posts s a items old new left
 Posted-back s a limit items old given new p q b left h gives e back =
     let turn = IsPermutation-append_comm b.items q.items in
@@ -159,7 +160,7 @@ Moved-end s a limit items old given p q left h number digits counted none empty 
 
 -- the moves of a posting that stopped before it could give the batch b
 pub Moved-back : (s : Scheme) (a limit : ℕ) (items : List Buffer) (old given : List BatchState) (p q : PostingState) (b : BatchState) (left : List Buffer)
-    → Posted s a limit items old given p → q.number ≡ p.number → q.digits ≡ p.digits → Gives p.digits p.number p.items b q.items
+    → Posted s a limit items old given p → q.number ≡ p.number → q.digits ≡ p.digits → GivesBucket p.digits p.number p.items b q.items
     → All (λ (x : Buffer). common p.digits x.owner p.number ≡ q.round) b.items → All (λ (x : Buffer). q.round ≤ common p.digits x.owner p.number) q.items
     → (all_moves p < 2 ^ 64 → all_moves q ≡ all_moves p) → IsPermutation (q.items ++ b.items) left → shared s a items < 2 ^ 64
     → Moved s a items left q.moves

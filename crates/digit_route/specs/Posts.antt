@@ -3,7 +3,8 @@ use Rattle.std.specs.Prelude.{◌≡◌, ℕ, ◌+◌, ◌≤◌, ◌⊎◌, Lis
 use Rattle.std.specs.List.{flat_map}
 use Rattle.slot_chain.specs.Buffer.{Buffer}
 use Rattle.digit_route.specs.Digits.{Scheme, common}
-use Rattle.digit_route.specs.States.{BatchState, Gives, ahead}
+use Rattle.digit_route.specs.States.{BatchState, ahead}
+use Rattle.digit_route.specs.Route.{GivesBucket}
 
 -- the buffers of the batches, one batch after another
 abbrev pub buffers_of : List BatchState → List Buffer
@@ -12,7 +13,7 @@ buffers_of bs = flat_map (λ (b : BatchState). b.items) bs
 -- these batches of a were taken out one after the other, each the whole bucket for its address of what was there then
 abbrev pub GivesAll : Scheme → ℕ → List Buffer → List BatchState → List Buffer → Type 0
 GivesAll s a items [] left = IsPermutation items left
-GivesAll s a items (b ∷ bs) left = (rest : List Buffer) × Gives s a items b rest × GivesAll s a rest bs left
+GivesAll s a items (b ∷ bs) left = (rest : List Buffer) × GivesBucket s a items b rest × GivesAll s a rest bs left
 
 -- batches of a were given that have, together with what is left, each buffer as often as it is there
 pub record Posts (s : Scheme) (a : ℕ) (items : List Buffer) (old new : List BatchState) (left : List Buffer) : Type 0 where

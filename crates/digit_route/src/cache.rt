@@ -3,15 +3,18 @@ ghost use Rattle.std.specs.Prelude.{◌≡◌, ◌-◌, ◌*◌, ◌^◌, ◌<�
 ghost use Rattle.slot_chain.specs.Buffer.{ended_of};
 ghost use Rattle.slot_chain.specs.Counts.{capped, sizes};
 ghost use Rattle.digit_route.specs.Digits.{Scheme, IsScheme, count};
+ghost use Rattle.digit_route.specs.Limits.{largest_limit};
 ghost use Rattle.digit_route.specs.Posts.{Moved, Posts, shared};
 ghost use Rattle.digit_route.specs.Route.{IsCached, RouteFault};
 ghost use Rattle.slot_chain.specs.Slots.{AddsSlots, slot_of};
-ghost use Rattle.digit_route.specs.States.{BatchState, Gives};
+ghost use Rattle.digit_route.specs.States.{BatchState};
+ghost use Rattle.digit_route.specs.Route.{GivesBucket};
 
 use crate::counter::bytes_left;
 use crate::row::Row;
 use crate::{Batch, BatchSink, Digits, Posting, RouteError};
-use region_cut::{Endings, Slot};
+use region_cut::Slot;
+use region_cut::endings::Endings;
 use slot_chain::{Buf, NoMemory};
 use std::marker::Model;
 use std::mem;
@@ -36,19 +39,20 @@ impl<'r> Model for Cache<'r> {
     ghost use Rattle.std.specs.Prelude.{◌≡◌, ◌≤◌};
     ghost use Rattle.slot_chain.specs.Counts.{capped, sizes};
     ghost use Rattle.digit_route.specs.States.{CacheState};
+    ghost use Rattle.digit_route.specs.Limits.{largest_limit};
 
     ghost Value = { CacheState };
 
     ghost view = { λ c. record { number = c.row.number; digits = c.row.digits; limit = c.limit; items = c.row.items } };
 
-    ghost invariant = { λ c. (c.row.round ≡ 0) × (c.limit ≤ 1048576) × (c.bytes ≡ capped (sizes c.row.items)) };
+    ghost invariant = { λ c. (c.row.round ≡ 0) × (c.limit ≤ largest_limit) × (c.bytes ≡ capped (sizes c.row.items)) };
 }
 
 impl<'r> Cache<'r> {
     /// An empty cache for the desk `number`. It is due once it has more than `limit` bytes.
     pub fn new(number: u16, digits: Digits, limit: u64) -> Cache<'r>
         requires number { number < 2 ^ digits.bits }
-        requires limit { limit ≤ 1048576 }
+        requires limit { limit ≤ largest_limit }
         ensures { result ≡ record { number = number; digits = digits; limit = limit; items = [] } }
     {
         Cache {
@@ -59,7 +63,7 @@ impl<'r> Cache<'r> {
     }
 
     pub(crate) fn from_row(row: Row<'r>, limit: u64) -> Cache<'r>
-        requires { limit ≤ 1048576 }
+        requires { limit ≤ largest_limit }
         ensures same { result ≡ record {
           number = row.entry.number;
           digits = row.entry.digits;
@@ -80,7 +84,7 @@ impl<'r> Cache<'r> {
         ensures value { result ≡ self.now.number }
         ensures scheme { IsScheme self.now.digits }
         ensures in_range { self.now.number < 2 ^ self.now.digits.bits }
-        ensures limit { self.now.limit ≤ 1048576 }
+        ensures limit { self.now.limit ≤ largest_limit }
         ensures cached { All (IsCached self.now.digits self.now.number) self.now.items }
     {
         let _known = &self.limit;
@@ -192,7 +196,7 @@ impl<'r> Cache<'r> {
         ensures same { self.new ≡ record self.old { items = self.new.items } }
         ensures value { MatchResult result
             (λ b. RouteFault self.old.digits self.old.number t self.old.items None × (b.address ≡ t)
-            × Gives self.old.digits self.old.number self.old.items b self.new.items)
+            × GivesBucket self.old.digits self.old.number self.old.items b self.new.items)
             (λ e. RouteFault self.old.digits self.old.number t self.old.items (Some e) × (self.new ≡ self.old)) }
     {
         match self.fault_for(t) {
@@ -211,7 +215,7 @@ impl<'r> Cache<'r> {
     pub fn next_batch(&mut self) -> Option<Batch<'r>>
         ensures same { self.new ≡ record self.old { items = self.new.items } }
         ensures value { MatchOption result ((self.old.items ≡ []) × (self.new.items ≡ []))
-            (λ b. Gives self.old.digits self.old.number self.old.items b self.new.items) }
+            (λ b. GivesBucket self.old.digits self.old.number self.old.items b self.new.items) }
     {
         if let Some(batch) = self.next_near() {
             return Some(batch);
@@ -226,7 +230,7 @@ impl<'r> Cache<'r> {
     fn next_near(&mut self) -> Option<Batch<'r>>
         ensures same { self.new ≡ record self.old { items = self.new.items } }
         ensures value { MatchOption result (self.new.items ≡ self.old.items)
-            (λ b. Gives self.old.digits self.old.number self.old.items b self.new.items) }
+            (λ b. GivesBucket self.old.digits self.old.number self.old.items b self.new.items) }
     {
         match self.row.take_other() {
             Some(batch) => {
@@ -243,7 +247,7 @@ impl<'r> Cache<'r> {
     fn next_far(&mut self) -> Option<Batch<'r>>
         ensures same { self.new ≡ record self.old { items = self.new.items } }
         ensures value { MatchOption result ((self.old.items ≡ []) × (self.new.items ≡ []))
-            (λ b. Gives self.old.digits self.old.number self.old.items b self.new.items) }
+            (λ b. GivesBucket self.old.digits self.old.number self.old.items b self.new.items) }
     {
         let empty = Row::new(self.row.number(), self.row.digits());
         let row = mem::replace(&mut self.row, empty);
@@ -272,7 +276,7 @@ impl<'r> Cache<'r> {
         Posting::new(row, limit)
     }
 
-    /// Posts the cache until it is empty or `sink` refuses a batch. Gives the cache of what is
+    /// Posts the cache until it is empty or `sink` refuses a batch. GivesBucket the cache of what is
     /// left, and how often a buffer was moved from one round's row into the next, or the greatest
     /// `u64` where that is less.
     ///
@@ -303,10 +307,10 @@ impl<'r> Cache<'r> {
 
 // The batch that a posting of the row would give first, and the row of what is left.
 fn first_batch<'r>(row: Row<'r>, limit: u64) -> (Option<Batch<'r>>, Row<'r>)
-    requires { limit ≤ 1048576 }
+    requires { limit ≤ largest_limit }
     ensures same { result.1 ≡ record row.entry { round = 0; items = result.1.items } }
     ensures value { MatchOption result.0 ((row.entry.items ≡ []) × (result.1.items ≡ []))
-        (λ b. Gives row.entry.digits row.entry.number row.entry.items b result.1.items) }
+        (λ b. GivesBucket row.entry.digits row.entry.number row.entry.items b result.1.items) }
 {
     let mut posting = Posting::new(row, limit);
     let batch = posting.next_batch();

@@ -1,22 +1,27 @@
 //! A row of chains, one for each value of a digit.
-ghost use Rattle.std.specs.Prelude.{◌≡◌, ◌≢◌, ℕ, ◌+◌, ◌<◌, ◌≤◌, ◌↔◌, [], ◌∷◌, ◌++◌, length, map, slice_index_or, slice_set, replicate, MatchOption, IsTrue, OnOk, OnErr};
+ghost use Rattle.std.specs.Prelude.{◌≡◌, ◌≢◌, ℕ, ◌+◌, ◌^◌, ◌<◌, ◌≤◌, ◌↔◌, [], ◌∷◌, ◌++◌, length, map, slice_index_or, slice_set, replicate, MatchOption, IsTrue, OnOk, OnErr};
 ghost use Rattle.std.specs.List.{flat_map};
 ghost use Rattle.arrayvec.specs.ArrayVec.{array_vec_len};
 ghost use Rattle.slot_chain.specs.Buffer.{ended_of};
 ghost use Rattle.slot_chain.specs.Counts.{capped, sizes};
+ghost use Rattle.digit_route.specs.Limits.{width_limit};
 ghost use Rattle.slot_chain.specs.Slots.{AddsSlots, slot_of};
 
 use arrayvec::ArrayVec;
-use region_cut::{Endings, Slot};
+use region_cut::Slot;
+use region_cut::endings::Endings;
 use slot_chain::{Buf, Chain, NoMemory};
 use std::mem;
 
-/// The chain at `k` is for the value `k` of a digit. A digit has at most 64 values.
-pub(crate) type Chains<'r> = ArrayVec<Chain<'r>, 64>;
+// The most values of a digit.
+const MOST: usize = 64;
+
+/// The chain at `k` is for the value `k` of a digit.
+pub(crate) type Chains<'r> = ArrayVec<Chain<'r>, MOST>;
 
 /// `n` empty chains.
 pub(crate) fn empty_chains<'r>(n: usize) -> Chains<'r>
-    requires { n ≤ 64 }
+    requires { n ≤ 2 ^ width_limit }
     ensures { result.items ≡ replicate n [] }
 {
     let mut chains = ArrayVec::new();

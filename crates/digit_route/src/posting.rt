@@ -2,7 +2,9 @@
 ghost use Rattle.std.specs.Prelude.{◌≡◌, ◌^◌, ◌<◌, ◌≤◌, [], ◌++◌, All, MatchOption, IfSome, IsPermutation};
 ghost use Rattle.slot_chain.specs.Buffer.{Buffer};
 ghost use Rattle.digit_route.specs.Digits.{common};
-ghost use Rattle.digit_route.specs.States.{all_moves, Gives};
+ghost use Rattle.digit_route.specs.Limits.{largest_limit};
+ghost use Rattle.digit_route.specs.States.{all_moves};
+ghost use Rattle.digit_route.specs.Route.{GivesBucket};
 
 use crate::row::Row;
 use crate::walks::some_owner;
@@ -29,6 +31,7 @@ pub struct Posting<'r> {
 impl<'r> Model for Posting<'r> {
     ghost use Rattle.std.specs.Prelude.{◌≤◌};
     ghost use Rattle.digit_route.specs.States.{PostingState};
+    ghost use Rattle.digit_route.specs.Limits.{largest_limit};
 
     ghost Value = { PostingState };
 
@@ -41,12 +44,12 @@ impl<'r> Model for Posting<'r> {
       items = p.row.items;
     } };
 
-    ghost invariant = { λ p. p.limit ≤ 1048576 };
+    ghost invariant = { λ p. p.limit ≤ largest_limit };
 }
 
 impl<'r> Posting<'r> {
     pub(crate) fn new(row: Row<'r>, limit: u64) -> Posting<'r>
-        requires { limit ≤ 1048576 }
+        requires { limit ≤ largest_limit }
         ensures { result ≡ record {
           number = row.entry.number;
           digits = row.entry.digits;
@@ -82,7 +85,7 @@ impl<'r> Posting<'r> {
     pub fn next_batch(&mut self) -> Option<Batch<'r>>
         ensures same { self.new ≡ record self.old { round = self.new.round; moves = self.new.moves; items = self.new.items } }
         ensures value { MatchOption result ((self.old.items ≡ []) × (self.new.items ≡ []))
-            (λ b. Gives self.old.digits self.old.number self.old.items b self.new.items) }
+            (λ b. GivesBucket self.old.digits self.old.number self.old.items b self.new.items) }
 
         // The rounds come in order: a batch has what belongs to the round that the call ends in,
         // and less is not left.

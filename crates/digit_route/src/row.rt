@@ -6,7 +6,7 @@ ghost use Rattle.digit_route.specs.Digits.{digit};
 ghost use Rattle.digit_route.specs.Route.{IsWellRouted, RouteFault, TakesBucket};
 ghost use Rattle.digit_route.specs.Rows.{IsLeft, Keeps};
 ghost use Rattle.slot_chain.specs.Slots.{AddsSlots, slot_of};
-ghost use Rattle.digit_route.specs.States.{Gives};
+ghost use Rattle.digit_route.specs.Route.{GivesBucket};
 
 use crate::chains::{
     Chains, all_empty, bytes, empty_chains, end_all, find_other, len, list_slots, push_at, set_at,
@@ -15,7 +15,8 @@ use crate::chains::{
 use crate::moves::{scatter, scatter_all, split};
 use crate::walks::{fault_in, some_owner};
 use crate::{Batch, Digits, RouteError};
-use region_cut::{Endings, Slot};
+use region_cut::Slot;
+use region_cut::endings::Endings;
 use slot_chain::{Buf, Chain, NoMemory};
 use std::marker::Model;
 
@@ -210,7 +211,7 @@ impl<'r> Row<'r> {
     pub(crate) fn take_other(&mut self) -> Option<Batch<'r>>
         ensures same { self.new ≡ record self.old { items = self.new.items } }
         ensures value { MatchOption result (self.new.items ≡ self.old.items)
-            (λ b. Gives self.old.digits self.old.number self.old.items b self.new.items) }
+            (λ b. GivesBucket self.old.digits self.old.number self.old.items b self.new.items) }
     {
         match self.find_other() {
             Some(k) => {

@@ -15,7 +15,7 @@ use Rattle.pool_desk.specs.declared.error.DeskError.{DeskError}
 use Rattle.pool_desk.specs.declared.error.DeskError.TheVariants.{TooLarge, NeedChunk, NotNeeded, Unsettled, NoMemory}
 use Rattle.pool_desk.specs.Homes.{AtHome, HomeState, IsAtHome, IsOwn, GivesOne, Names, Draws, IsUncut, class_at, IsUnused, IsRefused, unused_from}
 use Rattle.pool_desk.specs.Homes.AtHome.{Kept, Fresh}
-use Rattle.pool_desk.specs.ByClass.{HomesState, slots_at, drawn_at, no_home, home_at, empties, IsHome, AreHomes, HasClass, LacksClass, IsWanting}
+use Rattle.pool_desk.specs.HomesState.{HomesState, slots_at, drawn_at, no_home, home_at, empties, IsHome, AreHomes, HasClass, LacksClass, IsWanting}
 use Rattle.pool_desk.proofs.HomeLaws.{unused_class}
 
 pub split_at : {A B C : Type 0} → A ⊎ B → (A → C) → (B → C) → C

@@ -9,11 +9,11 @@ use Rattle.region_cut.specs.declared.part.Bump.{Bump}
 use Rattle.region_cut.specs.Bumps.{left_of, part_of}
 use Rattle.region_cut.specs.Carved.{Carved}
 use Rattle.region_cut.specs.Classes.{size_of}
-use Rattle.region_cut.specs.Ended.{Ended, EndingsState}
+use Rattle.region_cut.specs.Endings.{Ended, EndingsState}
 use Rattle.slot_chain.specs.Buffer.{Buffer, ended_of}
 use Rattle.pool_desk.specs.Homes.{AtHome, HomeState, kept_in, open_chunk, unused, unused_from}
 use Rattle.pool_desk.specs.Homes.AtHome.{Kept, Fresh}
-use Rattle.pool_desk.specs.ByClass.{slots_at, drawn_at}
+use Rattle.pool_desk.specs.HomesState.{slots_at, drawn_at}
 
 pub kept_append : (xs ys : List AtHome) → kept_in (xs ++ ys) ≡ kept_in xs ++ kept_in ys
 kept_append [] ys = refl

@@ -9,13 +9,13 @@ use Rattle.std.proofs.lemmas.List.Sorted.{IsPermutation-refl, IsPermutation-appe
 use Rattle.std.proofs.lemmas.List.{map-append, take_more, take_all, reverse-append}
 use Rattle.std.proofs.lemmas.Grind.{flat_map-append}
 use Rattle.slot_chain.specs.Slots.{AddsSlots, slot_of}
-use Rattle.pool_desk.specs.ByClass.{slots_at}
+use Rattle.pool_desk.specs.HomesState.{slots_at}
 use Rattle.std.proofs.Math.Seq.{take-append_seam}
 use Rattle.region_cut.specs.declared.slot.Slot.{Slot}
 use Rattle.slot_chain.specs.Buffer.{Buffer}
 use Rattle.pool_desk.specs.Homes.{AtHome, HomeState, slot_at, unused_from}
 use Rattle.pool_desk.specs.Homes.AtHome.{Kept}
-use Rattle.pool_desk.specs.Listed.{AddsOn, places, slots_in}
+use Rattle.pool_desk.specs.Slots.{AddsOn, places, slots_in}
 
 -- of the slots whole those before rest were added
 pub record Adding (whole rest old new : List Slot) : Type 0 where

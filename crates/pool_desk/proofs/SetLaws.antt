@@ -9,7 +9,7 @@ use Rattle.pool_desk.specs.declared.error.DeskError.{DeskError}
 use Rattle.region_cut.specs.declared.part.Part.{Part}
 use Rattle.pool_desk.specs.Homes.{HomeState, Draws, GivesOne, IsRefused}
 use Rattle.pool_desk.specs.Homes.AtHome.{Kept}
-use Rattle.pool_desk.specs.ByClass.{home_at, no_home}
+use Rattle.pool_desk.specs.HomesState.{home_at, no_home}
 use Rattle.pool_desk.proofs.ByClassLaws.{claimed}
 
 -- the homes after n took the place of the home k

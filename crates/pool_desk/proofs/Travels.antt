@@ -7,7 +7,7 @@ use Rattle.pool_desk.specs.contracts.desk.Desk as Desk
 use Rattle.pool_desk.specs.contracts.home.Home as Home
 use Rattle.pool_desk.specs.contracts.homes.Homes as Homes
 use Rattle.region_cut.proofs.part.Bump.TheSendSync.{the_send as bump_send}
-use Rattle.region_cut.proofs.ties.Ties.TheSendSync.{the_send as ties_send}
+use Rattle.region_cut.proofs.endings.ties.Ties.TheSendSync.{the_send as ties_send}
 
 pub home_send : (a : NamedLft) → IsSend (Home.the_row a)
 home_send a = search (sendable, crosses, chain_send, bump_send, ties_send) depth 40 fits 6000

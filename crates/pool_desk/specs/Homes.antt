@@ -89,9 +89,9 @@ pub record Draws (part : Part) (class : ℕ) (old new : List Carved) : Type 0 wh
   pub added : IsPermutation (drawn ∷ old) new
 
 -- the buffer b is what this slot at home becomes where it is given out
-abbrev pub Gives : AtHome → Buffer → Type 0
-Gives (Kept a) b = b ≡ a
-Gives (Fresh u) b = (b.slot ≡ u.slot) × (b.class ≡ u.class) × (b.forwards ≡ 0) × (b.bytes.now ≡ u.bytes)
+abbrev pub GivenAs : AtHome → Buffer → Type 0
+GivenAs (Kept a) b = b ≡ a
+GivenAs (Fresh u) b = (b.slot ≡ u.slot) × (b.class ≡ u.class) × (b.forwards ≡ 0) × (b.bytes.now ≡ u.bytes)
 
 -- the chunk with one more slot taken, of this name, and what is then left of it
 abbrev pub taken_next : Carved → GName → List ℕ → Carved
@@ -120,7 +120,7 @@ pub record GivesOne (owner class : ℕ) (old : List AtHome) (b : Buffer) (new : 
   pub owner_is : b.owner ≡ owner
   pub class_is : b.class ≡ class
   pub from : AtHome
-  pub gives : Gives from b
+  pub gives : GivenAs from b
   pub others : IsPermutation old (from ∷ new)
   pub names : Names from b drawn drawn'
 

@@ -1,8 +1,8 @@
-pub mod ByClass
 pub mod Desks
 pub mod Handling
 pub mod Homes
-pub mod Listed
+pub mod HomesState
 pub mod NextSlots
 pub mod Refusals
+pub mod Slots
 pub mod Steps

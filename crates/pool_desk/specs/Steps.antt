@@ -11,7 +11,7 @@ use Rattle.pool_desk.specs.declared.freed.Freed.TheVariants.{Home, Cached, Due}
 use Rattle.pool_desk.specs.declared.counts.Counts.{Counts}
 use Rattle.pool_desk.specs.Homes.{AtHome, class_at, unused_from, Draws, GivesOne, IsUnused}
 use Rattle.pool_desk.specs.Homes.AtHome.{Kept}
-use Rattle.pool_desk.specs.ByClass.{HasClass, LacksClass}
+use Rattle.pool_desk.specs.HomesState.{HasClass, LacksClass}
 use Rattle.pool_desk.specs.Desks.{DeskState, profile_at}
 
 -- no slot of the class was at home, and now each slot of the part's chunk is, over its bytes; the chunk comes to those that were drawn

@@ -1,32 +1,34 @@
 //! The homes of the classes, in order.
 ghost use Rattle.std.specs.Prelude.{◌≡◌, ◌≢◌, ℕ, ◌<◌, ◌≤◌, ◌↔◌, [], ◌∷◌, ◌++◌, All, IsTrue, IsPermutation, MatchResult, length, map, slice_index_or, slice_set};
 ghost use Rattle.arrayvec.specs.ArrayVec.{array_vec_len};
-ghost use Rattle.slot_chain.specs.Buffer.{Buffer, ended_of};
+ghost use Rattle.slot_chain.specs.Buffer.{Buffer, ended_of, owner_limit};
 ghost use Rattle.region_cut.specs.Classes.{class_count, slots_of};
 ghost use Rattle.pool_desk.specs.Homes.{AtHome, HomeState, IsAtHome, GivesOne, IsRefused, Draws, kept_in, slot_at, unused_from};
 ghost use Rattle.pool_desk.specs.Homes.AtHome.{Kept};
-ghost use Rattle.pool_desk.specs.ByClass.{empties, home_at, slots_at, drawn_at};
+ghost use Rattle.pool_desk.specs.HomesState.{empties, home_at, slots_at, drawn_at};
 ghost use Rattle.std.specs.List.{flat_map};
 ghost use Rattle.slot_chain.specs.Counts.{capped};
-ghost use Rattle.pool_desk.specs.Listed.{AddsOn};
+ghost use Rattle.pool_desk.specs.Slots.{AddsOn};
 
-use crate::DeskError;
 use crate::home::Home;
 use arrayvec::ArrayVec;
-use region_cut::{Class, Endings, Part, Slot};
-use slot_chain::{Buf, NoMemory};
-use std::alloc::Global;
+use region_cut::endings::Endings;
+use region_cut::{Class, SIZES, Slot};
+use slot_chain::NoMemory;
 
-pub(crate) type ByClass<'r> = ArrayVec<Home<'r>, 20>;
+// There is a home for each class, also for those that the profile doesn't use.
+const CLASSES: usize = SIZES.len();
+
+pub(crate) type ByClass<'r> = ArrayVec<Home<'r>, CLASSES>;
 
 /// Empty homes of all classes.
-#[tactic(auto, using(crate::proofs::ByClassLaws::empties_length), unfolding(crate::specs::ByClass::empties))]
+#[tactic(auto, using(crate::proofs::ByClassLaws::empties_length), unfolding(crate::specs::HomesState::empties))]
 pub(crate) fn empty_homes<'r>(owner: u16) -> ByClass<'r>
-    requires { owner < 4096 }
+    requires { owner < owner_limit }
     ensures { result.items ≡ empties owner class_count }
 {
     let mut homes = ArrayVec::new();
-    for k in 0..20u32 {
+    for k in 0..CLASSES as u32 {
         let Some(class) = Class::new(k) else {
             unreachable!();
         };

@@ -4,13 +4,14 @@ ghost use Rattle.region_cut.specs.Classes.{classes_of};
 ghost use Rattle.slot_chain.specs.Buffer.{ended_of};
 ghost use Rattle.slot_chain.specs.Counts.{capped, sizes};
 ghost use Rattle.digit_route.specs.Digits.{IsScheme};
+ghost use Rattle.digit_route.specs.Limits.{largest_limit};
 ghost use Rattle.digit_route.specs.Route.{IsCached, RouteFault};
 ghost use Rattle.slot_chain.specs.Slots.{AddsSlots, slot_of};
-ghost use Rattle.digit_route.specs.States.{Gives};
-ghost use Rattle.pool_desk.specs.ByClass.{HasClass};
+ghost use Rattle.digit_route.specs.Route.{GivesBucket};
+ghost use Rattle.pool_desk.specs.HomesState.{HasClass};
 ghost use Rattle.pool_desk.specs.Desks.{profile_at};
 ghost use Rattle.pool_desk.specs.Homes.{IsOwn, kept_in};
-ghost use Rattle.pool_desk.specs.Listed.{slots_in};
+ghost use Rattle.pool_desk.specs.Slots.{slots_in};
 ghost use Rattle.pool_desk.specs.Steps.{Claims, NotNeededFor, Allocs, Frees, Handles, Counted};
 ghost use Rattle.pool_desk.specs.Handling.{IsPassed, GoesHome, GoesOn};
 
@@ -18,7 +19,8 @@ use crate::homes::Homes;
 use crate::{Counts, DeskError, DeskPosting, Freed, IdleDesk};
 use digit_route::laws::shared_at_most_all;
 use digit_route::{Batch, Cache, Digits, RouteError};
-use region_cut::{Class, Endings, Part, Slot};
+use region_cut::endings::Endings;
+use region_cut::{Class, Part, Slot};
 use slot_chain::{Buf, NoMemory};
 use std::alloc::Global;
 use std::marker::Model;
@@ -63,7 +65,7 @@ impl<'r> Desk<'r> {
         ensures value { result ≡ self.now.number }
         ensures scheme { IsScheme self.now.digits }
         ensures in_range { self.now.number < 2 ^ self.now.digits.bits }
-        ensures limit { self.now.limit ≤ 1048576 }
+        ensures limit { self.now.limit ≤ largest_limit }
         ensures cached { All (IsCached self.now.digits self.now.number) self.now.cached }
         ensures home { All (IsOwn self.now.number) self.now.home }
     {
@@ -128,7 +130,7 @@ impl<'r> Desk<'r> {
         Ok(())
     }
 
-    /// Gives out a slot at home of the least class that holds `size` bytes: the one that came home last, else the next that was never handed out.
+    /// GivesBucket out a slot at home of the least class that holds `size` bytes: the one that came home last, else the next that was never handed out.
     /// Only the latter takes memory, for the box of the buffer, which is made first; so a refusal changes nothing. No byte of a slot is written.
     /// Takes constant time.
     #[inline(always)]
@@ -214,7 +216,7 @@ impl<'r> Desk<'r> {
         ensures same { self.new ≡ record self.old { cached = self.new.cached } }
         ensures value { MatchResult result
             (λ b. RouteFault self.old.digits self.old.number t self.old.cached None × (b.address ≡ t)
-            × Gives self.old.digits self.old.number self.old.cached b self.new.cached)
+            × GivesBucket self.old.digits self.old.number self.old.cached b self.new.cached)
             (λ e. RouteFault self.old.digits self.old.number t self.old.cached (Some e) × (self.new ≡ self.old)) }
     {
         self.cache.take_bucket_for(t)
@@ -225,7 +227,7 @@ impl<'r> Desk<'r> {
     pub fn next_batch(&mut self) -> Option<Batch<'r>>
         ensures same { self.new ≡ record self.old { cached = self.new.cached } }
         ensures value { MatchOption result ((self.old.cached ≡ []) × (self.new.cached ≡ []))
-            (λ b. Gives self.old.digits self.old.number self.old.cached b self.new.cached) }
+            (λ b. GivesBucket self.old.digits self.old.number self.old.cached b self.new.cached) }
     {
         self.cache.next_batch()
     }

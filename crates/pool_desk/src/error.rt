@@ -1,6 +1,6 @@
 //! Why a desk refuses.
 ghost use Rattle.std.specs.Prelude.{◌≡◌};
-ghost use Rattle.pool_desk.specs.Refusals.{number_of};
+ghost use Rattle.pool_desk.specs.Refusals.{refusal_number};
 
 use region_cut::Class;
 use thiserror::Error;
@@ -28,7 +28,7 @@ pub enum DeskError {
 impl DeskError {
     /// Its number, from 1.
     pub fn number(self) -> u32
-        ensures { result ≡ number_of self }
+        ensures { result ≡ refusal_number self }
     {
         match self {
             DeskError::TooLarge => 1,

@@ -1,15 +1,16 @@
 //! The slots at home of one class.
 ghost use Rattle.std.specs.Prelude.{◌≡◌, ◌≢◌, ℕ, ◌<◌, ◌≤◌, ◌↔◌, [], ◌∷◌, ◌++◌, All, IsTrue, IsPermutation, MatchResult, OnOk, OnErr, length, min, ◌^◌, ◌-◌, map};
-ghost use Rattle.slot_chain.specs.Buffer.{Buffer, ended_of};
+ghost use Rattle.slot_chain.specs.Buffer.{Buffer, ended_of, owner_limit};
 ghost use Rattle.pool_desk.specs.Homes.{AtHome, IsAtHome, GivesOne, IsRefused, Draws, kept_in, slot_at, unused_from};
 ghost use Rattle.pool_desk.specs.NextSlots.{GivesNextSlot};
 ghost use Rattle.pool_desk.specs.Homes.AtHome.{Kept};
 ghost use Rattle.region_cut.specs.Classes.{slots_of};
-ghost use Rattle.pool_desk.specs.Listed.{AddsOn};
+ghost use Rattle.pool_desk.specs.Slots.{AddsOn};
 
 use crate::DeskError;
 use crate::listing::add_unused;
-use region_cut::{Bump, Class, Endings, Part, Slot, Ties};
+use region_cut::endings::{Endings, Ties};
+use region_cut::{Bump, Class, Part, Slot};
 use slot_chain::{Buf, Chain, NoMemory, Room};
 use std::alloc::Global;
 use std::marker::Model;
@@ -26,7 +27,7 @@ pub(crate) struct Home<'r> {
 
 impl<'r> Model for Home<'r> {
     ghost use Rattle.std.specs.Prelude.{◌≡◌, ◌++◌, ◌<◌, map, All, IfSome};
-    ghost use Rattle.slot_chain.specs.Buffer.{Buffer};
+    ghost use Rattle.slot_chain.specs.Buffer.{Buffer, owner_limit};
     ghost use Rattle.region_cut.specs.declared.part.Bump.{Bump};
     ghost use Rattle.pool_desk.specs.Homes.{HomeState, AtHome, IsAtHome, unused, open_chunk};
     ghost use Rattle.pool_desk.specs.Homes.AtHome.{Kept};
@@ -40,12 +41,12 @@ impl<'r> Model for Home<'r> {
       drawn = open_chunk h.bump ++ h.ties.all;
     } };
 
-    ghost invariant = { λ h. (h.owner < 4096) × All (λ (b : Buffer). (b.owner ≡ h.owner) × (b.class ≡ h.class)) h.list
+    ghost invariant = { λ h. (h.owner < owner_limit) × All (λ (b : Buffer). (b.owner ≡ h.owner) × (b.class ≡ h.class)) h.list
         × IfSome h.bump (λ (b : Bump). b.class ≡ h.class) };
 }
 
 impl Default for Home<'_> {
-    ghost use Rattle.pool_desk.specs.ByClass.{no_home};
+    ghost use Rattle.pool_desk.specs.HomesState.{no_home};
 
     ghost is_default = { λ h. h ≡ no_home };
 
@@ -56,7 +57,7 @@ impl Default for Home<'_> {
 
 impl<'r> Home<'r> {
     pub(crate) fn new(owner: u16, class: Class) -> Home<'r>
-        requires { owner < 4096 }
+        requires { owner < owner_limit }
         ensures { result ≡ record { owner = owner; class = class; slots = []; drawn = [] } }
     {
         Home {
@@ -176,7 +177,7 @@ fn next_slot<'r>(
     owner: u16,
 ) -> Result<Buf<'r>, DeskError>
     requires class { class ≡ bump.old.class }
-    requires owner { owner < 4096 }
+    requires owner { owner < owner_limit }
     ensures class { bump.new.class ≡ bump.old.class }
     ensures value { GivesNextSlot owner class bump.old result bump.new }
 {

@@ -1,16 +1,17 @@
 //! All slots at home of one owner.
 ghost use Rattle.std.specs.Prelude.{◌≡◌, ◌≢◌, ◌<◌, ◌↔◌, [], ◌∷◌, ◌++◌, IsTrue, IsPermutation, MatchResult, OnOk, OnErr, All, length, map};
 ghost use Rattle.region_cut.specs.Classes.{slots_of};
-ghost use Rattle.slot_chain.specs.Buffer.{ended_of};
+ghost use Rattle.slot_chain.specs.Buffer.{ended_of, owner_limit};
 ghost use Rattle.slot_chain.specs.Counts.{capped};
 ghost use Rattle.pool_desk.specs.Homes.{Draws, GivesOne, IsOwn, kept_in, slot_at, unused_from};
 ghost use Rattle.pool_desk.specs.Homes.AtHome.{Kept};
 ghost use Rattle.slot_chain.specs.Slots.{AddsSlots};
-ghost use Rattle.pool_desk.specs.ByClass.{HasClass, LacksClass, IsWanting};
+ghost use Rattle.pool_desk.specs.HomesState.{HasClass, LacksClass, IsWanting};
 
 use crate::DeskError;
 use crate::by_class::{ByClass, add_all, count_all, empty_homes, end_all};
-use region_cut::{Class, Endings, Part, Slot};
+use region_cut::endings::Endings;
+use region_cut::{Class, Part, Slot};
 use slot_chain::{Buf, NoMemory};
 use std::alloc::Global;
 use std::marker::Model;
@@ -24,7 +25,7 @@ pub(crate) struct Homes<'r> {
 
 impl<'r> Model for Homes<'r> {
     ghost use Rattle.std.specs.List.{flat_map};
-    ghost use Rattle.pool_desk.specs.ByClass.{HomesState, AreHomes, slots_at, drawn_at};
+    ghost use Rattle.pool_desk.specs.HomesState.{HomesState, AreHomes, slots_at, drawn_at};
 
     ghost Value = { HomesState };
 
@@ -40,7 +41,7 @@ impl<'r> Model for Homes<'r> {
 impl<'r> Homes<'r> {
     /// Nothing is at home.
     pub(crate) fn new(owner: u16) -> Homes<'r>
-        requires { owner < 4096 }
+        requires { owner < owner_limit }
         ensures { result ≡ record { owner = owner; slots = []; drawn = [] } }
     {
         Homes {

@@ -1,16 +1,18 @@
 //! A desk that no worker holds.
 ghost use Rattle.std.specs.Prelude.{◌≡◌, ◌<◌, ◌≤◌, ◌^◌, ◌++◌, [], All, length, map, OnOk, OnErr};
 ghost use Rattle.digit_route.specs.Digits.{IsScheme, Scheme};
+ghost use Rattle.digit_route.specs.Limits.{largest_limit};
 ghost use Rattle.slot_chain.specs.Buffer.{ended_of};
 ghost use Rattle.slot_chain.specs.Counts.{capped};
 ghost use Rattle.pool_desk.specs.Homes.{IsOwn, kept_in};
 ghost use Rattle.slot_chain.specs.Slots.{AddsSlots};
-ghost use Rattle.pool_desk.specs.Listed.{slots_in};
+ghost use Rattle.pool_desk.specs.Slots.{slots_in};
 
 use crate::desk::Desk;
 use crate::homes::Homes;
 use digit_route::{Cache, Digits};
-use region_cut::{Endings, Slot};
+use region_cut::Slot;
+use region_cut::endings::Endings;
 use slot_chain::NoMemory;
 use std::marker::Model;
 
@@ -44,7 +46,7 @@ impl<'r> IdleDesk<'r> {
     /// Its cache is due where it has more than `limit` bytes, at most a mebibyte.
     pub fn new(number: u16, digits: Digits, limit: u64) -> IdleDesk<'r>
         requires number { number < 2 ^ digits.bits }
-        requires limit { limit ≤ 1048576 }
+        requires limit { limit ≤ largest_limit }
         ensures { result ≡ record { number = number; digits = digits; limit = limit; home = []; drawn = [] } }
     {
         let _profile = digits.profile();
@@ -62,7 +64,7 @@ impl<'r> IdleDesk<'r> {
         ensures value { result ≡ self.now.number }
         ensures scheme { IsScheme self.now.digits }
         ensures in_range { self.now.number < 2 ^ self.now.digits.bits }
-        ensures limit { self.now.limit ≤ 1048576 }
+        ensures limit { self.now.limit ≤ largest_limit }
         ensures home { All (IsOwn self.now.number) self.now.home }
     {
         let _owner = self.homes.owner();

@@ -1,6 +1,6 @@
 //! Slots that were never handed out are listed.
 ghost use Rattle.region_cut.specs.Bumps.{left_of};
-ghost use Rattle.pool_desk.specs.Listed.{AddsOn, places};
+ghost use Rattle.pool_desk.specs.Slots.{AddsOn, places};
 
 use region_cut::{Bump, Slot};
 use slot_chain::NoMemory;

@@ -2,7 +2,8 @@
 ghost use Rattle.std.specs.Prelude.{◌≡◌, ◌<◌, ◌≤◌, ◌^◌, [], ◌++◌, All, IfSome, MatchOption, IsPermutation};
 ghost use Rattle.slot_chain.specs.Buffer.{Buffer};
 ghost use Rattle.digit_route.specs.Digits.{common};
-ghost use Rattle.digit_route.specs.States.{Gives, all_moves};
+ghost use Rattle.digit_route.specs.States.{all_moves};
+ghost use Rattle.digit_route.specs.Route.{GivesBucket};
 
 use crate::desk::Desk;
 use crate::homes::Homes;
@@ -41,7 +42,7 @@ impl<'r> DeskPosting<'r> {
               };
         } }
         ensures value { MatchOption result ((self.old.posting.items ≡ []) × (self.new.posting.items ≡ []))
-            (λ b. Gives self.old.posting.digits self.old.posting.number self.old.posting.items b self.new.posting.items) }
+            (λ b. GivesBucket self.old.posting.digits self.old.posting.number self.old.posting.items b self.new.posting.items) }
         // rounds come in order: the buffers given share just as many digits with the desk as the round's number, those that are left no fewer
         ensures here { let p = self.old.posting in IfSome result (λ b.
             All (λ (x : Buffer). common p.digits x.owner p.number ≡ self.new.posting.round) b.items) }

@@ -1,7 +1,7 @@
 use Rattle.std.proofs.Common.{take, map}
 use Rattle.std.specs.List.{flat_map}
 use Rattle.pool_desk.specs.Homes.{slot_at}
-use Rattle.pool_desk.specs.ByClass.{slots_at}
+use Rattle.pool_desk.specs.HomesState.{slots_at}
 use Rattle.slot_chain.specs.Slots.{AddsSlots}
 use Rattle.pool_desk.proofs.by_class.add_all.Given as goal
 

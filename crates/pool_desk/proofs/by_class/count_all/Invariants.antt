@@ -1,7 +1,7 @@
 use Rattle.std.proofs.Common.{◌≡◌, take, length}
 use Rattle.std.specs.List.{flat_map}
 use Rattle.slot_chain.specs.Counts.{capped}
-use Rattle.pool_desk.specs.ByClass.{slots_at}
+use Rattle.pool_desk.specs.HomesState.{slots_at}
 use Rattle.pool_desk.proofs.by_class.count_all.Given as goal
 
 abbrev pub invariant-loop-home : goal.invariant-loop-home

@@ -1,5 +1,5 @@
 use Rattle.std.proofs.Common.{◌≡◌}
-use Rattle.pool_desk.specs.ByClass.{empties}
+use Rattle.pool_desk.specs.HomesState.{empties}
 use Rattle.pool_desk.proofs.by_class.empty_homes.Given as goal
 
 abbrev pub invariant-loop-k : goal.invariant-loop-k

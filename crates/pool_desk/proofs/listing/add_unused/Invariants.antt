@@ -1,5 +1,5 @@
 use Rattle.std.proofs.Common.{◌-◌}
-use Rattle.pool_desk.specs.Listed.{places}
+use Rattle.pool_desk.specs.Slots.{places}
 use Rattle.pool_desk.proofs.ListedLaws.{Adding}
 use Rattle.pool_desk.proofs.listing.add_unused.Given as goal
 

@@ -1,5 +1,5 @@
 use Rattle.std.proofs.Common.{refl, ap, ◌∙◌, subst}
-use Rattle.pool_desk.specs.ByClass.{HomesState, HasClass}
+use Rattle.pool_desk.specs.HomesState.{HomesState, HasClass}
 use Rattle.pool_desk.specs.Desks.{DeskState}
 use Rattle.pool_desk.proofs.DeskLaws.{not_both}
 use Rattle.pool_desk.proofs.desk.Desk.claim.Goals as goal

@@ -1,5 +1,5 @@
 use Rattle.std.proofs.Common.{ap}
-use Rattle.region_cut.specs.Ended.{EndingsState}
+use Rattle.region_cut.specs.Endings.{EndingsState}
 use Rattle.pool_desk.specs.Homes.{kept_in}
 use Rattle.pool_desk.proofs.EndLaws.{desk_ends}
 use Rattle.pool_desk.proofs.desk.Desk.end.Goals as goal

@@ -1,6 +1,6 @@
 use Rattle.std.proofs.Common.{◌≡◌, ◌≢◌, ◌<◌, length, ◌↔◌, IsTrue, [], ◌∙◌, subst}
 use Rattle.pool_desk.specs.Homes.{HomeState}
-use Rattle.pool_desk.specs.ByClass.{home_at}
+use Rattle.pool_desk.specs.HomesState.{home_at}
 use Rattle.pool_desk.proofs.ByClassLaws.{some_joined, joined_some}
 use Rattle.pool_desk.proofs.SetLaws.{taken_up}
 use Rattle.pool_desk.proofs.homes.Homes.has.Goals as goal

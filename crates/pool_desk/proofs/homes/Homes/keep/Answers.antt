@@ -1,7 +1,7 @@
 use Rattle.std.proofs.Common.{◌<◌, length, ◌≡◌, sym, ap, ◌∙◌, subst}
 use Rattle.pool_desk.specs.Homes.{HomeState, IsAtHome}
 use Rattle.pool_desk.specs.Homes.AtHome.{Kept}
-use Rattle.pool_desk.specs.ByClass.{HomesState}
+use Rattle.pool_desk.specs.HomesState.{HomesState}
 use Rattle.pool_desk.proofs.ByClassLaws.{keep_keeps, keep_slots, keep_shown, own_kept}
 use Rattle.pool_desk.proofs.SetLaws.{put_back, put_kept, put_keeps, taken_up}
 use Rattle.pool_desk.proofs.homes.Homes.keep.Goals as goal
