@@ -39,7 +39,9 @@ pub fn cached_were_passed_on_few_times(desk: &Desk<'_>) -> u16
 
 // Sets each byte, as many as the class has.
 fn fill(buf: &mut Buf<'_>, byte: u8)
-    ensures { buf.new ≡ record buf.old { bytes = record buf.old.bytes { now = replicate (size_of buf.old.class) byte } } }
+    ensures { buf.new ≡ record buf.old {
+      bytes = record buf.old.bytes { now = replicate (size_of buf.old.class) byte };
+    } }
 {
     buf.bytes_mut().fill(byte);
 }

@@ -1,4 +1,5 @@
-//! Callers of `pool_desk`: what they learn from its contracts, and the tests that cross it and the crates below.
+//! Callers of `pool_desk`: what they learn from its contracts, and the tests that cross it and the
+//! crates below.
 //!
 //! The pool itself calls nothing of this crate.
 #![tactic(auto)]

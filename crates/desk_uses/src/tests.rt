@@ -1,7 +1,8 @@
-//! What no contract says: which slot comes first, that calls succeed, and the rows of the tables. Sizes and slots are those
-//! of the table of classes: class 15 has 8 slots of 512 bytes.
+//! What no contract says: which slot comes first, that calls succeed, and the rows of the tables.
+//! Sizes and slots are those of the table of classes: class 15 has 8 slots of 512 bytes.
 //!
-//! Each test also holds where one allocation is refused: the call that meets it changes nothing, and works when it is made again.
+//! Each test also holds where one allocation is refused: the call that meets it changes nothing,
+//! and works when it is made again.
 mod bytes;
 mod deep;
 mod home;
@@ -43,7 +44,8 @@ fn parts_or_not<'r>(rt: &impl Abort, alloc: Global, region: &'r mut [u8]) -> Opt
     }
 }
 
-// The chunks of a half of the region: of the second one where memory for the list of the first one's was refused.
+// The chunks of a half of the region: of the second one where memory for the list of the first
+// one's was refused.
 fn parts<'r>(rt: &impl Abort, alloc: Global, region: &'r mut [u8]) -> Vec<Part<'r>> {
     let half = region.len() / 2;
     let (first, second) = region.split_at_mut(half);

@@ -16,7 +16,8 @@ GivesAll s a items [] left = IsPermutation items left
 GivesAll s a items (b ∷ bs) left = (rest : List Buffer) × GivesBucket s a items b rest × GivesAll s a rest bs left
 
 -- batches of a were given that have, together with what is left, each buffer as often as it is there
-pub record Posts (s : Scheme) (a : ℕ) (items : List Buffer) (old new : List BatchState) (left : List Buffer) : Type 0 where
+pub record Posts (s : Scheme) (a : ℕ) (items : List Buffer) (old new : List BatchState) (left : List Buffer)
+    : Type 0 where
   pub added : List BatchState
   pub appended : new ≡ old ++ added
   pub together : IsPermutation items (buffers_of added ++ left)

@@ -12,11 +12,13 @@ SharedAtMostAll = (s : Scheme) (x y : ℕ) → common s x y ≤ count s
 
 -- two numbers of the scheme share all digits exactly where they are equal
 abbrev pub SharedByEquals : Type 0
-SharedByEquals = (s : Scheme) (x y : ℕ) → IsScheme s → x < 2 ^ s.bits → y < 2 ^ s.bits → (common s x y ≡ count s) ↔ (x ≡ y)
+SharedByEquals =
+    (s : Scheme) (x y : ℕ) → IsScheme s → x < 2 ^ s.bits → y < 2 ^ s.bits → (common s x y ≡ count s) ↔ (x ≡ y)
 
 -- numbers of the scheme that differ share fewer digits than a number has
 abbrev pub SharedByOthers : Type 0
-SharedByOthers = (s : Scheme) (x y : ℕ) → IsScheme s → x < 2 ^ s.bits → y < 2 ^ s.bits → x ≢ y → common s x y < count s
+SharedByOthers =
+    (s : Scheme) (x y : ℕ) → IsScheme s → x < 2 ^ s.bits → y < 2 ^ s.bits → x ≢ y → common s x y < count s
 
 -- an owner o that is nearer t than a is shares with a just what a shares with t
 abbrev pub SharedOnTheWay : Type 0

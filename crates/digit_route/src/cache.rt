@@ -1,5 +1,6 @@
 //! The cache of a desk.
-ghost use Rattle.std.specs.Prelude.{◌≡◌, ◌-◌, ◌*◌, ◌^◌, ◌<◌, ◌≤◌, ◌↔◌, ◌⊎◌, [], ◌∷◌, ◌++◌, length, map, All, Some, None, MatchOption, MatchResult, IsTrue, IsPermutation, OnOk, OnErr};
+ghost use Rattle.std.specs.Prelude.{◌≡◌, ◌-◌, ◌*◌, ◌^◌, ◌<◌, ◌≤◌, ◌↔◌, ◌⊎◌, [], ◌∷◌, ◌++◌, length, map, All, Some};
+ghost use Rattle.std.specs.Prelude.{None, MatchOption, MatchResult, IsTrue, IsPermutation, OnOk, OnErr};
 ghost use Rattle.slot_chain.specs.Buffer.{ended_of};
 ghost use Rattle.slot_chain.specs.Counts.{capped, sizes};
 ghost use Rattle.digit_route.specs.Digits.{Scheme, IsScheme, count};
@@ -17,7 +18,7 @@ use region_cut::Slot;
 use region_cut::endings::Endings;
 use slot_chain::{Buf, NoMemory};
 use std::marker::Model;
-use std::mem;
+use std::{fmt, mem};
 
 /// The remote cache of a desk: freed buffers of other desks that wait to be posted.
 ///
@@ -276,9 +277,9 @@ impl<'r> Cache<'r> {
         Posting::new(row, limit)
     }
 
-    /// Posts the cache until it is empty or `sink` refuses a batch. GivesBucket the cache of what is
-    /// left, and how often a buffer was moved from one round's row into the next, or the greatest
-    /// `u64` where that is less.
+    /// Posts the cache until it is empty or `sink` refuses a batch. Gives the cache of what
+    /// is left, and how often a buffer was moved from one round's row into the next, or the
+    /// greatest `u64` where that is less.
     ///
     /// Each buffer that is given is moved once for each digit that its owner shares with the desk,
     /// so less often than a number has digits. Those that are left were moved once for each digit
@@ -302,6 +303,13 @@ impl<'r> Cache<'r> {
         }
         let moves = posting.moves();
         (posting.end(), moves)
+    }
+}
+
+// The buffers are not printed.
+impl fmt::Debug for Cache<'_> {
+    fn fmt<W: fmt::Write>(&self, f: &mut fmt::Formatter<W>) -> fmt::Result {
+        write!(f, "Cache(of {}, {} bytes)", self.number(), self.bytes)
     }
 }
 

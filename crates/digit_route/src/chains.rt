@@ -1,5 +1,6 @@
 //! A row of chains, one for each value of a digit.
-ghost use Rattle.std.specs.Prelude.{◌≡◌, ◌≢◌, ℕ, ◌+◌, ◌^◌, ◌<◌, ◌≤◌, ◌↔◌, [], ◌∷◌, ◌++◌, length, map, slice_index_or, slice_set, replicate, MatchOption, IsTrue, OnOk, OnErr};
+ghost use Rattle.std.specs.Prelude.{◌≡◌, ◌≢◌, ℕ, ◌+◌, ◌^◌, ◌<◌, ◌≤◌, ◌↔◌, [], ◌∷◌, ◌++◌, length, map, slice_index_or};
+ghost use Rattle.std.specs.Prelude.{slice_set, replicate, MatchOption, IsTrue, OnOk, OnErr};
 ghost use Rattle.std.specs.List.{flat_map};
 ghost use Rattle.arrayvec.specs.ArrayVec.{array_vec_len};
 ghost use Rattle.slot_chain.specs.Buffer.{ended_of};
@@ -34,7 +35,8 @@ pub(crate) fn empty_chains<'r>(n: usize) -> Chains<'r>
 /// Puts a buffer on the chain at `k`.
 pub(crate) fn push_at<'r>(chains: &mut Chains<'r>, k: usize, item: Buf<'r>)
     requires { k < array_vec_len chains.old }
-    ensures { chains.new.items ≡ slice_set chains.old.items k (slice_index_or chains.old.items k [] ++ item.entry ∷ []) }
+    ensures { chains.new.items ≡ slice_set chains.old.items k
+        (slice_index_or chains.old.items k [] ++ item.entry ∷ []) }
 {
     chains[k].push(item);
 }

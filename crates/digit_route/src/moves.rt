@@ -18,7 +18,8 @@ pub(crate) fn scatter<'r>(
 ) -> u64
     requires { array_vec_len chains.old ≡ 2 ^ digits.width }
     ensures by_digit { IsByDigit digits round chains.old.items → IsByDigit digits round chains.new.items }
-    ensures items { IsPermutation (flat_map (λ x. x) chains.old.items ++ chain.entry) (flat_map (λ x. x) chains.new.items) }
+    ensures items { IsPermutation (flat_map (λ x. x) chains.old.items ++ chain.entry)
+        (flat_map (λ x. x) chains.new.items) }
     ensures count { result ≡ capped (length chain.entry) }
     ensures len { array_vec_len chains.new ≡ array_vec_len chains.old }
 {

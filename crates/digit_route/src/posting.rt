@@ -9,6 +9,7 @@ ghost use Rattle.digit_route.specs.Route.{GivesBucket};
 use crate::row::Row;
 use crate::walks::some_owner;
 use crate::{Batch, Cache};
+use std::fmt;
 use std::marker::Model;
 
 /// A cache that is being posted, one round for each digit.
@@ -83,7 +84,11 @@ impl<'r> Posting<'r> {
 
     /// Takes out the bucket for some owner of a buffer in it, or says that nothing is left.
     pub fn next_batch(&mut self) -> Option<Batch<'r>>
-        ensures same { self.new ≡ record self.old { round = self.new.round; moves = self.new.moves; items = self.new.items } }
+        ensures same { self.new ≡ record self.old {
+          round = self.new.round;
+          moves = self.new.moves;
+          items = self.new.items;
+        } }
         ensures value { MatchOption result ((self.old.items ≡ []) × (self.new.items ≡ []))
             (λ b. GivesBucket self.old.digits self.old.number self.old.items b self.new.items) }
 
@@ -91,7 +96,8 @@ impl<'r> Posting<'r> {
         // and less is not left.
         ensures here { IfSome result (λ b.
             All (λ (x : Buffer). common self.old.digits x.owner self.old.number ≡ self.new.round) b.items) }
-        ensures left { All (λ (x : Buffer). self.new.round ≤ common self.old.digits x.owner self.old.number) self.new.items }
+        ensures left { All (λ (x : Buffer). self.new.round ≤ common self.old.digits x.owner self.old.number)
+            self.new.items }
         ensures later { self.old.round ≤ self.new.round }
 
         // The moves made and those still to be made are together always as many, where a `u64` can
@@ -167,5 +173,12 @@ impl<'r> Posting<'r> {
             moves: _,
         } = self;
         row.restart()
+    }
+}
+
+// The buffers are not printed.
+impl fmt::Debug for Posting<'_> {
+    fn fmt<W: fmt::Write>(&self, f: &mut fmt::Formatter<W>) -> fmt::Result {
+        write!(f, "Posting(round {})", self.round())
     }
 }

@@ -1,5 +1,6 @@
 //! The row that a cache and a posting stand on.
-ghost use Rattle.std.specs.Prelude.{◌≡◌, ◌≢◌, ℕ, ◌+◌, ◌^◌, ◌<◌, ◌≤◌, ◌↔◌, [], ◌∷◌, ◌++◌, length, map, MatchOption, All, Any, IsPermutation, IsTrue, OnOk, OnErr};
+ghost use Rattle.std.specs.Prelude.{◌≡◌, ◌≢◌, ℕ, ◌+◌, ◌^◌, ◌<◌, ◌≤◌, ◌↔◌, [], ◌∷◌, ◌++◌, length, map, MatchOption};
+ghost use Rattle.std.specs.Prelude.{All, Any, IsPermutation, IsTrue, OnOk, OnErr};
 ghost use Rattle.slot_chain.specs.Buffer.{Buffer, ended_of};
 ghost use Rattle.slot_chain.specs.Counts.{capped, sizes};
 ghost use Rattle.digit_route.specs.Digits.{digit};
@@ -207,7 +208,8 @@ impl<'r> Row<'r> {
         take_at(&mut self.chains, k as usize)
     }
 
-    /// Takes out a batch of this round, or says that all owners that are left have the desk's own digit, and changes nothing.
+    /// Takes out a batch of this round, or says that all owners that are left have the desk's own
+    /// digit, and changes nothing.
     pub(crate) fn take_other(&mut self) -> Option<Batch<'r>>
         ensures same { self.new ≡ record self.old { items = self.new.items } }
         ensures value { MatchOption result (self.new.items ≡ self.old.items)
@@ -226,7 +228,12 @@ impl<'r> Row<'r> {
     /// The batch of the desk's own that has the chain's buffers.
     pub(crate) fn batch(&self, address: u16, chain: Chain<'r>) -> Batch<'r>
         requires { IsWellRouted self.now.digits self.now.number address chain }
-        ensures { result ≡ record { sender = self.now.number; address = address; digits = self.now.digits; items = chain.entry } }
+        ensures { result ≡ record {
+          sender = self.now.number;
+          address = address;
+          digits = self.now.digits;
+          items = chain.entry;
+        } }
     {
         Batch::new(self.number, address, self.digits, chain)
     }

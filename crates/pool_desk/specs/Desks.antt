@@ -8,7 +8,8 @@ use Rattle.digit_route.specs.Profiles.{profile_of}
 use Rattle.digit_route.specs.States.{PostingState}
 use Rattle.pool_desk.specs.Homes.{AtHome}
 
--- a desk that a worker holds: its slots at home, the chunks that it ever claimed, and the others' buffers in its cache, each in any order
+-- a desk that a worker holds: its slots at home, the chunks that it ever claimed, and the others' buffers in its
+-- cache, each in any order
 pub record DeskState : Type 0 where
   pub number : ℕ
   pub digits : Scheme

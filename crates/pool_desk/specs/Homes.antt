@@ -1,5 +1,6 @@
 -- What a desk has at home for one class.
-use Rattle.std.specs.Prelude.{◌≡◌, ◌≢◌, ℕ, zero, suc, ◌+◌, List, [], ◌∷◌, ◌++◌, All, IsPermutation, take, drop, Option, Some, None, length}
+use Rattle.std.specs.Prelude.{◌≡◌, ◌≢◌, ℕ, zero, suc, ◌+◌, List, [], ◌∷◌, ◌++◌, All, IsPermutation, take, drop}
+use Rattle.std.specs.Prelude.{Option, Some, None, length}
 use Rattle.std.specs.Borrow.{GName}
 use Rattle.pool_desk.specs.declared.error.DeskError.{DeskError}
 use Rattle.pool_desk.specs.declared.error.DeskError.TheVariants.{NeedChunk, NoMemory}
@@ -46,7 +47,12 @@ class_at (Fresh u) = u.class
 abbrev pub unused_from : (chunk class : ℕ) (part : GName) (n i : ℕ) (bytes : List ℕ) → List AtHome
 unused_from chunk class part zero i bs = []
 unused_from chunk class part (suc n) i bs =
-    Fresh (record { slot = record { chunk = chunk; index = i }; class = class; part = part; bytes = take (size_of class) bs })
+    Fresh (record {
+      slot = record { chunk = chunk; index = i };
+      class = class;
+      part = part;
+      bytes = take (size_of class) bs;
+    })
     ∷ unused_from chunk class part n (i + 1) (drop (size_of class) bs)
 
 -- the slots that a cursor has still to give
@@ -97,7 +103,8 @@ GivenAs (Fresh u) b = (b.slot ≡ u.slot) × (b.class ≡ u.class) × (b.forward
 abbrev pub taken_next : Carved → GName → List ℕ → Carved
 taken_next c name rest = record c { taken = c.taken ++ name ∷ []; rest = rest }
 
--- The slot u of a drawn chunk was given out as b: it is the next of its chunk, and the name of b's bytes is the next of the chunk's.
+-- The slot u of a drawn chunk was given out as b: it is the next of its chunk, and the name of b's bytes is the
+-- next of the chunk's.
 pub record TakesNext (u : Unused) (b : Buffer) (old new : List Carved) : Type 0 where
   pub from : Carved
   pub rest : List ℕ
@@ -116,7 +123,8 @@ Names (Kept a) b old new = new ≡ old
 Names (Fresh u) b old new = TakesNext u b old new
 
 -- one slot at home was given out
-pub record GivesOne (owner class : ℕ) (old : List AtHome) (b : Buffer) (new : List AtHome) (drawn drawn' : List Carved) : Type 0 where
+pub record GivesOne (owner class : ℕ) (old : List AtHome) (b : Buffer) (new : List AtHome)
+    (drawn drawn' : List Carved) : Type 0 where
   pub owner_is : b.owner ≡ owner
   pub class_is : b.class ≡ class
   pub from : AtHome

@@ -47,7 +47,8 @@ HasClass class slots = Any (λ (s : AtHome). class_at s ≡ class) slots
 abbrev pub LacksClass : ℕ → List AtHome → Type 0
 LacksClass class slots = All (λ (s : AtHome). class_at s ≢ class) slots
 
--- why no slot of the class is given out: none is there, or memory was refused where those that are there were never handed out
+-- why no slot of the class is given out: none is there, or memory was refused where those that are there were never
+-- handed out
 abbrev pub IsWanting : ℕ → List AtHome → DeskError → Type 0
 IsWanting class slots (NeedChunk c) = (c ≡ class) × LacksClass class slots
 IsWanting class slots NoMemory = HasClass class slots × All (λ (s : AtHome). class_at s ≡ class → IsUnused s) slots

@@ -1,5 +1,6 @@
 -- What a desk's calls do to it.
-use Rattle.std.specs.Prelude.{◌≡◌, ◌≢◌, ℕ, ◌+◌, ◌<◌, ◌≤◌, ◌==◌, not, List, ◌∷◌, ◌++◌, All, IsPermutation, filter, map, length, Result, Ok, Err}
+use Rattle.std.specs.Prelude.{◌≡◌, ◌≢◌, ℕ, ◌+◌, ◌<◌, ◌≤◌, ◌==◌, not, List, ◌∷◌, ◌++◌, All, IsPermutation, filter, map}
+use Rattle.std.specs.Prelude.{length, Result, Ok, Err}
 use Rattle.region_cut.specs.declared.part.Part.{Part}
 use Rattle.region_cut.specs.Classes.{slots_of, largest_of, IsLeastFor, NoClassFor}
 use Rattle.slot_chain.specs.Buffer.{Buffer}
@@ -14,11 +15,13 @@ use Rattle.pool_desk.specs.Homes.AtHome.{Kept}
 use Rattle.pool_desk.specs.HomesState.{HasClass, LacksClass}
 use Rattle.pool_desk.specs.Desks.{DeskState, profile_at}
 
--- no slot of the class was at home, and now each slot of the part's chunk is, over its bytes; the chunk comes to those that were drawn
+-- no slot of the class was at home, and now each slot of the part's chunk is, over its bytes; the chunk comes to
+-- those that were drawn
 pub record Claims (old : DeskState) (part : Part) (class : ℕ) (new : DeskState) : Type 0 where
   pub needed : LacksClass class old.home
   pub same : new ≡ record old { home = new.home; drawn = new.drawn }
-  pub home : IsPermutation (unused_from part.chunk class part.bytes.ghost_name (slots_of class) 0 part.bytes.now ++ old.home) new.home
+  pub home : IsPermutation
+      (unused_from part.chunk class part.bytes.ghost_name (slots_of class) 0 part.bytes.now ++ old.home) new.home
   pub drawn : Draws part class old.drawn new.drawn
 
 -- the only refusal of a claim, and when it comes
@@ -29,13 +32,17 @@ NotNeededFor old class e = (e ≡ NotNeeded) × HasClass class old.home
 abbrev pub AllocFault : DeskState → ℕ → DeskError → Type 0
 AllocFault old n TooLarge = (largest_of (profile_at old) < n) × NoClassFor (profile_at old) n
 AllocFault old n (NeedChunk c) = IsLeastFor (profile_at old) n c × LacksClass c old.home
-AllocFault old n NoMemory = (c : ℕ) × IsLeastFor (profile_at old) n c × HasClass c old.home × All (λ (s : AtHome). class_at s ≡ c → IsUnused s) old.home
+AllocFault old n NoMemory =
+    (c : ℕ) × IsLeastFor (profile_at old) n c × HasClass c old.home
+    × All (λ (s : AtHome). class_at s ≡ c → IsUnused s) old.home
 AllocFault old n e = ⊥
 
--- the buffer given out is that of a slot at home, of the least class that is large enough, and all else of the desk stays
+-- the buffer given out is that of a slot at home, of the least class that is large enough, and all else of the desk
+-- stays
 abbrev pub Allocs : DeskState → ℕ → Result Buffer DeskError → DeskState → Type 0
 Allocs old n (Ok b) new =
-    IsLeastFor (profile_at old) n b.class × GivesOne old.number b.class old.home b new.home old.drawn new.drawn × (new ≡ record old { home = new.home; drawn = new.drawn })
+    IsLeastFor (profile_at old) n b.class × GivesOne old.number b.class old.home b new.home old.drawn new.drawn
+    × (new ≡ record old { home = new.home; drawn = new.drawn })
 Allocs old n (Err e) new = AllocFault old n e × (new ≡ old)
 
 -- the buffer as it is freed: its count of forwards is 0, and all else is the same
@@ -44,11 +51,13 @@ freed b = record b { forwards = 0 }
 
 -- another's buffer goes into the cache
 abbrev pub Caches : DeskState → Buffer → DeskState → Type 0
-Caches old b new = (b.owner ≢ old.number) × (new ≡ record old { cached = new.cached }) × IsPermutation (freed b ∷ old.cached) new.cached
+Caches old b new =
+    (b.owner ≢ old.number) × (new ≡ record old { cached = new.cached }) × IsPermutation (freed b ∷ old.cached) new.cached
 
 -- an own buffer goes home, another into the cache, which is due exactly where its bytes are then more than the limit
 abbrev pub Frees : DeskState → Buffer → Freed → DeskState → Type 0
-Frees old b Home new = (b.owner ≡ old.number) × (new ≡ record old { home = new.home }) × IsPermutation (Kept (freed b) ∷ old.home) new.home
+Frees old b Home new =
+    (b.owner ≡ old.number) × (new ≡ record old { home = new.home }) × IsPermutation (Kept (freed b) ∷ old.home) new.home
 Frees old b Cached new = Caches old b new × (sizes new.cached ≤ old.limit)
 Frees old b Due new = Caches old b new × (old.limit < sizes new.cached)
 

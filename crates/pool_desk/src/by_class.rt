@@ -1,9 +1,11 @@
 //! The homes of the classes, in order.
-ghost use Rattle.std.specs.Prelude.{◌≡◌, ◌≢◌, ℕ, ◌<◌, ◌≤◌, ◌↔◌, [], ◌∷◌, ◌++◌, All, IsTrue, IsPermutation, MatchResult, length, map, slice_index_or, slice_set};
+ghost use Rattle.std.specs.Prelude.{◌≡◌, ◌≢◌, ℕ, ◌<◌, ◌≤◌, ◌↔◌, [], ◌∷◌, ◌++◌, All, IsTrue, IsPermutation};
+ghost use Rattle.std.specs.Prelude.{MatchResult, length, map, slice_index_or, slice_set};
 ghost use Rattle.arrayvec.specs.ArrayVec.{array_vec_len};
 ghost use Rattle.slot_chain.specs.Buffer.{Buffer, ended_of, owner_limit};
 ghost use Rattle.region_cut.specs.Classes.{class_count, slots_of};
-ghost use Rattle.pool_desk.specs.Homes.{AtHome, HomeState, IsAtHome, GivesOne, IsRefused, Draws, kept_in, slot_at, unused_from};
+ghost use Rattle.pool_desk.specs.Homes.{AtHome, HomeState, IsAtHome, GivesOne, IsRefused, Draws, kept_in, slot_at};
+ghost use Rattle.pool_desk.specs.Homes.{unused_from};
 ghost use Rattle.pool_desk.specs.Homes.AtHome.{Kept};
 ghost use Rattle.pool_desk.specs.HomesState.{empties, home_at, slots_at, drawn_at};
 ghost use Rattle.std.specs.List.{flat_map};

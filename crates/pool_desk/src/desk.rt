@@ -1,5 +1,6 @@
 //! A desk that a worker holds.
-ghost use Rattle.std.specs.Prelude.{◌≡◌, ◌≢◌, ◌<◌, ◌≤◌, ◌^◌, ◌↔◌, [], ◌++◌, length, map, All, IsTrue, IsPermutation, Some, None, MatchBool, MatchOption, MatchResult, OnOk, OnErr};
+ghost use Rattle.std.specs.Prelude.{◌≡◌, ◌≢◌, ◌<◌, ◌≤◌, ◌^◌, ◌↔◌, [], ◌++◌, length, map, All, IsTrue, IsPermutation};
+ghost use Rattle.std.specs.Prelude.{Some, None, MatchBool, MatchOption, MatchResult, OnOk, OnErr};
 ghost use Rattle.region_cut.specs.Classes.{classes_of};
 ghost use Rattle.slot_chain.specs.Buffer.{ended_of};
 ghost use Rattle.slot_chain.specs.Counts.{capped, sizes};
@@ -23,11 +24,14 @@ use region_cut::endings::Endings;
 use region_cut::{Class, Part, Slot};
 use slot_chain::{Buf, NoMemory};
 use std::alloc::Global;
+use std::fmt;
 use std::marker::Model;
 
-/// An allocator that a worker holds: its slots at home, and a cache of others' buffers that were freed here.
+/// An allocator that a worker holds: its slots at home, and a cache of others' buffers that were
+/// freed here.
 ///
-/// Nothing of it is shared, so no call waits. Only [`Desk::alloc`] of a slot that was never handed out takes memory, and `list_slots`.
+/// Nothing of it is shared, so no call waits. Only [`Desk::alloc`] of a slot that was never handed
+/// out takes memory, and `list_slots`.
 #[must_use]
 #[derive(Drop)]
 pub struct Desk<'r> {
@@ -94,7 +98,8 @@ impl<'r> Desk<'r> {
         self.cache.bytes()
     }
 
-    /// Whether the cache has more bytes than the limit, so that it is to be posted. Takes constant time.
+    /// Whether the cache has more bytes than the limit, so that it is to be posted. Takes constant
+    /// time.
     pub fn is_due(&self) -> bool
         ensures { IsTrue result ↔ (self.now.limit < sizes self.now.cached) }
     {
@@ -115,8 +120,9 @@ impl<'r> Desk<'r> {
         self.homes.has(class)
     }
 
-    /// Takes a part for a class that has no slot at home, and hands it back with [`DeskError::NotNeeded`] where there is one.
-    /// The chunk keeps its class and its owner until the region's borrow ends. Takes constant time and no memory.
+    /// Takes a part for a class that has no slot at home, and hands it back with
+    /// [`DeskError::NotNeeded`] where there is one. The chunk keeps its class and its owner until
+    /// the region's borrow ends. Takes constant time and no memory.
     pub fn claim(&mut self, part: Part<'r>, class: Class) -> Result<(), (Part<'r>, DeskError)>
         requires { class < classes_of (profile_at self.old) }
         ensures { MatchResult result
@@ -130,9 +136,10 @@ impl<'r> Desk<'r> {
         Ok(())
     }
 
-    /// GivesBucket out a slot at home of the least class that holds `size` bytes: the one that came home last, else the next that was never handed out.
-    /// Only the latter takes memory, for the box of the buffer, which is made first; so a refusal changes nothing. No byte of a slot is written.
-    /// Takes constant time.
+    /// Gives out a slot at home of the least class that holds `size` bytes: the one that came
+    /// home last, else the next that was never handed out. Only the latter takes memory, for the
+    /// box of the buffer, which is made first; so a refusal changes nothing. No byte of a slot is
+    /// written. Takes constant time.
     #[inline(always)]
     pub fn alloc(&mut self, alloc: Global, size: usize) -> Result<Buf<'r>, DeskError>
         ensures { Allocs self.old size result self.new }
@@ -143,7 +150,8 @@ impl<'r> Desk<'r> {
         self.homes.alloc(alloc, class)
     }
 
-    /// Takes an own buffer home, and another into the cache. Always succeeds. Takes constant time and no memory.
+    /// Takes an own buffer home, and another into the cache. Always succeeds. Takes constant time
+    /// and no memory.
     ///
     /// The owner's number is one of the desk's profile.
     #[inline(always)]
@@ -184,7 +192,8 @@ impl<'r> Desk<'r> {
         false
     }
 
-    /// Takes the own buffers of a batch home, and puts the others into the cache with one more forward, to be sent on. Takes no memory.
+    /// Takes the own buffers of a batch home, and puts the others into the cache with one more
+    /// forward, to be sent on. Takes no memory.
     pub fn handle(&mut self, batch: Batch<'r>) -> Counts
         requires address { batch.address ≡ self.old.number }
         requires digits { batch.digits ≡ self.old.digits }
@@ -211,7 +220,8 @@ impl<'r> Desk<'r> {
         self.cache.fault_for(t)
     }
 
-    /// Takes out of the cache all that goes to `t`: the buffers whose owners share more digits with `t` than this desk does. Takes no memory.
+    /// Takes out of the cache all that goes to `t`: the buffers whose owners share more digits with
+    /// `t` than this desk does. Takes no memory.
     pub fn batch_for(&mut self, t: u16) -> Result<Batch<'r>, RouteError>
         ensures same { self.new ≡ record self.old { cached = self.new.cached } }
         ensures value { MatchResult result
@@ -222,8 +232,8 @@ impl<'r> Desk<'r> {
         self.cache.take_bucket_for(t)
     }
 
-    /// Takes out of the cache all that goes to some owner of a buffer in it, or says that it is empty. Takes no memory.
-    /// To post all of the cache, [`Desk::posting`] takes fewer steps.
+    /// Takes out of the cache all that goes to some owner of a buffer in it, or says that it is
+    /// empty. Takes no memory. To post all of the cache, [`Desk::posting`] takes fewer steps.
     pub fn next_batch(&mut self) -> Option<Batch<'r>>
         ensures same { self.new ≡ record self.old { cached = self.new.cached } }
         ensures value { MatchOption result ((self.old.cached ≡ []) × (self.new.cached ≡ []))
@@ -242,10 +252,17 @@ impl<'r> Desk<'r> {
         self.cache.put_back(batch);
     }
 
-    /// The desk without its worker, where its cache is empty. Where it isn't, the desk is handed back as it was: it is unsettled.
+    /// The desk without its worker, where its cache is empty. Where it isn't, the desk is handed
+    /// back as it was: it is unsettled.
     pub fn retire(self) -> Result<IdleDesk<'r>, Desk<'r>>
         ensures { let s = self.entry in MatchResult result
-            (λ d. (s.cached ≡ []) × (d ≡ record { number = s.number; digits = s.digits; limit = s.limit; home = s.home; drawn = s.drawn }))
+            (λ d. (s.cached ≡ []) × (d ≡ record {
+              number = s.number;
+              digits = s.digits;
+              limit = s.limit;
+              home = s.home;
+              drawn = s.drawn;
+            }))
             (λ d. (s.cached ≢ []) × (d ≡ s)) }
     {
         if !self.cache.is_empty() {
@@ -265,7 +282,14 @@ impl<'r> Desk<'r> {
           worker = d.worker;
           home = d.home;
           drawn = d.drawn;
-          posting = record { number = d.number; digits = d.digits; limit = d.limit; round = 0; moves = 0; items = d.cached };
+          posting = record {
+            number = d.number;
+            digits = d.digits;
+            limit = d.limit;
+            round = 0;
+            moves = 0;
+            items = d.cached;
+          };
         } }
     {
         let Desk {
@@ -280,7 +304,8 @@ impl<'r> Desk<'r> {
         }
     }
 
-    /// The number of slots at home, and of buffers in the cache, each at most the greatest `u64`. Takes a walk over them.
+    /// The number of slots at home, and of buffers in the cache, each at most the greatest `u64`.
+    /// Takes a walk over them.
     pub fn counts(&self) -> (u64, u64)
         ensures home { result.0 ≡ capped (length self.now.home) }
         ensures cached { result.1 ≡ capped (length self.now.cached) }
@@ -288,7 +313,8 @@ impl<'r> Desk<'r> {
         (self.homes.count(), self.cache.len())
     }
 
-    /// Adds the slots at home and in the cache to the end of `slots`, each as often as it is there, in no order. Where memory for that is refused, `slots` is as before.
+    /// Adds the slots at home and in the cache to the end of `slots`, each as often as it is there,
+    /// in no order. Where memory for that is refused, `slots` is as before.
     pub fn list_slots(&self, slots: &mut Vec<Slot>) -> Result<(), NoMemory>
         ensures ok { OnOk result (AddsSlots (slots_in self.now.home self.now.cached) slots.old.items slots.new.items) }
         ensures err { OnErr result (slots.new.items ≡ slots.old.items) }
@@ -318,7 +344,8 @@ impl<'r> Desk<'r> {
         self.cache.list_slots(slots)
     }
 
-    /// Lets go the buffers at home and in the cache, and the cursors over its chunks. Takes a walk over the buffers, and no memory.
+    /// Lets go the buffers at home and in the cache, and the cursors over its chunks. Takes a walk
+    /// over the buffers, and no memory.
     pub fn end(self, endings: &mut Endings<'r>)
         ensures chunks { endings.new ≡ record endings.old {
           known = endings.new.known;
@@ -334,5 +361,12 @@ impl<'r> Desk<'r> {
         } = self;
         cache.end(endings);
         homes.end(endings);
+    }
+}
+
+// The buffers are not printed.
+impl fmt::Debug for Desk<'_> {
+    fn fmt<W: fmt::Write>(&self, f: &mut fmt::Formatter<W>) -> fmt::Result {
+        write!(f, "Desk({}, held by {})", self.number(), self.worker)
     }
 }

@@ -17,7 +17,8 @@ pub enum DeskError {
     /// A slot of the class is at home, so a further chunk isn't needed.
     #[error("not needed")]
     NotNeeded,
-    /// The desk's cache isn't empty, so it can't be retired. `Desk::retire` hands the desk back in place of this.
+    /// The desk's cache isn't empty, so it can't be retired. `Desk::retire` hands the desk back in
+    /// place of this.
     #[error("the cache is not empty")]
     Unsettled,
     /// The allocator refused the box of a buffer that was never handed out before.

@@ -1,5 +1,6 @@
 //! The slots at home of one class.
-ghost use Rattle.std.specs.Prelude.{◌≡◌, ◌≢◌, ℕ, ◌<◌, ◌≤◌, ◌↔◌, [], ◌∷◌, ◌++◌, All, IsTrue, IsPermutation, MatchResult, OnOk, OnErr, length, min, ◌^◌, ◌-◌, map};
+ghost use Rattle.std.specs.Prelude.{◌≡◌, ◌≢◌, ℕ, ◌<◌, ◌≤◌, ◌↔◌, [], ◌∷◌, ◌++◌, All, IsTrue, IsPermutation};
+ghost use Rattle.std.specs.Prelude.{MatchResult, OnOk, OnErr, length, min, ◌^◌, ◌-◌, map};
 ghost use Rattle.slot_chain.specs.Buffer.{Buffer, ended_of, owner_limit};
 ghost use Rattle.pool_desk.specs.Homes.{AtHome, IsAtHome, GivesOne, IsRefused, Draws, kept_in, slot_at, unused_from};
 ghost use Rattle.pool_desk.specs.NextSlots.{GivesNextSlot};
@@ -15,7 +16,8 @@ use slot_chain::{Buf, Chain, NoMemory, Room};
 use std::alloc::Global;
 use std::marker::Model;
 
-/// The buffers of one class that came home, and the slots of the chunk drawn last that were never handed out.
+/// The buffers of one class that came home, and the slots of the chunk drawn last that were never
+/// handed out.
 #[derive(Drop)]
 pub(crate) struct Home<'r> {
     owner: u16,
@@ -41,7 +43,8 @@ impl<'r> Model for Home<'r> {
       drawn = open_chunk h.bump ++ h.ties.all;
     } };
 
-    ghost invariant = { λ h. (h.owner < owner_limit) × All (λ (b : Buffer). (b.owner ≡ h.owner) × (b.class ≡ h.class)) h.list
+    ghost invariant = { λ h. (h.owner < owner_limit)
+        × All (λ (b : Buffer). (b.owner ≡ h.owner) × (b.class ≡ h.class)) h.list
         × IfSome h.bump (λ (b : Bump). b.class ≡ h.class) };
 }
 

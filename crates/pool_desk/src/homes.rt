@@ -1,5 +1,6 @@
 //! All slots at home of one owner.
-ghost use Rattle.std.specs.Prelude.{◌≡◌, ◌≢◌, ◌<◌, ◌↔◌, [], ◌∷◌, ◌++◌, IsTrue, IsPermutation, MatchResult, OnOk, OnErr, All, length, map};
+ghost use Rattle.std.specs.Prelude.{◌≡◌, ◌≢◌, ◌<◌, ◌↔◌, [], ◌∷◌, ◌++◌, IsTrue, IsPermutation, MatchResult, OnOk};
+ghost use Rattle.std.specs.Prelude.{OnErr, All, length, map};
 ghost use Rattle.region_cut.specs.Classes.{slots_of};
 ghost use Rattle.slot_chain.specs.Buffer.{ended_of, owner_limit};
 ghost use Rattle.slot_chain.specs.Counts.{capped};
@@ -16,7 +17,8 @@ use slot_chain::{Buf, NoMemory};
 use std::alloc::Global;
 use std::marker::Model;
 
-/// The slots at home of all classes, and what is known of all chunks that were claimed. There is a home for each of the 20 classes, also for those that the profile doesn't use.
+/// The slots at home of all classes, and what is known of all chunks that were claimed. There is a
+/// home for each of the 20 classes, also for those that the profile doesn't use.
 #[derive(Drop)]
 pub(crate) struct Homes<'r> {
     owner: u16,
@@ -78,7 +80,8 @@ impl<'r> Homes<'r> {
         self.by_class[class.number() as usize].claim(part);
     }
 
-    /// Gives out a slot of the class: the one that came last, else the next that was never handed out.
+    /// Gives out a slot of the class: the one that came last, else the next that was never handed
+    /// out.
     pub(crate) fn alloc(&mut self, alloc: Global, class: Class) -> Result<Buf<'r>, DeskError>
         ensures same { self.new ≡ record self.old { slots = self.new.slots; drawn = self.new.drawn } }
         ensures value { MatchResult result

@@ -14,9 +14,11 @@ use digit_route::{Cache, Digits};
 use region_cut::Slot;
 use region_cut::endings::Endings;
 use slot_chain::NoMemory;
+use std::fmt;
 use std::marker::Model;
 
-/// An allocator that no worker holds. Nothing is in its cache; its slots at home stay, for the worker that adopts it.
+/// An allocator that no worker holds. Nothing is in its cache; its slots at home stay, for the
+/// worker that adopts it.
 #[must_use]
 #[derive(Drop)]
 pub struct IdleDesk<'r> {
@@ -42,8 +44,9 @@ impl<'r> Model for IdleDesk<'r> {
 }
 
 impl<'r> IdleDesk<'r> {
-    /// A desk of this number with nothing at home. Owner numbers are read by `digits`, whose profile says which numbers and classes there are.
-    /// Its cache is due where it has more than `limit` bytes, at most a mebibyte.
+    /// A desk of this number with nothing at home. Owner numbers are read by `digits`, whose
+    /// profile says which numbers and classes there are. Its cache is due where it has more than
+    /// `limit` bytes, at most a mebibyte.
     pub fn new(number: u16, digits: Digits, limit: u64) -> IdleDesk<'r>
         requires number { number < 2 ^ digits.bits }
         requires limit { limit ≤ largest_limit }
@@ -106,7 +109,8 @@ impl<'r> IdleDesk<'r> {
         }
     }
 
-    /// The number of slots at home, and of buffers in the cache, which are none; each at most the greatest `u64`. Takes a walk over them.
+    /// The number of slots at home, and of buffers in the cache, which are none; each at most the
+    /// greatest `u64`. Takes a walk over them.
     pub fn counts(&self) -> (u64, u64)
         ensures home { result.0 ≡ capped (length self.now.home) }
         ensures cached { result.1 ≡ 0 }
@@ -114,7 +118,8 @@ impl<'r> IdleDesk<'r> {
         (self.homes.count(), 0)
     }
 
-    /// Adds the slots at home to the end of `slots`, each as often as it is there, in no order. Where memory for that is refused, `slots` is as before.
+    /// Adds the slots at home to the end of `slots`, each as often as it is there, in no order.
+    /// Where memory for that is refused, `slots` is as before.
     pub fn list_slots(&self, slots: &mut Vec<Slot>) -> Result<(), NoMemory>
         ensures ok { OnOk result (AddsSlots (slots_in self.now.home []) slots.old.items slots.new.items) }
         ensures err { OnErr result (slots.new.items ≡ slots.old.items) }
@@ -122,7 +127,8 @@ impl<'r> IdleDesk<'r> {
         self.homes.list_slots(slots)
     }
 
-    /// Lets go the buffers at home, and the cursors over its chunks. Takes a walk over the buffers, and no memory.
+    /// Lets go the buffers at home, and the cursors over its chunks. Takes a walk over the buffers,
+    /// and no memory.
     pub fn end(self, endings: &mut Endings<'r>)
         ensures { endings.new ≡ record {
           known = map ended_of (kept_in self.entry.home) ++ endings.old.known;
@@ -131,5 +137,12 @@ impl<'r> IdleDesk<'r> {
     {
         let IdleDesk { homes, cache: _ } = self;
         homes.end(endings);
+    }
+}
+
+// The buffers are not printed.
+impl fmt::Debug for IdleDesk<'_> {
+    fn fmt<W: fmt::Write>(&self, f: &mut fmt::Formatter<W>) -> fmt::Result {
+        write!(f, "IdleDesk({})", self.number())
     }
 }

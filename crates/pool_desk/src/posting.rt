@@ -8,9 +8,11 @@ ghost use Rattle.digit_route.specs.Route.{GivesBucket};
 use crate::desk::Desk;
 use crate::homes::Homes;
 use digit_route::{Batch, Posting};
+use std::fmt;
 use std::marker::Model;
 
-/// A desk whose cache is being posted, round by round. [`DeskPosting::end`] or [`DeskPosting::refused`] gives the desk back.
+/// A desk whose cache is being posted, round by round. [`DeskPosting::end`] or
+/// [`DeskPosting::refused`] gives the desk back.
 #[must_use]
 #[derive(Drop)]
 pub struct DeskPosting<'r> {
@@ -25,13 +27,19 @@ impl<'r> Model for DeskPosting<'r> {
 
     ghost Value = { DeskPostingState };
 
-    ghost view = { λ d. record { worker = d.worker; home = d.homes.slots; drawn = d.homes.drawn; posting = d.posting } };
+    ghost view = { λ d. record {
+      worker = d.worker;
+      home = d.homes.slots;
+      drawn = d.homes.drawn;
+      posting = d.posting;
+    } };
 
     ghost invariant = { λ d. d.homes.owner ≡ d.posting.number };
 }
 
 impl<'r> DeskPosting<'r> {
-    /// Takes out all that goes to some owner of a buffer that is left, or says that nothing is left. Takes no memory.
+    /// Takes out all that goes to some owner of a buffer that is left, or says that nothing is
+    /// left. Takes no memory.
     pub fn next_batch(&mut self) -> Option<Batch<'r>>
         ensures same { self.new ≡ record self.old {
           posting =
@@ -42,14 +50,16 @@ impl<'r> DeskPosting<'r> {
               };
         } }
         ensures value { MatchOption result ((self.old.posting.items ≡ []) × (self.new.posting.items ≡ []))
-            (λ b. GivesBucket self.old.posting.digits self.old.posting.number self.old.posting.items b self.new.posting.items) }
-        // rounds come in order: the buffers given share just as many digits with the desk as the round's number, those that are left no fewer
+            (λ b. let p = self.old.posting in GivesBucket p.digits p.number p.items b self.new.posting.items) }
+        // rounds come in order: the buffers given share just as many digits with the desk as the
+        // round's number, those that are left no fewer
         ensures here { let p = self.old.posting in IfSome result (λ b.
             All (λ (x : Buffer). common p.digits x.owner p.number ≡ self.new.posting.round) b.items) }
         ensures left { let p = self.old.posting in
             All (λ (x : Buffer). self.new.posting.round ≤ common p.digits x.owner p.number) self.new.posting.items }
         ensures later { self.old.posting.round ≤ self.new.posting.round }
-        ensures counted { all_moves self.old.posting < 2 ^ 64 → all_moves self.new.posting ≡ all_moves self.old.posting }
+        ensures counted { all_moves self.old.posting < 2 ^ 64
+            → all_moves self.new.posting ≡ all_moves self.old.posting }
     {
         self.posting.next_batch()
     }
@@ -80,7 +90,8 @@ impl<'r> DeskPosting<'r> {
         }
     }
 
-    /// The desk, with what is left and a batch of this desk that could not be posted in its cache. Takes no memory.
+    /// The desk, with what is left and a batch of this desk that could not be posted in its cache.
+    /// Takes no memory.
     pub fn refused(self, batch: Batch<'r>) -> Desk<'r>
         requires sender { batch.sender ≡ self.posting.number }
         requires digits { batch.digits ≡ self.posting.digits }
@@ -106,5 +117,12 @@ impl<'r> DeskPosting<'r> {
             homes,
             cache: posting.put_back(batch),
         }
+    }
+}
+
+// The buffers are not printed.
+impl fmt::Debug for DeskPosting<'_> {
+    fn fmt<W: fmt::Write>(&self, f: &mut fmt::Formatter<W>) -> fmt::Result {
+        write!(f, "DeskPosting(held by {})", self.worker)
     }
 }

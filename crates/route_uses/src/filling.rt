@@ -7,7 +7,8 @@ use region_cut::Bump;
 use slot_chain::{NoMemory, Room};
 use std::alloc::Global;
 
-/// Offers a new buffer to the cache for each owner, as long as the chunk has slots. Says how many it took.
+/// Offers a new buffer to the cache for each owner, as long as the chunk has slots. Says how many
+/// it took.
 pub fn fill<'r>(
     alloc: Global,
     bump: &mut Bump<'r>,

@@ -4,8 +4,9 @@ ghost use Rattle.std.specs.Prelude.{◌≡◌, [], ◌∷◌, ◌++◌, MatchOpt
 use digit_route::Cache;
 use slot_chain::Buf;
 
-/// Puts a buffer into the cache, or hands it back where the cache may not have it: where it is the desk's own, has an
-/// owner out of the profile's range, or was passed on more often than its owner shares digits with the desk.
+/// Puts a buffer into the cache, or hands it back where the cache may not have it: where it is the
+/// desk's own, has an owner out of the profile's range, or was passed on more often than its owner
+/// shares digits with the desk.
 pub fn offer<'r>(cache: &mut Cache<'r>, buf: Buf<'r>) -> Option<Buf<'r>>
     ensures same { cache.new ≡ record cache.old { items = cache.new.items } }
     ensures items { MatchOption result

@@ -5,7 +5,8 @@ use digit_route::{Batch, BatchSink};
 use slot_chain::NoMemory;
 use std::alloc::Global;
 
-/// Batches that were posted. It takes no memory after it was made, and refuses a batch where it is full.
+/// Batches that were posted. It takes no memory after it was made, and refuses a batch where it is
+/// full.
 #[derive(Drop)]
 pub struct Shelf<'r> {
     pub batches: Vec<Batch<'r>>,

@@ -1,4 +1,5 @@
-//! What is written through a desk's buffers is what the region holds when its borrow ends, also where a class went on to a second chunk.
+//! What is written through a desk's buffers is what the region holds when its borrow ends, also
+//! where a class went on to a second chunk.
 use super::{
     Play, bytes_of, claim, class, counts_are, desk, free_is, hold, lend_some, parts_or_not,
 };
@@ -24,7 +25,8 @@ fn write_some<'r>(rt: &impl Abort, desk: &mut Desk<'r>, count: u32, lent: &mut C
     }
 }
 
-// Class 12 has 12 slots of 320 bytes, and 256 bytes at a chunk's end that are in no slot. All slots of two chunks are lent, and then written.
+// Class 12 has 12 slots of 320 bytes, and 256 bytes at a chunk's end that are in no slot. All slots
+// of two chunks are lent, and then written.
 pub(crate) fn writes<'r>(
     rt: &impl Abort,
     alloc: Global,

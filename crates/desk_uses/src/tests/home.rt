@@ -83,7 +83,8 @@ fn at_most_one(rt: &impl Abort, desk: &Desk<'_>, lent: &Chain<'_>) {
     assert!(rt; lent.len() >= 7);
 }
 
-// Of the eight slots each is given out at its first try, but for one where an allocation is refused.
+// Of the eight slots each is given out at its first try, but for one where an allocation is
+// refused.
 pub(crate) fn gives_all<'r>(
     rt: &impl Abort,
     alloc: Global,

@@ -75,7 +75,8 @@ fn list_left(rt: &impl Abort, alloc: Global, idle: &IdleDesk<'_>) {
     check(rt, slots.as_slice());
 }
 
-// The first slot stays lent, the second comes home, and the third is given to the caller. Six were never handed out.
+// The first slot stays lent, the second comes home, and the third is given to the caller. Six were
+// never handed out.
 fn spread<'r>(
     rt: &impl Abort,
     alloc: Global,

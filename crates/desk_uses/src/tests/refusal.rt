@@ -1,11 +1,13 @@
 //! Why a desk refuses.
 use super::{
-    Play, alloc_from, claim, claim_or_not, class, counts_are, hold, lend, parts, plays, region,
+    Play, alloc_from, claim, claim_or_not, class, counts_are, desk, hold, lend, parts, plays,
+    region, retired,
 };
 use digit_route::Digits;
 use pool_desk::{Desk, DeskError, IdleDesk};
 use region_cut::{Class, Part};
 use std::alloc::Global;
+use std::fmt::Debug;
 use std::process::Abort;
 
 // The last of the chunks comes back where it isn't needed.
@@ -76,6 +78,26 @@ fn has_numbers_and_words(rt: HostRuntime) {
         "the cache is not empty",
     );
     check(&rt, alloc, DeskError::NoMemory, 5, "no memory");
+}
+
+// How a value is printed, also where memory for that is refused once.
+fn check_debug(rt: &impl Abort, alloc: Global, value: &impl Debug, words: &str) {
+    let text = match format!(in alloc; "{value:?}") {
+        Ok(text) => text,
+        Err(_) => format!(in alloc; "{value:?}").expect(rt, "memory is there again"),
+    };
+    assert!(rt; text.as_str() == words);
+}
+
+#[test]
+fn desks_are_printed_without_their_slots(rt: HostRuntime) {
+    let alloc = rt.alloc();
+    let desk = desk(&rt, 1);
+    check_debug(&rt, alloc, &desk, "Desk(1, held by 9)");
+    let posting = desk.posting();
+    check_debug(&rt, alloc, &posting, "DeskPosting(held by 9)");
+    let idle = retired(&rt, posting.end());
+    check_debug(&rt, alloc, &idle, "IdleDesk(1)");
 }
 
 // A desk of the profile with 4,096 desks, whose classes go up to 1,024 bytes.

@@ -1,4 +1,5 @@
-//! Four desks, driven by hand. With digits of 2 bits 0 is 0,0,0; 7 is 3,1,0; 11 is 3,2,0; 27 is 3,2,1.
+//! Four desks, driven by hand. With digits of 2 bits 0 is 0,0,0; 7 is 3,1,0; 11 is 3,2,0; 27 is
+//! 3,2,1.
 use super::{alloc_from, claim, class, counts, desk, free_is, handle, lend, parts, region};
 use digit_route::RouteError;
 use pool_desk::{Desk, Freed};

@@ -1,4 +1,5 @@
-//! Lists of slots, also where their growth is refused. Run these with each allocation failing in turn.
+//! Lists of slots, also where their growth is refused. Run these with each allocation failing in
+//! turn.
 use crate::tests::samples::{filled_in, take};
 use digit_route::{Batch, Cache};
 use region_cut::Slot;

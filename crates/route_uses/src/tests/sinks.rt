@@ -6,7 +6,8 @@ use slot_chain::NoMemory;
 use std::alloc::Global;
 use std::process::Abort;
 
-// Posts onto a shelf with so much room, which has to take `given` batches. Gives what is left, and the moves.
+// Posts onto a shelf with so much room, which has to take `given` batches. Gives what is left, and
+// the moves.
 fn post<'r>(
     rt: &impl Abort,
     alloc: Global,
@@ -45,8 +46,8 @@ fn posts_all(rt: HostRuntime) {
     }
 }
 
-// A shelf with room for so many of five batches, how many are left, the moves until it refused one, and the moves of
-// the posting that gives what was left.
+// A shelf with room for so many of five batches, how many are left, the moves until it refused one,
+// and the moves of the posting that gives what was left.
 type Row = (usize, usize, u64, u64);
 
 fn post_twice(rt: &impl Abort, alloc: Global, cache: Cache<'_>, row: Row) -> Result<(), NoMemory> {
