@@ -83,10 +83,11 @@ impl<'r> DeskPosting<'r> {
             homes,
             posting,
         } = self;
+        let cache = posting.end();
         Desk {
             worker,
             homes,
-            cache: posting.end(),
+            cache,
         }
     }
 
@@ -112,10 +113,11 @@ impl<'r> DeskPosting<'r> {
             homes,
             posting,
         } = self;
+        let cache = posting.put_back(batch);
         Desk {
             worker,
             homes,
-            cache: posting.put_back(batch),
+            cache,
         }
     }
 }
