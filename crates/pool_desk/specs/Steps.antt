@@ -52,12 +52,14 @@ freed b = record b { forwards = 0 }
 -- another's buffer goes into the cache
 abbrev pub Caches : DeskState → Buffer → DeskState → Type 0
 Caches old b new =
-    (b.owner ≢ old.number) × (new ≡ record old { cached = new.cached }) × IsPermutation (freed b ∷ old.cached) new.cached
+    (b.owner ≢ old.number) × (new ≡ record old { cached = new.cached })
+    × IsPermutation (freed b ∷ old.cached) new.cached
 
 -- an own buffer goes home, another into the cache, which is due exactly where its bytes are then more than the limit
 abbrev pub Frees : DeskState → Buffer → Freed → DeskState → Type 0
 Frees old b Home new =
-    (b.owner ≡ old.number) × (new ≡ record old { home = new.home }) × IsPermutation (Kept (freed b) ∷ old.home) new.home
+    (b.owner ≡ old.number) × (new ≡ record old { home = new.home })
+    × IsPermutation (Kept (freed b) ∷ old.home) new.home
 Frees old b Cached new = Caches old b new × (sizes new.cached ≤ old.limit)
 Frees old b Due new = Caches old b new × (old.limit < sizes new.cached)
 
