@@ -9,6 +9,5 @@ pub mod PostLaws
 pub mod RiseLaws
 pub mod RunLaws
 pub mod SeatLaws
-pub mod machine
 pub mod headline
 pub mod StepLaws

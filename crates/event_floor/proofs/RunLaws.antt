@@ -1,9 +1,9 @@
 -- Runs, one request longer.
 use Rattle.std.proofs.Common.{◌≡◌, List, [], ◌∷◌, ◌++◌, refl, subst}
 use Rattle.std.specs.Prelude.{Result, Ok, Err, IfOk, IfErr, OnErr}
-use Rattle.event_floor.specs.declared.request.Request.{Request}
-use Rattle.event_floor.specs.declared.reply.Reply.{Reply}
-use Rattle.event_floor.specs.declared.refusal.Refusal.{Refusal}
+use Rattle.pool_machine.specs.declared.request.Request.{Request}
+use Rattle.pool_machine.specs.declared.reply.Reply.{Reply}
+use Rattle.pool_machine.specs.declared.refusal.Refusal.{Refusal}
 use Rattle.event_floor.specs.Floors.{FloorSeen}
 use Rattle.event_floor.specs.Runs.{Answers, Runs}
 use Rattle.event_floor.specs.Steps.{Does, Refuses}

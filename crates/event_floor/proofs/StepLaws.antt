@@ -1,7 +1,6 @@
 -- What the calls of the parts of a floor come to, in the words of its steps.
 use Rattle.std.proofs.Common.{◌≡◌, ℕ, ◌+◌, ◌<◌, ◌≤◌, List, [], ◌∷◌, ◌++◌, length, set, refl, sym, ap, ◌∙◌, subst}
-use Rattle.std.specs.Prelude.{Option, Some, None, Result, Ok, Err, IfErr}
-use Rattle.std.specs.Result.{IsErrAnd}
+use Rattle.std.specs.Prelude.{Option, Some, None, Ok}
 use Rattle.std.specs.List.{slice_get}
 use Rattle.region_cut.specs.Parts.{name_of, bytes_of}
 use Rattle.region_cut.specs.Classes.{largest_of}
@@ -29,9 +28,9 @@ use Rattle.event_floor.specs.Floors.{FloorSeen, IsHeld, with_desk, last_number}
 use Rattle.event_floor.specs.Steps.{Refuses, Does, DrawsChunk, LendsSlot, TakesBack, SendsBatch, TakesFront, Routes, class_limit}
 use Rattle.event_floor.specs.Answers.{reply_of, refusal_of, route_refusal}
 use Rattle.event_floor.specs.Lent.{lent_at, place_of}
-use Rattle.event_floor.specs.declared.request.Request.TheVariants.{Alloc, Free, Send}
-use Rattle.event_floor.specs.declared.reply.Reply.{Reply}
-use Rattle.event_floor.specs.declared.refusal.Refusal.{Refusal}
+use Rattle.pool_machine.specs.declared.request.Request.TheVariants.{Alloc, Free, Send}
+use Rattle.pool_machine.specs.declared.reply.Reply.{Reply}
+use Rattle.pool_machine.specs.declared.refusal.Refusal.{Refusal}
 
 pub draws_chunk : (v w : FloorSeen) (a class k n : ℕ) (d d' : DeskState) (p : Part) (old new : ChunksSeen)
     → v ≡ w → IsHeld v a d → n ≡ class → class < class_limit v → v.chunks ≡ length old.parts → v.parts ≡ old.parts → v.drawn ≡ old.drawn
@@ -63,10 +62,9 @@ alloc_fault v a size d NotNeeded held n f = absurd f
 alloc_fault v a size d Unsettled held n f = absurd f
 alloc_fault v a size d NoMemory held n f = (d, held, f)
 
-pub alloc_refused : (v w : FloorSeen) (a size : ℕ) (d : DeskState) (e : DeskError) (r : Result Reply Refusal) → v ≡ w → IsHeld v a d → IsNumbered v.digits v.limit a (Held d)
-    → AllocFault d size e → IsErrAnd r (λ refusal. refusal ≡ refusal_of e) → IfErr r (λ refusal. Refuses w (Alloc a size) refusal)
-alloc_refused v w a size d e (Ok reply) same held n f is = tt
-alloc_refused v w a size d e (Err refusal) same held n f is =
+pub alloc_refused : (v w : FloorSeen) (a size : ℕ) (d : DeskState) (e : DeskError) (refusal : Refusal) → v ≡ w → IsHeld v a d → IsNumbered v.digits v.limit a (Held d)
+    → AllocFault d size e → refusal ≡ refusal_of e → Refuses w (Alloc a size) refusal
+alloc_refused v w a size d e refusal same held n f is =
     subst (λ (z : FloorSeen). Refuses z (Alloc a size) refusal) same (subst (λ z. Refuses v (Alloc a size) z) (sym is) (alloc_fault v a size d e held n f))
 
 pub lends_slot : (v w : FloorSeen) (a size : ℕ) (slot : Slot) (d d' : DeskState) (b : Buffer) (lent : List (Option Buffer)) → v ≡ w → IsHeld v a d → Allocs d size (Ok b) d'

@@ -5,10 +5,10 @@ use Rattle.pool_desk.specs.declared.error.DeskError.{DeskError}
 use Rattle.pool_desk.specs.declared.error.DeskError.TheVariants.{TooLarge as DeskTooLarge, NeedChunk as DeskNeedChunk, NotNeeded as DeskNotNeeded, Unsettled as DeskUnsettled, NoMemory as DeskNoMemory}
 use Rattle.pool_desk.specs.declared.freed.Freed.{Freed}
 use Rattle.pool_desk.specs.declared.freed.Freed.TheVariants.{Home as FreedHome, Cached as FreedCached, Due as FreedDue}
-use Rattle.event_floor.specs.declared.reply.Reply.{Reply}
-use Rattle.event_floor.specs.declared.reply.Reply.TheVariants.{Home, Cached, Due}
-use Rattle.event_floor.specs.declared.refusal.Refusal.{Refusal}
-use Rattle.event_floor.specs.declared.refusal.Refusal.TheVariants.{TooLarge, NeedChunk, NotNeeded, Unsettled, NoMemory, ToSelf, NothingFor, NotAnOwner}
+use Rattle.pool_machine.specs.declared.reply.Reply.{Reply}
+use Rattle.pool_machine.specs.declared.reply.Reply.TheVariants.{Home, Cached, Due}
+use Rattle.pool_machine.specs.declared.refusal.Refusal.{Refusal}
+use Rattle.pool_machine.specs.declared.refusal.Refusal.TheVariants.{TooLarge, NeedChunk, NotNeeded, Unsettled, NoMemory, ToSelf, NothingFor, NotAnOwner}
 
 abbrev pub reply_of : Freed → Reply
 reply_of FreedHome = Home

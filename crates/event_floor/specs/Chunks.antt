@@ -4,13 +4,13 @@ use Rattle.std.specs.Borrow.{GName}
 use Rattle.region_cut.specs.declared.part.Part.{Part}
 use Rattle.region_cut.specs.Ended.{Ended}
 use Rattle.region_cut.specs.Parts.{number_of, name_of, bytes_of, numbers_from}
-use Rattle.event_floor.specs.declared.chunks.Drawn.{Drawn}
+use Rattle.pool_machine.specs.declared.chunk.DrawnChunk.{DrawnChunk}
 
 -- the names of the parts of all chunks, the chunks that are drawn, and the bytes of the parts of the others, all in the order of
 -- their numbers
 pub record ChunksSeen : Type 0 where
   pub parts : List GName
-  pub drawn : List Drawn
+  pub drawn : List DrawnChunk
   pub undrawn : List (List ℕ)
 
 -- the parts are numbered from 0, at most 1,024 of them, as a cut gives them
@@ -38,5 +38,5 @@ ended_parts (x ∷ xs) (b ∷ bs) = record { name = x; bytes = b } ∷ ended_par
 ended_parts xs bs = []
 
 -- the class of a chunk, where it is drawn
-abbrev pub class_drawn : List Drawn → ℕ → Option ℕ
-class_drawn drawn chunk = option_map (λ (d : Drawn). d.class) (slice_get drawn chunk)
+abbrev pub class_drawn : List DrawnChunk → ℕ → Option ℕ
+class_drawn drawn chunk = option_map (λ (d : DrawnChunk). d.class) (slice_get drawn chunk)

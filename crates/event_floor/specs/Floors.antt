@@ -8,7 +8,7 @@ use Rattle.slot_chain.specs.Buffer.{Buffer}
 use Rattle.digit_route.specs.Digits.{Scheme}
 use Rattle.digit_route.specs.Profiles.{profile_of}
 use Rattle.pool_desk.specs.Desks.{IdleState, DeskState}
-use Rattle.event_floor.specs.declared.chunks.Drawn.{Drawn}
+use Rattle.pool_machine.specs.declared.chunk.DrawnChunk.{DrawnChunk}
 use Rattle.event_floor.specs.declared.seat.Seat.{Seat}
 use Rattle.event_floor.specs.declared.seat.Seat.TheVariants.{Idle, Held}
 use Rattle.event_floor.specs.Seats.{idle_seats, new_desk, home_of, cached_of, IsNumbered, HasPlace}
@@ -22,7 +22,7 @@ pub record FloorSeen : Type 0 where
   pub limit : ℕ
   pub chunks : ℕ
   pub parts : List GName
-  pub drawn : List Drawn
+  pub drawn : List DrawnChunk
   pub undrawn : List (List ℕ)
   pub desks : List Seat
   pub lent : List (Option Buffer)

@@ -4,9 +4,7 @@ pub mod Floors
 pub mod Halves
 pub mod Lent
 pub mod Posted
-pub mod Refusals
 pub mod Runs
 pub mod Seats
 pub mod Steps
-pub mod machine
 pub mod headline

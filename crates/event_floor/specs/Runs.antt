@@ -1,8 +1,8 @@
 -- What a list of requests does to a floor.
 use Rattle.std.specs.Prelude.{◌≡◌, List, [], ◌∷◌, Result, Ok, Err}
-use Rattle.event_floor.specs.declared.request.Request.{Request}
-use Rattle.event_floor.specs.declared.reply.Reply.{Reply}
-use Rattle.event_floor.specs.declared.refusal.Refusal.{Refusal}
+use Rattle.pool_machine.specs.declared.request.Request.{Request}
+use Rattle.pool_machine.specs.declared.reply.Reply.{Reply}
+use Rattle.pool_machine.specs.declared.refusal.Refusal.{Refusal}
 use Rattle.event_floor.specs.Floors.{FloorSeen}
 use Rattle.event_floor.specs.Steps.{Does, Refuses}
 

@@ -6,24 +6,18 @@ ghost use Rattle.region_cut.specs.Parts.{name_of, bytes_of};
 ghost use Rattle.region_cut.specs.declared.part.Part.{Part};
 
 use crate::part_names::{PartNames, names_of};
+use pool_machine::DrawnChunk;
 use region_cut::{Class, Endings, Part};
 use slot_chain::NoMemory;
 use std::alloc::Global;
 use std::marker::Model;
-
-/// A drawn chunk: the desk that drew it, and the class that it was drawn for.
-#[derive(Clone, Copy)]
-pub(crate) struct Drawn {
-    pub(crate) owner: u32,
-    pub(crate) class: Class,
-}
 
 /// All chunks of a region. They are drawn in the order of their numbers.
 #[derive(Drop)]
 pub(crate) struct Chunks<'r> {
     // the least number is last
     undrawn: Vec<Part<'r>>,
-    drawn: Vec<Drawn>,
+    drawn: Vec<DrawnChunk>,
     names: PartNames,
 }
 
@@ -71,7 +65,7 @@ impl<'r> Chunks<'r> {
             × (self.new ≡ record self.old { drawn = self.old.drawn ++ record { owner = owner; class = class } ∷ []; undrawn = self.new.undrawn })) }
     {
         let part = self.undrawn.pop()?;
-        self.drawn.push_reserved(Drawn { owner, class });
+        self.drawn.push_reserved(DrawnChunk { owner, class });
         Some(part)
     }
 

@@ -14,8 +14,8 @@ ghost use Rattle.event_floor.specs.headline.Headline.{Applies, Headline, Shows};
 ghost use Rattle.event_floor.specs.headline.Known.{EndsKnown};
 ghost use Rattle.event_floor.specs.headline.Listing.{listing_of};
 ghost use Rattle.event_floor.specs.headline.Names.{IsNamed};
-ghost use Rattle.event_floor.specs.machine.Listing.{Shown};
-ghost use Rattle.event_floor.specs.machine.State.{opening as machine_opening};
+ghost use Rattle.pool_machine.specs.Listing.{Shown};
+ghost use Rattle.pool_machine.specs.State.{opening as machine_opening};
 
 use crate::lists::Lists;
 use crate::{Refusal, Reply, Request};

@@ -2,7 +2,7 @@
 ghost use Rattle.std.specs.Prelude.{◌≡◌, IfOk, IfErr, OnErr};
 ghost use Rattle.event_floor.specs.Floors.{desk_count};
 ghost use Rattle.event_floor.specs.Steps.{Does, Refuses};
-ghost use Rattle.event_floor.specs.declared.request.Request.TheVariants.{Adopt, Retire};
+ghost use Rattle.pool_machine.specs.declared.request.Request.TheVariants.{Adopt, Retire};
 
 use crate::lists::Lists;
 use crate::seat::{Seat, hold, release};

@@ -4,8 +4,9 @@ ghost use Rattle.region_cut.specs.Classes.{classes_of};
 ghost use Rattle.digit_route.specs.Profiles.{profile_of};
 ghost use Rattle.event_floor.specs.Floors.{desk_count};
 ghost use Rattle.event_floor.specs.Steps.{Does, Refuses};
-ghost use Rattle.event_floor.specs.declared.request.Request.TheVariants.{Claim, Alloc, Free};
+ghost use Rattle.pool_machine.specs.declared.request.Request.TheVariants.{Claim, Alloc, Free};
 
+use crate::answers::{refusal_by_desk, reply_of_free};
 use crate::lists::Lists;
 use crate::seat::Seat;
 use crate::{Refusal, Reply};
@@ -68,10 +69,14 @@ impl<'r> Lists<'r> {
         let Seat::Held(desk) = &mut self.desks[place] else {
             return Err(Refusal::Idle);
         };
-        let buf = desk.alloc(alloc, size as usize)?;
-        let slot = buf.slot();
-        self.lent.put(buf);
-        Ok(Reply::Slot(slot))
+        match desk.alloc(alloc, size as usize) {
+            Ok(buf) => {
+                let slot = buf.slot();
+                self.lent.put(buf);
+                Ok(Reply::Slot(slot))
+            }
+            Err(error) => Err(refusal_by_desk(error)),
+        }
     }
 
     pub(crate) fn free(&mut self, a: u32, chunk: u32, index: u32) -> Result<Reply, Refusal>
@@ -90,6 +95,6 @@ impl<'r> Lists<'r> {
         let Some(buf) = self.lent.take(chunk, index) else {
             return Err(Refusal::NotLent);
         };
-        Ok(Reply::from(desk.free(buf)))
+        Ok(reply_of_free(desk.free(buf)))
     }
 }

@@ -4,6 +4,7 @@
 //! checked. A request is accepted and answered, or it is refused by name and changes nothing.
 #![tactic(auto)]
 
+mod answers;
 mod chunks;
 mod ending;
 mod floor;
@@ -17,15 +18,10 @@ mod lent;
 mod lists;
 pub mod naming;
 mod part_names;
-mod refusal;
-mod reply;
-mod request;
 mod seat;
 mod sending;
 mod telling;
 mod waiting;
 
 pub use floor::Floor;
-pub use refusal::Refusal;
-pub use reply::Reply;
-pub use request::Request;
+pub use pool_machine::{Refusal, Reply, Request};

@@ -2,8 +2,9 @@
 ghost use Rattle.std.specs.Prelude.{◌≡◌, IfOk, IfErr, OnErr};
 ghost use Rattle.event_floor.specs.Floors.{desk_count};
 ghost use Rattle.event_floor.specs.Steps.{Does, Refuses};
-ghost use Rattle.event_floor.specs.declared.request.Request.TheVariants.{Send, Link, Take};
+ghost use Rattle.pool_machine.specs.declared.request.Request.TheVariants.{Send, Link, Take};
 
+use crate::answers::refusal_by_route;
 use crate::lists::Lists;
 use crate::seat::Seat;
 use crate::{Refusal, Reply};
@@ -25,7 +26,7 @@ impl<'r> Lists<'r> {
             return Err(Refusal::Idle);
         };
         match desk.fault_for(t as u16) {
-            Some(fault) => return Err(Refusal::from(fault)),
+            Some(fault) => return Err(refusal_by_route(fault)),
             None => {}
         }
         if self.next > LAST_NUMBER {

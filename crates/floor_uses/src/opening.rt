@@ -1,8 +1,8 @@
 //! A floor over a region.
 ghost use Rattle.std.specs.Prelude.{◌≤◌, ◌^◌, ◌/◌, length, IfSome};
 ghost use Rattle.event_floor.specs.headline.Listing.{listing_of};
-ghost use Rattle.event_floor.specs.machine.Listing.{Shown};
-ghost use Rattle.event_floor.specs.machine.State.{opening};
+ghost use Rattle.pool_machine.specs.Listing.{Shown};
+ghost use Rattle.pool_machine.specs.State.{opening};
 
 use digit_route::Digits;
 use event_floor::Floor;

@@ -10,12 +10,12 @@ use Rattle.event_floor.specs.declared.seat.Seat.{Seat}
 use Rattle.event_floor.specs.declared.seat.Seat.TheVariants.{Idle, Held}
 use Rattle.event_floor.specs.Seats.{home_of}
 use Rattle.event_floor.specs.Floors.{FloorSeen, desk_at, IsHeld}
-use Rattle.event_floor.specs.machine.Slots.{same_slot, times, one_if}
-use Rattle.event_floor.specs.machine.State.{State}
-use Rattle.event_floor.specs.machine.Listing.{DeskListing, Named, HomeOf, Loans, CacheOf, BatchOf, named_of, is_list, slots_seen, Shown}
+use Rattle.pool_machine.specs.Slots.{same_slot, times, one_if}
+use Rattle.pool_machine.specs.State.{State}
+use Rattle.pool_machine.specs.Listing.{DeskListing, ListName, HomeOf, Loans, CacheOf, BatchOf, list_of, is_list, slots_seen, Shown}
 use Rattle.event_floor.specs.headline.Listing.{entry_at, desk_of, listing_of}
-use Rattle.event_floor.proofs.machine.Basics.{same_slot_self}
-use Rattle.event_floor.proofs.machine.Enumerate.{count_cons}
+use Rattle.pool_machine.proofs.Basics.{same_slot_self}
+use Rattle.pool_machine.proofs.Enumerate.{count_cons}
 use Rattle.event_floor.proofs.headline.Taken.{count_zero, other_eqb, eqb_is}
 use Rattle.event_floor.proofs.headline.Views.{desk_seen, slot_seen}
 
@@ -34,7 +34,7 @@ none_there r home e = λ k d l q.
     true≢false (sym (ap (same_slot r) (get_or-map slot_at home k d r l ∙ q) ∙ same_slot_self r) ∙ z)
 
 -- a list that names the slot is the only one
-other_list : (a c : ℕ) (o : Option Named) → is_list (HomeOf a) o ≡ true → c ≢ a → is_list (HomeOf c) o ≡ false
+other_list : (a c : ℕ) (o : Option ListName) → is_list (HomeOf a) o ≡ true → c ≢ a → is_list (HomeOf c) o ≡ false
 other_list a c None e ne = refl
 other_list a c (Some (HomeOf b)) e ne = other_eqb c b (λ q. ne (q ∙ sym (eqb_is a b e)))
 other_list a c (Some Loans) e ne = refl
@@ -46,12 +46,12 @@ more_than_none m true e = (omega (arith, e), refl)
 more_than_none m false e = absurd (omega (arith, e))
 
 module _ (v : FloorSeen) (st : State) (count : Slot → ℕ) (h : Shown (listing_of v) st count) where
-  desk_times : (c : ℕ) (r : Slot) → times r (map slot_at (home_of (desk_at v c))) ≡ one_if (is_list (HomeOf c) (named_of st r))
+  desk_times : (c : ℕ) (r : Slot) → times r (map slot_at (home_of (desk_at v c))) ≡ one_if (is_list (HomeOf c) (list_of st r))
   desk_times c r =
       ap (times r) (sym (home_slots (desk_at v c))) ∙ (ap (λ (x : DeskListing). times r (slots_seen x.home)) (sym (desk_seen v c)) ∙ h.in_place (HomeOf c) r)
 
   module _ (a : ℕ) (d : DeskState) (x : AtHome) (rest : List AtHome) (l : IsHeld v a d) (p : IsPermutation d.home (x ∷ rest)) where
-    found : 1 + times (slot_at x) (map slot_at rest) ≡ one_if (is_list (HomeOf a) (named_of st (slot_at x)))
+    found : 1 + times (slot_at x) (map slot_at rest) ≡ one_if (is_list (HomeOf a) (list_of st (slot_at x)))
     found =
         let r = slot_at x in
         ap (λ (b : Bool). cond b 1 0 + times r (map slot_at rest)) (sym (same_slot_self r))
@@ -64,4 +64,4 @@ module _ (v : FloorSeen) (st : State) (count : Slot → ℕ) (h : Shown (listing
 
     pub others_apart : (c : ℕ) → c ≢ a → All (λ y. slot_at y ≢ slot_at x) (home_of (desk_at v c))
     others_apart c ne =
-        none_there (slot_at x) (home_of (desk_at v c)) (desk_times c (slot_at x) ∙ ap one_if (other_list a c (named_of st (slot_at x)) (more_than_none _ _ found).1 ne))
+        none_there (slot_at x) (home_of (desk_at v c)) (desk_times c (slot_at x) ∙ ap one_if (other_list a c (list_of st (slot_at x)) (more_than_none _ _ found).1 ne))

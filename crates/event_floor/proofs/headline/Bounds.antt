@@ -5,13 +5,13 @@ use Rattle.std.specs.List.{flat_map, range_with_len}
 use Rattle.std.proofs.lemmas.List.FromFn.{length-map-range_with_len}
 use Rattle.region_cut.specs.Classes.{size_of, slots_of}
 use Rattle.slot_chain.specs.Counts.{capped}
-use Rattle.event_floor.specs.declared.chunks.Drawn.{Drawn}
-use Rattle.event_floor.specs.machine.State.{State, slots, slots_of_chunk}
+use Rattle.pool_machine.specs.declared.chunk.DrawnChunk.{DrawnChunk}
+use Rattle.pool_machine.specs.State.{State, slots, slots_of_chunk}
 
 slots_few : (c : ℕ) → slots_of c ≤ 4096
 slots_few c = div-le_self 4096 (size_of c)
 
-chunk_few : (k : ℕ) (o : Option Drawn) → length (slots_of_chunk k o) ≤ 4096
+chunk_few : (k : ℕ) (o : Option DrawnChunk) → length (slots_of_chunk k o) ≤ 4096
 chunk_few k None = zero-le
 chunk_few k (Some d) = subst (λ n. n ≤ 4096) (sym (length-map-range_with_len (λ i. record { chunk = k; index = i }) 0 (slots_of d.class))) (slots_few d.class)
 

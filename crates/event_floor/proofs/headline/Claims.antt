@@ -8,15 +8,15 @@ use Rattle.region_cut.specs.Classes.{slots_of, size_of}
 use Rattle.pool_desk.specs.Homes.{unused_from}
 use Rattle.pool_desk.specs.Desks.{DeskState}
 use Rattle.event_floor.specs.declared.seat.Seat.TheVariants.{Held as HeldSeat}
-use Rattle.event_floor.specs.declared.request.Request.TheVariants.{Claim}
-use Rattle.event_floor.specs.declared.reply.Reply.TheVariants.{Chunk}
+use Rattle.pool_machine.specs.declared.request.Request.TheVariants.{Claim}
+use Rattle.pool_machine.specs.declared.reply.Reply.TheVariants.{Chunk}
 use Rattle.event_floor.specs.Floors.{FloorSeen}
 use Rattle.event_floor.specs.Steps.{DrawsChunk}
-use Rattle.event_floor.specs.machine.Listing.{DeskListing}
-use Rattle.event_floor.specs.machine.Headline.{Applies}
+use Rattle.pool_machine.specs.Listing.{DeskListing}
+use Rattle.pool_machine.specs.Headline.{Applies}
 use Rattle.event_floor.specs.headline.Listing.{entry_of, entry_at, desk_of, listing_of}
 use Rattle.event_floor.specs.headline.Whole.{IsWhole}
-use Rattle.event_floor.proofs.machine.ClaimStep.{ClaimEdits, after_claim, chunk_buffer, chunk_buffers, claim_applies}
+use Rattle.pool_machine.proofs.ClaimStep.{ClaimEdits, after_claim, chunk_buffer, chunk_buffers, claim_applies}
 use Rattle.event_floor.proofs.headline.Views.{held_seen, with_seat_seen}
 use Rattle.event_floor.proofs.headline.Refused.{claim_accepted}
 use Rattle.event_floor.proofs.headline.Holders.{numbered_held}

@@ -13,28 +13,28 @@ use Rattle.std.proofs.lemmas.List.Sums.{sum_by-cons}
 use Rattle.region_cut.specs.declared.slot.Slot.{Slot}
 use Rattle.slot_chain.specs.Buffer.{Buffer}
 use Rattle.slot_chain.specs.Counts.{capped}
-use Rattle.event_floor.specs.declared.chunks.Drawn.{Drawn}
+use Rattle.pool_machine.specs.declared.chunk.DrawnChunk.{DrawnChunk}
 use Rattle.event_floor.specs.declared.seat.Seat.{Seat}
 use Rattle.event_floor.specs.declared.seat.Seat.TheVariants.{Idle, Held}
 use Rattle.event_floor.specs.Lent.{buffers_lent}
 use Rattle.event_floor.specs.Posted.{Posted, buffers_in, inbox_at}
 use Rattle.event_floor.specs.Seats.{home_of, cached_of}
 use Rattle.event_floor.specs.Floors.{FloorSeen, desk_at}
-use Rattle.event_floor.specs.machine.Slots.{same_slot, times, one_if}
-use Rattle.event_floor.specs.machine.State.{State, Waiting, owner_of, is_slot, slots, is_lent, is_posted, cached_by, slots_of_batch}
-use Rattle.event_floor.specs.machine.Listing.{Named, HomeOf, Loans, CacheOf, BatchOf, Entry, DeskListing, BatchListing, Listing, Counted, named_of, is_list, list_named, slots_seen, if_numbered, desk_listing, inbox_listing, as_waiting, Shown}
-use Rattle.event_floor.specs.machine.Sound.{Rising}
-use Rattle.event_floor.specs.machine.Told.{at_home_with, home_count, cached_count, queued_count, lent_count, drawn_count}
+use Rattle.pool_machine.specs.Slots.{same_slot, times, one_if}
+use Rattle.pool_machine.specs.State.{State, Waiting, owner_of, is_slot, slots, is_lent, is_posted, cached_by, slots_of_batch}
+use Rattle.pool_machine.specs.Listing.{ListName, HomeOf, Loans, CacheOf, BatchOf, Entry, DeskListing, BatchListing, Listing, Counted, list_of, is_list, slots_in, slots_seen, if_numbered, desk_listing, inbox_listing, as_waiting, Shown}
+use Rattle.pool_machine.specs.Sound.{Rising}
+use Rattle.pool_machine.specs.Told.{at_home_with, home_count, cached_count, queued_count, lent_count, drawn_count}
 use Rattle.event_floor.specs.headline.Listing.{entry_of, entry_at, desk_of, batch_of, listing_of}
 use Rattle.event_floor.specs.headline.Counts.{TellsCounts}
-use Rattle.event_floor.proofs.machine.Enumerate.{count_cons, count_append}
-use Rattle.event_floor.proofs.machine.InPlace.{in_cache_is}
-use Rattle.event_floor.proofs.machine.Joined.{shown_once}
-use Rattle.event_floor.proofs.machine.Listed.{listed}
-use Rattle.event_floor.proofs.machine.LinkStep.{same_number, waits_there, row_rises, row_member}
-use Rattle.event_floor.proofs.machine.PartBy.{at_home_is, lent_named}
-use Rattle.event_floor.proofs.machine.Parts.{part_length}
-use Rattle.event_floor.proofs.machine.TakeFloor.{posted_is}
+use Rattle.pool_machine.proofs.Enumerate.{count_cons, count_append}
+use Rattle.pool_machine.proofs.InPlace.{in_cache_is}
+use Rattle.pool_machine.proofs.Joined.{shown_once}
+use Rattle.pool_machine.proofs.Listed.{listed}
+use Rattle.pool_machine.proofs.LinkStep.{same_number, waits_there, row_rises, row_member}
+use Rattle.pool_machine.proofs.PartBy.{at_home_is, lent_named}
+use Rattle.pool_machine.proofs.Parts.{part_length}
+use Rattle.pool_machine.proofs.TakeFloor.{posted_is}
 use Rattle.event_floor.proofs.headline.Bounds.{all_few, filter_few, capped_is}
 use Rattle.event_floor.proofs.headline.Views.{desk_seen, inbox_seen}
 
@@ -47,12 +47,12 @@ and_true true = refl
 and_true false = refl
 
 -- a list that the machine names has as many entries as there are slots there
-named_length : (v : Listing) (st : State) (c : Slot → ℕ) (l : Named) (q : Slot → Bool) (xs : List Entry) → Shown v st c
-    → All (λ (e : Entry). e.owner ≡ owner_of st e.slot) xs → ((s : Slot) → times s (slots_seen xs) ≡ one_if (is_list l (named_of st s)))
-    → ((s : Slot) → q s ≡ is_list l (named_of st s)) → length xs ≡ length (filter q (slots st))
+named_length : (v : Listing) (st : State) (c : Slot → ℕ) (l : ListName) (q : Slot → Bool) (xs : List Entry) → Shown v st c
+    → All (λ (e : Entry). e.owner ≡ owner_of st e.slot) xs → ((s : Slot) → times s (slots_seen xs) ≡ one_if (is_list l (list_of st s)))
+    → ((s : Slot) → q s ≡ is_list l (list_of st s)) → length xs ≡ length (filter q (slots st))
 named_length v st c l q xs h owners once same =
     ap (λ (ys : List Entry). length ys) (sym (filter_true xs))
-    ∙ sym (part_length st c l (λ o. true) q xs h.sound owners once (λ s. same s ∙ and_true (is_list l (named_of st s))))
+    ∙ sym (part_length st c l (λ o. true) q xs h.sound owners once (λ s. same s ∙ and_true (is_list l (list_of st s))))
 
 All-one : {A : Type 0} (P Q : A → Type 0) (xs : List A) → ((x : A) → P x → Q x) → All P xs → All Q xs
 All-one P Q xs f h = λ k x l. f (get_or xs k x) (h k x l)
@@ -149,7 +149,7 @@ module _ (v : Listing) (st : State) (c : Slot → ℕ) (h : Shown v st c) (b j :
       ∙ ap (λ (t : Bool). if t then slots_seen w.buffers else []) (eq-eqb w.number w.number refl)
 
   -- the batch is all that has its number
-  batch_only : list_named v (BatchOf w.number) ≡ slots_seen w.buffers
+  batch_only : slots_in v (BatchOf w.number) ≡ slots_seen w.buffers
   batch_only = flat_only (λ ws. flat_map (if_numbered w.number) ws) v.inboxes b [] l
       (λ a k n. flat_none (if_numbered w.number) (get_or v.inboxes a []) d
       (λ i k'. ap (λ (t : Bool). if t then slots_seen (get_or (inbox_listing v a) i d).buffers else [])
@@ -271,14 +271,14 @@ module _ (v : FloorSeen) (st : State) (c : Slot → ℕ) (few : v.chunks ≤ 102
 
 -- ---- chunks
 
-first_drawn : (f : ℕ → Option Drawn) (xs : List Drawn) (a : ℕ) → ((i : ℕ) → f (a + i) ≡ slice_get xs i) → f a ≡ slice_get xs 0
+first_drawn : (f : ℕ → Option DrawnChunk) (xs : List DrawnChunk) (a : ℕ) → ((i : ℕ) → f (a + i) ≡ slice_get xs i) → f a ≡ slice_get xs 0
 first_drawn f xs a e = let p : a ≡ a + 0 = omega arith in ap f p ∙ e 0
 
-next_drawn : (f : ℕ → Option Drawn) (xs : List Drawn) (a : ℕ) → ((i : ℕ) → f (a + i) ≡ slice_get xs i) → (i : ℕ) → f ((a + 1) + i) ≡ slice_get xs (suc i)
+next_drawn : (f : ℕ → Option DrawnChunk) (xs : List DrawnChunk) (a : ℕ) → ((i : ℕ) → f (a + i) ≡ slice_get xs i) → (i : ℕ) → f ((a + 1) + i) ≡ slice_get xs (suc i)
 next_drawn f xs a e i = let p : (a + 1) + i ≡ a + suc i = omega arith in ap f p ∙ e (suc i)
 
 -- as many of n chunks are drawn as the list has
-counted_drawn : (f : ℕ → Option Drawn) (xs : List Drawn) (a n : ℕ) → length xs ≤ n → ((i : ℕ) → f (a + i) ≡ slice_get xs i)
+counted_drawn : (f : ℕ → Option DrawnChunk) (xs : List DrawnChunk) (a n : ℕ) → length xs ≤ n → ((i : ℕ) → f (a + i) ≡ slice_get xs i)
     → count_by (λ k. is_some (f k)) (range_with_len a n) ≡ length xs
 counted_drawn f [] a zero l e = refl
 counted_drawn f (x ∷ xs) a zero l e = absurd (omega arith)

@@ -17,12 +17,12 @@ use Rattle.region_cut.specs.Ended.{Ended, name_at, Agrees, IsKnown, HasKnownSlot
 use Rattle.region_cut.specs.Endings.{StandsAt, BeginsWith, SlotsLieAtTheirRanges}
 use Rattle.region_cut.specs.Ranges.{start_of}
 use Rattle.slot_chain.specs.Buffer.{Buffer, ended_of}
-use Rattle.event_floor.specs.declared.chunks.Drawn.{Drawn}
+use Rattle.pool_machine.specs.declared.chunk.DrawnChunk.{DrawnChunk}
 use Rattle.event_floor.specs.Chunks.{ended_parts}
 use Rattle.event_floor.specs.Floors.{FloorSeen, desk_at, desk_count}
-use Rattle.event_floor.specs.machine.Slots.{one_if}
-use Rattle.event_floor.specs.machine.State.{State}
-use Rattle.event_floor.specs.machine.Listing.{Shown}
+use Rattle.pool_machine.specs.Slots.{one_if}
+use Rattle.pool_machine.specs.State.{State}
+use Rattle.pool_machine.specs.Listing.{Shown}
 use Rattle.event_floor.specs.headline.Known.{buffers_of, undrawn_parts, EndsAsDrawn, EndsKnown}
 use Rattle.event_floor.specs.headline.Listing.{desk_of, listing_of}
 use Rattle.event_floor.specs.headline.Headline.{Shows}
@@ -76,7 +76,7 @@ parts_end known (x ∷ xs) (b ∷ bs) e h =
 
 -- ---- the floor's chunks
 
-owner_at : (o : Option Drawn) (class : ℕ) → option_map (λ (d : Drawn). d.class) o ≡ Some class → (d : Drawn) × (o ≡ Some d)
+owner_at : (o : Option DrawnChunk) (class : ℕ) → option_map (λ (d : DrawnChunk). d.class) o ≡ Some class → (d : DrawnChunk) × (o ≡ Some d)
 owner_at None class e = absurd (true≢false (sym (ap is_some e)))
 owner_at (Some d) class e = (d, refl)
 

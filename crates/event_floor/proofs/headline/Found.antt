@@ -14,23 +14,23 @@ use Rattle.region_cut.specs.Classes.{slots_of}
 use Rattle.slot_chain.specs.Buffer.{Buffer}
 use Rattle.pool_desk.specs.Homes.{AtHome, slot_at, kept_in}
 use Rattle.pool_desk.specs.Homes.AtHome.{Kept, Fresh}
-use Rattle.event_floor.specs.declared.chunks.Drawn.{Drawn}
+use Rattle.pool_machine.specs.declared.chunk.DrawnChunk.{DrawnChunk}
 use Rattle.event_floor.specs.declared.seat.Seat.{Seat}
 use Rattle.event_floor.specs.declared.seat.Seat.TheVariants.{Idle, Held}
 use Rattle.event_floor.specs.Lent.{buffers_lent}
 use Rattle.event_floor.specs.Posted.{Posted, inbox_at, buffers_in}
 use Rattle.event_floor.specs.Seats.{home_of, cached_of}
 use Rattle.event_floor.specs.Floors.{FloorSeen, desk_at, desk_count, no_desk}
-use Rattle.event_floor.specs.machine.Slots.{same_slot, has_index, times, one_if}
-use Rattle.event_floor.specs.machine.State.{State}
-use Rattle.event_floor.specs.machine.Listing.{DeskListing, BatchListing, slots_seen, Shown}
-use Rattle.event_floor.specs.machine.Headline.{joined}
+use Rattle.pool_machine.specs.Slots.{same_slot, has_index, times, one_if}
+use Rattle.pool_machine.specs.State.{State}
+use Rattle.pool_machine.specs.Listing.{DeskListing, BatchListing, slots_seen, Shown}
+use Rattle.pool_machine.specs.Headline.{joined}
 use Rattle.event_floor.specs.headline.Known.{buffers_with, buffers_of}
 use Rattle.event_floor.specs.headline.Listing.{entry_of, desk_of, batch_of, listing_of}
 use Rattle.event_floor.specs.headline.Names.{HasName, IsNamedHome, AreNames}
-use Rattle.event_floor.proofs.machine.Basics.{same_slot_eq}
-use Rattle.event_floor.proofs.machine.Enumerate.{count_cons, count_map}
-use Rattle.event_floor.proofs.machine.Joined.{shown_once}
+use Rattle.pool_machine.proofs.Basics.{same_slot_eq}
+use Rattle.pool_machine.proofs.Enumerate.{count_cons, count_map}
+use Rattle.pool_machine.proofs.Joined.{shown_once}
 use Rattle.event_floor.proofs.headline.Apart.{home_slots}
 use Rattle.event_floor.proofs.headline.Lists.{get_or_same}
 use Rattle.event_floor.proofs.headline.Named.{All-first, All-second}
@@ -176,7 +176,7 @@ module _ (v : FloorSeen) (names : List Carved) (n : AreNames names v) where
       (All-append (HasName names) (buffers_lent v.lent) _ lent_named posted_named)
 
   module _ (st : State) (count : Slot → ℕ) (h : Shown (listing_of v) st count) where
-    has_place : (o : Option Drawn) (i class : ℕ) → option_map (λ (d : Drawn). d.class) o ≡ Some class → i < slots_of class → has_index i o ≡ true
+    has_place : (o : Option DrawnChunk) (i class : ℕ) → option_map (λ (d : DrawnChunk). d.class) o ≡ Some class → i < slots_of class → has_index i o ≡ true
     has_place None i class e l = absurd (true≢false (sym (ap is_some e)))
     has_place (Some d) i class e l = lt-ltb i (slots_of d.class) (subst (λ c. i < slots_of c) (sym (some_is d.class class e)) l)
 

@@ -14,25 +14,25 @@ use Rattle.slot_chain.specs.Buffer.{Buffer}
 use Rattle.pool_desk.specs.Homes.{AtHome, Unused, slot_at, Gives, Names, TakesNext, taken_next}
 use Rattle.pool_desk.specs.Homes.AtHome.{Kept, Fresh}
 use Rattle.pool_desk.specs.Desks.{DeskState}
-use Rattle.event_floor.specs.declared.chunks.Drawn.{Drawn}
+use Rattle.pool_machine.specs.declared.chunk.DrawnChunk.{DrawnChunk}
 use Rattle.event_floor.specs.declared.seat.Seat.TheVariants.{Held}
 use Rattle.event_floor.specs.Lent.{place_of}
 use Rattle.event_floor.specs.Posted.{Posted, inbox_at}
 use Rattle.event_floor.specs.Seats.{home_of, cached_of}
 use Rattle.event_floor.specs.Floors.{FloorSeen, desk_at, no_desk}
 use Rattle.event_floor.specs.Steps.{LendsSlot}
-use Rattle.event_floor.specs.machine.Slots.{one_if}
-use Rattle.event_floor.specs.machine.State.{State}
-use Rattle.event_floor.specs.machine.Listing.{Shown}
+use Rattle.pool_machine.specs.Slots.{one_if}
+use Rattle.pool_machine.specs.State.{State}
+use Rattle.pool_machine.specs.Listing.{Shown}
 use Rattle.event_floor.specs.headline.Listing.{listing_of}
 use Rattle.event_floor.specs.headline.Names.{HasName, HasNoName, IsNamedHome, IsNamedChunk, IsNamedDesk, AreNames, chunks_of, drew, is_drawn_for}
-use Rattle.event_floor.proofs.machine.Enumerate.{count_cons}
+use Rattle.pool_machine.proofs.Enumerate.{count_cons}
 use Rattle.event_floor.proofs.headline.Named.{held_named, changed_named, desk_named, each_place}
 use Rattle.event_floor.proofs.headline.Taken.{get_pushed, get_last, get_set_same, get_set_other, some_is, count_zero, All-to, some_to, same_eqb, other_eqb, eqb_is, eqb_same, chunk_count, chunk_permuted}
 use Rattle.event_floor.proofs.headline.Apart.{rest_apart, others_apart, more_than_none}
 
 -- a chunk was drawn for one desk
-drawn_apart : (a b : ℕ) (o : Option Drawn) → is_drawn_for a o ≡ true → b ≢ a → is_drawn_for b o ≡ false
+drawn_apart : (a b : ℕ) (o : Option DrawnChunk) → is_drawn_for a o ≡ true → b ≢ a → is_drawn_for b o ≡ false
 drawn_apart a b None e ne = refl
 drawn_apart a b (Some d) e ne = other_eqb d.owner b (λ q. ne (sym q ∙ eqb_is d.owner a e))
 

@@ -4,17 +4,17 @@ use Rattle.std.specs.List.{list_any}
 use Rattle.pool_desk.specs.Desks.{IdleState, DeskState}
 use Rattle.event_floor.specs.declared.seat.Seat.{Seat}
 use Rattle.event_floor.specs.declared.seat.Seat.TheVariants.{Idle as IdleSeat, Held as HeldSeat}
-use Rattle.event_floor.specs.declared.request.Request.TheVariants.{Adopt, Retire}
-use Rattle.event_floor.specs.declared.reply.Reply.TheVariants.{Done}
-use Rattle.event_floor.specs.declared.refusal.Refusal.TheVariants.{NoDesk, Held, Unsettled}
+use Rattle.pool_machine.specs.declared.request.Request.TheVariants.{Adopt, Retire}
+use Rattle.pool_machine.specs.declared.reply.Reply.TheVariants.{Done}
+use Rattle.pool_machine.specs.declared.refusal.Refusal.TheVariants.{NoDesk, Held, Unsettled}
 use Rattle.event_floor.specs.Seats.{adopted, retired, IsNumbered}
 use Rattle.event_floor.specs.Floors.{FloorSeen, with_seat, with_desk, IsIdle, IsHeld}
 use Rattle.event_floor.specs.Steps.{LacksHalfOf}
-use Rattle.event_floor.specs.machine.Listing.{Entry, DeskListing, desk_listing}
-use Rattle.event_floor.specs.machine.Headline.{Applies}
+use Rattle.pool_machine.specs.Listing.{Entry, DeskListing, desk_listing}
+use Rattle.pool_machine.specs.Headline.{Applies}
 use Rattle.event_floor.specs.headline.Listing.{entry_of, desk_of, listing_of}
 use Rattle.event_floor.specs.headline.Whole.{IsWhole}
-use Rattle.event_floor.proofs.machine.Applied.{adopt_applies, retire_applies}
+use Rattle.pool_machine.proofs.Applied.{adopt_applies, retire_applies}
 use Rattle.event_floor.proofs.headline.Views.{passes, held_seen, idle_seen, is_desk_seen, held_first, with_seat_seen}
 use Rattle.event_floor.proofs.headline.Refused.{unsettled, half_of_none}
 

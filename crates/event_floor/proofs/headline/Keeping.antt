@@ -8,17 +8,17 @@ use Rattle.region_cut.specs.declared.part.Part.{Part}
 use Rattle.region_cut.specs.Carved.{Carved}
 use Rattle.slot_chain.specs.Buffer.{Buffer}
 use Rattle.digit_route.specs.Digits.{Scheme}
-use Rattle.event_floor.specs.declared.request.Request.{Request}
-use Rattle.event_floor.specs.declared.request.Request.TheVariants.{Adopt, Retire, Claim, Alloc, Free, Send, Link, Take}
-use Rattle.event_floor.specs.declared.reply.Reply.{Reply}
-use Rattle.event_floor.specs.declared.reply.Reply.TheVariants.{Done, Chunk, Slot as Lent, Home, Cached, Due, Batch, Counts}
+use Rattle.pool_machine.specs.declared.request.Request.{Request}
+use Rattle.pool_machine.specs.declared.request.Request.TheVariants.{Adopt, Retire, Claim, Alloc, Free, Send, Link, Take}
+use Rattle.pool_machine.specs.declared.reply.Reply.{Reply}
+use Rattle.pool_machine.specs.declared.reply.Reply.TheVariants.{Done, Chunk, Slot as Lent, Home, Cached, Due, Batch, Counts}
 use Rattle.event_floor.specs.declared.seat.Seat.{Seat}
 use Rattle.event_floor.specs.Posted.{Posted}
 use Rattle.event_floor.specs.Seats.{idle_seats, home_of, cached_of}
 use Rattle.event_floor.specs.Floors.{FloorSeen, no_desk, opening}
 use Rattle.event_floor.specs.Steps.{Does}
 use Rattle.event_floor.specs.Runs.{Answers}
-use Rattle.event_floor.specs.machine.Steps.{Answer}
+use Rattle.pool_machine.specs.Steps.{Answer}
 use Rattle.event_floor.specs.headline.Headline.{Shows}
 use Rattle.event_floor.specs.headline.Names.{HasName, IsNamedHome, IsNamedDesk, AreNames, IsNamed, chunks_of}
 use Rattle.event_floor.proofs.headline.Named.{adopt_named, retire_named, free_named, send_named, link_named, take_named}

@@ -7,8 +7,8 @@ use Rattle.region_cut.specs.declared.class.TheConstants.{SIZES}
 use Rattle.region_cut.specs.declared.profile.Profile.{Profile}
 use Rattle.region_cut.specs.declared.profile.Profile.TheVariants.{Pool, Pool2}
 use Rattle.region_cut.specs.Classes.{size_of, classes_of, largest_of, IsLeastFor}
-use Rattle.event_floor.specs.machine.State.{least_class}
-use Rattle.event_floor.proofs.machine.ClassLaws.{first_is}
+use Rattle.pool_machine.specs.State.{least_class}
+use Rattle.pool_machine.proofs.ClassLaws.{first_is}
 
 sizes_at : (p : Profile) (k : ℕ) → k < classes_of p → get_or (take (classes_of p) SIZES) k 0 ≡ size_of k
 sizes_at p k l = get_or-take (classes_of p) SIZES k 0 l

@@ -19,22 +19,22 @@ use Rattle.pool_desk.specs.Steps.{Frees, Caches}
 use Rattle.pool_desk.specs.declared.freed.Freed.{Freed}
 use Rattle.pool_desk.specs.declared.freed.Freed.TheVariants.{Home as FreedHome, Cached as FreedCached, Due as FreedDue}
 use Rattle.event_floor.specs.declared.seat.Seat.TheVariants.{Held as HeldSeat}
-use Rattle.event_floor.specs.declared.request.Request.TheVariants.{Alloc, Free}
-use Rattle.event_floor.specs.declared.reply.Reply.TheVariants.{Slot as Lent}
+use Rattle.pool_machine.specs.declared.request.Request.TheVariants.{Alloc, Free}
+use Rattle.pool_machine.specs.declared.reply.Reply.TheVariants.{Slot as Lent}
 use Rattle.event_floor.specs.Answers.{reply_of}
 use Rattle.event_floor.specs.Seats.{HasPlace, home_of}
 use Rattle.event_floor.specs.Lent.{buffers_lent, place_of}
 use Rattle.event_floor.specs.Floors.{FloorSeen, IsHeld}
 use Rattle.event_floor.specs.Steps.{LendsSlot, TakesBack}
-use Rattle.event_floor.specs.machine.State.{State}
-use Rattle.event_floor.specs.machine.Listing.{Entry, DeskListing, Listing, Named, Loans, HomeOf, named_of, same_list, desk_listing, Shown}
-use Rattle.event_floor.specs.machine.Headline.{Applies}
+use Rattle.pool_machine.specs.State.{State}
+use Rattle.pool_machine.specs.Listing.{Entry, DeskListing, Listing, ListName, Loans, HomeOf, list_of, same_list, desk_listing, Shown}
+use Rattle.pool_machine.specs.Headline.{Applies}
 use Rattle.event_floor.specs.headline.Listing.{entry_of, entry_at, desk_of, listing_of}
 use Rattle.event_floor.specs.headline.Whole.{IsWhole}
-use Rattle.event_floor.proofs.machine.Places.{home_place, lent_place}
-use Rattle.event_floor.proofs.machine.FreeStep.{FreeEdits, after_edits}
-use Rattle.event_floor.proofs.machine.AllocStep.{AllocEdits, alloc_applies}
-use Rattle.event_floor.proofs.machine.Applied.{FreeReplies, free_applies}
+use Rattle.pool_machine.proofs.Places.{home_place, lent_place}
+use Rattle.pool_machine.proofs.FreeStep.{FreeEdits, after_edits}
+use Rattle.pool_machine.proofs.AllocStep.{AllocEdits, alloc_applies}
+use Rattle.pool_machine.proofs.Applied.{FreeReplies, free_applies}
 use Rattle.event_floor.proofs.headline.Least.{least_is}
 use Rattle.event_floor.proofs.headline.Tables.{lent_place as lent_at_place, present_put, present_gone, present_at, at_its_place, same_place}
 use Rattle.event_floor.proofs.headline.Views.{held_seen, with_seat_seen, slot_seen}
@@ -53,19 +53,19 @@ apart : (v : FloorSeen) (st : State) (count : Slot → ℕ) (a : ℕ) (d : DeskS
     → Shown (listing_of v) st count → IsHeld v a d → IsPermutation d.home (s ∷ home) → slot_at s ≡ b.slot
     → get_or v.lent (place_of b.slot) None ≡ Some c → c.slot ≡ b.slot → ⊥
 apart v st count a d s home b c h l p e m same =
-    let lent : named_of st c.slot ≡ Some Loans =
-    present_at (λ x. named_of st x.slot ≡ Some Loans) v.lent (place_of b.slot) c (λ k x n. subst (λ (z : Entry). named_of st z.slot ≡ Some Loans)
+    let lent : list_of st c.slot ≡ Some Loans =
+    present_at (λ x. list_of st x.slot ≡ Some Loans) v.lent (place_of b.slot) c (λ k x n. subst (λ (z : Entry). list_of st z.slot ≡ Some Loans)
     (get_or-map entry_of (buffers_lent v.lent) k x (entry_of x) n) (lent_place (listing_of v) st count h k (entry_of x) (rw (length-map (buffers_lent v.lent) entry_of) n))) m in
-    let homes : All (λ (z : Entry). named_of st z.slot ≡ Some (HomeOf a)) (map (entry_at d.number) d.home) =
-    subst (λ (z : DeskListing). All (λ (z : Entry). named_of st z.slot ≡ Some (HomeOf a)) z.home) (held_seen v a d l) (home_place (listing_of v) st count h a) in
-    let first : named_of st (entry_at d.number s).slot ≡ Some (HomeOf a) =
-    All-head (λ (z : Entry). named_of st z.slot ≡ Some (HomeOf a)) (entry_at d.number s) (map (entry_at d.number) home)
-    (All-permutation (λ (z : Entry). named_of st z.slot ≡ Some (HomeOf a)) _ _ (IsPermutation-map (entry_at d.number) d.home (s ∷ home) p) homes) in
-    let here : named_of st b.slot ≡ Some (HomeOf a) = ap (named_of st) (sym e ∙ sym (slot_seen d.number s)) ∙ first in
-    two_lists (sym lent ∙ (ap (named_of st) same ∙ here))
+    let homes : All (λ (z : Entry). list_of st z.slot ≡ Some (HomeOf a)) (map (entry_at d.number) d.home) =
+    subst (λ (z : DeskListing). All (λ (z : Entry). list_of st z.slot ≡ Some (HomeOf a)) z.home) (held_seen v a d l) (home_place (listing_of v) st count h a) in
+    let first : list_of st (entry_at d.number s).slot ≡ Some (HomeOf a) =
+    All-head (λ (z : Entry). list_of st z.slot ≡ Some (HomeOf a)) (entry_at d.number s) (map (entry_at d.number) home)
+    (All-permutation (λ (z : Entry). list_of st z.slot ≡ Some (HomeOf a)) _ _ (IsPermutation-map (entry_at d.number) d.home (s ∷ home) p) homes) in
+    let here : list_of st b.slot ≡ Some (HomeOf a) = ap (list_of st) (sym e ∙ sym (slot_seen d.number s)) ∙ first in
+    two_lists (sym lent ∙ (ap (list_of st) same ∙ here))
   where
     two_lists : Some Loans ≡ Some (HomeOf a) → ⊥
-    two_lists q = true≢false (ap (λ (o : Option Named). elim o as (λ _. Bool) [ None ↦ true | Some n ↦ same_list Loans n ]) q)
+    two_lists q = true≢false (ap (λ (o : Option ListName). elim o as (λ _. Bool) [ None ↦ true | Some n ↦ same_list Loans n ]) q)
 
 gives_slot : (s : AtHome) (b : Buffer) → Gives s b → slot_at s ≡ b.slot
 gives_slot (Kept c) b g = ap (λ (x : Buffer). x.slot) (sym g)

@@ -10,24 +10,24 @@ use Rattle.pool_desk.specs.Homes.AtHome.{Kept}
 use Rattle.pool_desk.specs.Desks.{DeskState}
 use Rattle.pool_desk.specs.Steps.{passed_on as buffer_passed_on, own, others}
 use Rattle.event_floor.specs.declared.seat.Seat.TheVariants.{Held as HeldSeat}
-use Rattle.event_floor.specs.declared.request.Request.TheVariants.{Send, Link, Take}
-use Rattle.event_floor.specs.declared.reply.Reply.{Reply}
-use Rattle.event_floor.specs.declared.reply.Reply.TheVariants.{Done, Batch, Counts}
+use Rattle.pool_machine.specs.declared.request.Request.TheVariants.{Send, Link, Take}
+use Rattle.pool_machine.specs.declared.reply.Reply.{Reply}
+use Rattle.pool_machine.specs.declared.reply.Reply.TheVariants.{Done, Batch, Counts}
 use Rattle.event_floor.specs.Posted.{Posted, inbox_at, sent_as, as_linked, no_batch, IsHalf, SomePosted}
 use Rattle.event_floor.specs.Floors.{FloorSeen}
 use Rattle.event_floor.specs.Steps.{SendsBatch, LinksBatch, TakesFront}
-use Rattle.event_floor.specs.machine.State.{State, bucket, in_bucket, slots, slots_of_batch, is_posted, owner_of}
-use Rattle.event_floor.specs.machine.Steps.{Step, front_of, coming_home, going_on}
-use Rattle.event_floor.specs.machine.Forwards.{counted as forward_count}
-use Rattle.event_floor.specs.machine.Listing.{Entry, DeskListing, BatchListing, Listing, inbox_listing, Shown}
-use Rattle.event_floor.specs.machine.Headline.{Applies}
+use Rattle.pool_machine.specs.State.{State, bucket, in_bucket, slots, slots_of_batch, is_posted, owner_of}
+use Rattle.pool_machine.specs.Steps.{Step, front_of, coming_home, going_on}
+use Rattle.pool_machine.specs.Forwards.{counted as forward_count}
+use Rattle.pool_machine.specs.Listing.{Entry, DeskListing, BatchListing, Listing, inbox_listing, Shown}
+use Rattle.pool_machine.specs.Headline.{Applies}
 use Rattle.event_floor.specs.headline.Listing.{entry_of, entry_at, desk_of, batch_of, listing_of}
 use Rattle.event_floor.specs.headline.Whole.{IsWhole}
-use Rattle.event_floor.proofs.machine.Refusals.{goes_by}
-use Rattle.event_floor.proofs.machine.SendStep.{new_batch, after_sending}
-use Rattle.event_floor.proofs.machine.LinkStep.{linked, after_link, link_applies}
-use Rattle.event_floor.proofs.machine.TakeFloor.{TakeEdits, passed_on, after_taking, take_applies}
-use Rattle.event_floor.proofs.machine.Applied.{SendMoves, send_applies}
+use Rattle.pool_machine.proofs.Refusals.{goes_by}
+use Rattle.pool_machine.proofs.SendStep.{new_batch, after_sending}
+use Rattle.pool_machine.proofs.LinkStep.{linked, after_link, link_applies}
+use Rattle.pool_machine.proofs.TakeFloor.{TakeEdits, passed_on, after_taking, take_applies}
+use Rattle.pool_machine.proofs.Applied.{SendMoves, send_applies}
 use Rattle.event_floor.proofs.headline.Lists.{get_or-map_default, set-map, filter-map, filter-permutation, filter-append, filter_kept, filter_gone, get_or_same}
 use Rattle.event_floor.proofs.headline.Bounds.{all_few, filter_few, capped_is}
 use Rattle.event_floor.proofs.headline.Views.{held_seen, with_seat_seen, inbox_seen}

@@ -10,20 +10,20 @@ use Rattle.digit_route.specs.Route.{IsInBucket}
 use Rattle.pool_desk.specs.Homes.{AtHome, class_at}
 use Rattle.pool_desk.specs.Desks.{DeskState}
 use Rattle.pool_desk.specs.ByClass.{HasClass, LacksClass}
-use Rattle.event_floor.specs.declared.request.Request.{Request}
-use Rattle.event_floor.specs.declared.request.Request.TheVariants.{Adopt, Retire, Claim, Alloc, Free, Send, Link, Take}
-use Rattle.event_floor.specs.declared.refusal.Refusal.{Refusal}
-use Rattle.event_floor.specs.declared.refusal.Refusal.TheVariants.{NoDesk, Idle, TooLarge, NeedChunk, NotNeeded, NoChunk, NotLent, NothingFor, NotAnOwner, ToSelf, NoBatch, Nothing, Unsettled, Held, NoMemory, BadClass, Spent}
+use Rattle.pool_machine.specs.declared.request.Request.{Request}
+use Rattle.pool_machine.specs.declared.request.Request.TheVariants.{Adopt, Retire, Claim, Alloc, Free, Send, Link, Take}
+use Rattle.pool_machine.specs.declared.refusal.Refusal.{Refusal}
+use Rattle.pool_machine.specs.declared.refusal.Refusal.TheVariants.{NoDesk, Idle, TooLarge, NeedChunk, NotNeeded, NoChunk, NotLent, NothingFor, NotAnOwner, ToSelf, NoBatch, Nothing, Unsettled, Held, NoMemory, BadClass, Spent}
 use Rattle.event_floor.specs.Lent.{buffers_lent, lent_at, AreInPlace}
 use Rattle.event_floor.specs.Posted.{Posted, inbox_at, IsHalf, IsHalfOf, SomePosted, NonePosted, HasNoFront}
 use Rattle.event_floor.specs.Floors.{FloorSeen, desk_count, last_number, IsHeld}
 use Rattle.event_floor.specs.Steps.{Refuses, Routes, class_limit, size_limit}
-use Rattle.event_floor.specs.machine.State.{Waiting, least_class}
-use Rattle.event_floor.specs.machine.Slots.{same_slot}
-use Rattle.event_floor.specs.machine.Refusals.{first, is_half, front_ready, slot_at}
-use Rattle.event_floor.specs.machine.Listing.{Entry, DeskListing, desk_listing, inbox_listing, as_waiting}
+use Rattle.pool_machine.specs.State.{Waiting, least_class}
+use Rattle.pool_machine.specs.Slots.{same_slot}
+use Rattle.pool_machine.specs.Refusals.{first, is_half, front_ready, slot_at}
+use Rattle.pool_machine.specs.Listing.{Entry, DeskListing, desk_listing, inbox_listing, as_waiting}
 use Rattle.event_floor.specs.headline.Listing.{entry_of, batch_of, listing_of}
-use Rattle.event_floor.proofs.machine.Refusals.{refusal_seen, goes_by, any_posted, any_of_row}
+use Rattle.pool_machine.proofs.Refusals.{refusal_seen, goes_by, any_posted, any_of_row}
 use Rattle.event_floor.proofs.headline.Least.{holds_within, least_is}
 use Rattle.event_floor.proofs.headline.Lists.{any-map, All-not-from_Any}
 use Rattle.event_floor.proofs.headline.Tables.{none_lent, one_lent}

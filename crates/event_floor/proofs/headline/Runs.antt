@@ -1,19 +1,19 @@
 -- Runs of a floor, one request longer.
 use Rattle.std.proofs.Common.{ℕ, List, [], ◌∷◌, ◌++◌, ◌^◌, ◌≤◌}
 use Rattle.digit_route.specs.Digits.{Scheme, IsScheme}
-use Rattle.event_floor.specs.declared.request.Request.{Request}
+use Rattle.pool_machine.specs.declared.request.Request.{Request}
 use Rattle.region_cut.specs.declared.part.Part.{Part}
 use Rattle.event_floor.specs.Floors.{FloorSeen, opening}
 use Rattle.event_floor.specs.Runs.{Answers}
-use Rattle.event_floor.specs.machine.Steps.{Answer}
-use Rattle.event_floor.specs.machine.Headline.{AppliesAll as ListingAppliesAll}
+use Rattle.pool_machine.specs.Steps.{Answer}
+use Rattle.pool_machine.specs.Headline.{AppliesAll as ListingAppliesAll}
 use Rattle.event_floor.specs.headline.Headline.{Shows, Applies, Headline}
 use Rattle.event_floor.specs.headline.Listing.{listing_of}
 use Rattle.event_floor.specs.headline.Names.{IsNamed}
 use Rattle.event_floor.specs.headline.Whole.{IsWhole}
-use Rattle.event_floor.proofs.machine.Applied.{shows_next}
-use Rattle.event_floor.proofs.machine.Joins.{applies_none, applies_push}
-use Rattle.event_floor.proofs.machine.Headlines.{headline}
+use Rattle.pool_machine.proofs.Applied.{shows_next}
+use Rattle.pool_machine.proofs.Joins.{applies_none, applies_push}
+use Rattle.pool_machine.proofs.Headlines.{headline}
 use Rattle.event_floor.proofs.headline.Serves.{serves}
 use Rattle.event_floor.proofs.headline.Wholes.{shows_opening}
 

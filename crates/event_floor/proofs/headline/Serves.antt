@@ -1,21 +1,21 @@
 -- What a floor answers is a step of the machine.
 use Rattle.std.proofs.Common.{◌≡◌, true, None, Ok, Err, refl, sym, subst, ◌⊎◌, inl, inr}
 use Rattle.pool_desk.specs.declared.freed.Freed.TheVariants.{Home as FreedHome, Cached as FreedCached, Due as FreedDue}
-use Rattle.event_floor.specs.declared.request.Request.{Request}
-use Rattle.event_floor.specs.declared.request.Request.TheVariants.{Adopt, Retire, Claim, Alloc, Free, Send, Link, Take}
-use Rattle.event_floor.specs.declared.reply.Reply.{Reply}
-use Rattle.event_floor.specs.declared.reply.Reply.TheVariants.{Done, Chunk, Slot as Lent, Home, Cached, Due, Batch, Counts}
-use Rattle.event_floor.specs.declared.refusal.Refusal.{Refusal}
-use Rattle.event_floor.specs.declared.refusal.Refusal.TheVariants.{NoMemory}
+use Rattle.pool_machine.specs.declared.request.Request.{Request}
+use Rattle.pool_machine.specs.declared.request.Request.TheVariants.{Adopt, Retire, Claim, Alloc, Free, Send, Link, Take}
+use Rattle.pool_machine.specs.declared.reply.Reply.{Reply}
+use Rattle.pool_machine.specs.declared.reply.Reply.TheVariants.{Done, Chunk, Slot as Lent, Home, Cached, Due, Batch, Counts}
+use Rattle.pool_machine.specs.declared.refusal.Refusal.{Refusal}
+use Rattle.pool_machine.specs.declared.refusal.Refusal.TheVariants.{NoMemory}
 use Rattle.event_floor.specs.Floors.{FloorSeen}
 use Rattle.event_floor.specs.Steps.{Does, Refuses}
 use Rattle.event_floor.specs.Runs.{Answers}
-use Rattle.event_floor.specs.machine.Refusals.{may_grow}
-use Rattle.event_floor.specs.machine.Steps.{Answer}
-use Rattle.event_floor.specs.machine.Headline.{Applies}
+use Rattle.pool_machine.specs.Refusals.{may_grow}
+use Rattle.pool_machine.specs.Steps.{Answer}
+use Rattle.pool_machine.specs.Headline.{Applies}
 use Rattle.event_floor.specs.headline.Listing.{listing_of}
 use Rattle.event_floor.specs.headline.Whole.{IsWhole}
-use Rattle.event_floor.proofs.machine.Refusals.{refusal_seen, refused, no_memory}
+use Rattle.pool_machine.proofs.Refusals.{refusal_seen, refused, no_memory}
 use Rattle.event_floor.proofs.headline.Refused.{Says, adopt_refused, retire_refused, claim_refused, alloc_refused, free_refused, send_refused, link_refused, take_refused}
 use Rattle.event_floor.proofs.headline.Holders.{numbered_held, adopt_done, retire_done}
 use Rattle.event_floor.proofs.headline.Claims.{claim_done}

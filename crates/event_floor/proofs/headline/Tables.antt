@@ -7,8 +7,8 @@ use Rattle.std.proofs.lemmas.List.Sorted.{IsPermutation-refl, IsPermutation-tran
 use Rattle.region_cut.specs.declared.slot.Slot.{Slot}
 use Rattle.slot_chain.specs.Buffer.{Buffer}
 use Rattle.event_floor.specs.Lent.{buffers_lent, lent_at, place_of, AreInPlace}
-use Rattle.event_floor.specs.machine.Slots.{same_slot}
-use Rattle.event_floor.proofs.machine.Basics.{same_slot_eq, same_slot_self}
+use Rattle.pool_machine.specs.Slots.{same_slot}
+use Rattle.pool_machine.proofs.Basics.{same_slot_eq, same_slot_self}
 
 none_some : {X : Type 0} (x : X) → None ≡ Some x → ⊥
 none_some x e = true≢false (ap is_some (sym e))

@@ -16,16 +16,16 @@ use Rattle.slot_chain.specs.Buffer.{Buffer}
 use Rattle.pool_desk.specs.Homes.{AtHome, unused_from}
 use Rattle.pool_desk.specs.Homes.AtHome.{Kept, Fresh}
 use Rattle.pool_desk.specs.Desks.{DeskState}
-use Rattle.event_floor.specs.declared.chunks.Drawn.{Drawn}
+use Rattle.pool_machine.specs.declared.chunk.DrawnChunk.{DrawnChunk}
 use Rattle.event_floor.specs.declared.seat.Seat.{Seat}
 use Rattle.event_floor.specs.declared.seat.Seat.TheVariants.{Held}
 use Rattle.event_floor.specs.Posted.{Posted, inbox_at}
 use Rattle.event_floor.specs.Seats.{home_of, cached_of}
 use Rattle.event_floor.specs.Floors.{FloorSeen, desk_at, no_desk}
 use Rattle.event_floor.specs.Steps.{DrawsChunk}
-use Rattle.event_floor.specs.machine.Slots.{one_if}
+use Rattle.pool_machine.specs.Slots.{one_if}
 use Rattle.event_floor.specs.headline.Names.{HasName, IsNamedHome, IsNamedChunk, IsNamedDesk, AreNames, chunks_of, drew, is_drawn_for}
-use Rattle.event_floor.proofs.machine.Enumerate.{count_cons}
+use Rattle.pool_machine.proofs.Enumerate.{count_cons}
 use Rattle.event_floor.proofs.headline.Named.{held_named}
 
 -- ---- lists
@@ -116,7 +116,7 @@ module _ (names : List Carved) (v w : FloorSeen) (a class k : ℕ) (n : AreNames
   abbrev new_names : List Carved
   new_names = names ++ new_chunk ∷ []
 
-  abbrev new_drawn : List Drawn
+  abbrev new_drawn : List DrawnChunk
   new_drawn = v.drawn ++ record { owner = a; class = class } ∷ []
 
   kept_name : (b : Buffer) → HasName names b → HasName new_names b
@@ -206,8 +206,8 @@ module _ (names : List Carved) (v w : FloorSeen) (a class k : ℕ) (n : AreNames
   last_named : (j : ℕ) → j ≡ length names → IsNamedChunk v.parts new_drawn j new_chunk
   last_named j same = record {
     number = new_chunk_is ∙ sym (same ∙ last_place);
-    class = ap (λ m. option_map (λ (d : Drawn). d.class) (slice_get new_drawn m)) (same ∙ n.count)
-        ∙ (ap (option_map (λ (d : Drawn). d.class)) (get_last v.drawn (record { owner = a; class = class })) ∙ ap (λ m. Some m) (sym s.claims.drawn.uncut.class_is));
+    class = ap (λ m. option_map (λ (d : DrawnChunk). d.class) (slice_get new_drawn m)) (same ∙ n.count)
+        ∙ (ap (option_map (λ (d : DrawnChunk). d.class)) (get_last v.drawn (record { owner = a; class = class })) ∙ ap (λ m. Some m) (sym s.claims.drawn.uncut.class_is));
     part = ap (slice_get v.parts) (same ∙ last_place) ∙ (s.has_name ∙ ap (λ g. Some g) (sym s.claims.drawn.uncut.whole));
     few = subst (λ xs. length xs ≤ slots_of new_chunk.class) (sym s.claims.drawn.uncut.none_taken) (omega arith);
     whole = subst (λ xs. length xs * size_of new_chunk.class + length new_chunk.rest ≡ CHUNK) (sym s.claims.drawn.uncut.none_taken)
@@ -222,7 +222,7 @@ module _ (names : List Carved) (v w : FloorSeen) (a class k : ℕ) (n : AreNames
       let h = n.chunks j c (sym (get_before names new_chunk j other.1) ∙ e) in
       let r : IsNamedChunk v.parts new_drawn j c = record {
         number = h.number;
-        class = ap (option_map (λ (d : Drawn). d.class)) (get_before v.drawn (record { owner = a; class = class }) j (λ q. other.1 (q ∙ sym n.count))) ∙ h.class;
+        class = ap (option_map (λ (d : DrawnChunk). d.class)) (get_before v.drawn (record { owner = a; class = class }) j (λ q. other.1 (q ∙ sym n.count))) ∙ h.class;
         part = h.part;
         few = h.few;
         whole = h.whole;

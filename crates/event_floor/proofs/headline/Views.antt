@@ -11,12 +11,12 @@ use Rattle.pool_desk.specs.ByClass.{HasClass, LacksClass}
 use Rattle.pool_desk.specs.Desks.{IdleState, DeskState}
 use Rattle.event_floor.specs.declared.seat.Seat.{Seat}
 use Rattle.event_floor.specs.declared.seat.Seat.TheVariants.{Idle as IdleSeat, Held as HeldSeat}
-use Rattle.event_floor.specs.declared.refusal.Refusal.{Refusal}
-use Rattle.event_floor.specs.declared.refusal.Refusal.TheVariants.{NoDesk, Idle}
+use Rattle.pool_machine.specs.declared.refusal.Refusal.{Refusal}
+use Rattle.pool_machine.specs.declared.refusal.Refusal.TheVariants.{NoDesk, Idle}
 use Rattle.event_floor.specs.Posted.{inbox_at}
 use Rattle.event_floor.specs.Floors.{FloorSeen, desk_at, desk_count, no_desk, IsIdle, IsHeld, with_seat}
-use Rattle.event_floor.specs.machine.Refusals.{first}
-use Rattle.event_floor.specs.machine.Listing.{Entry, DeskListing, desk_listing, inbox_listing}
+use Rattle.pool_machine.specs.Refusals.{first}
+use Rattle.pool_machine.specs.Listing.{Entry, DeskListing, desk_listing, inbox_listing}
 use Rattle.event_floor.specs.headline.Listing.{entry_at, desk_of, batch_of, listing_of}
 use Rattle.event_floor.proofs.headline.Lists.{get_or-map_default, set-map, any-map}
 

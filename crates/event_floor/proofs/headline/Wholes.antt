@@ -8,10 +8,10 @@ use Rattle.region_cut.specs.declared.slot.Slot.{Slot}
 use Rattle.slot_chain.specs.Buffer.{Buffer}
 use Rattle.digit_route.specs.Digits.{Scheme, IsScheme}
 use Rattle.pool_desk.specs.declared.freed.Freed.{Freed}
-use Rattle.event_floor.specs.declared.request.Request.{Request}
-use Rattle.event_floor.specs.declared.request.Request.TheVariants.{Adopt, Retire, Claim, Alloc, Free, Send, Link, Take}
-use Rattle.event_floor.specs.declared.reply.Reply.{Reply}
-use Rattle.event_floor.specs.declared.reply.Reply.TheVariants.{Done, Chunk, Slot as Lent, Home, Cached, Due, Batch, Counts}
+use Rattle.pool_machine.specs.declared.request.Request.{Request}
+use Rattle.pool_machine.specs.declared.request.Request.TheVariants.{Adopt, Retire, Claim, Alloc, Free, Send, Link, Take}
+use Rattle.pool_machine.specs.declared.reply.Reply.{Reply}
+use Rattle.pool_machine.specs.declared.reply.Reply.TheVariants.{Done, Chunk, Slot as Lent, Home, Cached, Due, Batch, Counts}
 use Rattle.event_floor.specs.Lent.{place_of, AreInPlace}
 use Rattle.event_floor.specs.Seats.{idle_seats}
 use Rattle.region_cut.specs.declared.TheConstants.{CHUNK}
@@ -20,12 +20,12 @@ use Rattle.region_cut.specs.declared.part.Part.{Part}
 use Rattle.event_floor.specs.Floors.{FloorSeen, IsFloor, opening}
 use Rattle.event_floor.specs.Steps.{Does, DrawsChunk, LendsSlot, TakesBack}
 use Rattle.event_floor.specs.Runs.{Answers}
-use Rattle.event_floor.specs.machine.Steps.{Answer}
-use Rattle.event_floor.specs.machine.Listing.{empty_desk, Shown}
-use Rattle.event_floor.specs.machine.State.{opening as machine_opening}
+use Rattle.pool_machine.specs.Steps.{Answer}
+use Rattle.pool_machine.specs.Listing.{empty_desk, Shown}
+use Rattle.pool_machine.specs.State.{opening as machine_opening}
 use Rattle.event_floor.specs.headline.Listing.{entry_of, desk_of, batch_of, listing_of}
 use Rattle.event_floor.specs.headline.Whole.{IsWhole, IsStocked}
-use Rattle.event_floor.proofs.machine.Parts.{opened, opening_shown}
+use Rattle.pool_machine.proofs.Parts.{opened, opening_shown}
 use Rattle.event_floor.proofs.headline.Tables.{present_replicate}
 use Rattle.event_floor.proofs.headline.Lends.{placed_slot, in_table}
 

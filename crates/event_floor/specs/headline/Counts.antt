@@ -5,9 +5,9 @@ use Rattle.slot_chain.specs.Counts.{capped}
 use Rattle.event_floor.specs.Floors.{FloorSeen, desk_at}
 use Rattle.event_floor.specs.Posted.{buffers_in, inbox_at}
 use Rattle.event_floor.specs.Seats.{home_of, cached_of}
-use Rattle.event_floor.specs.machine.State.{State}
-use Rattle.event_floor.specs.machine.Listing.{Shown}
-use Rattle.event_floor.specs.machine.Told.{home_count, cached_count, queued_count, lent_count, drawn_count}
+use Rattle.pool_machine.specs.State.{State}
+use Rattle.pool_machine.specs.Listing.{Shown}
+use Rattle.pool_machine.specs.Told.{home_count, cached_count, queued_count, lent_count, drawn_count}
 use Rattle.event_floor.specs.headline.Listing.{listing_of}
 
 -- the answers of `Floor::counts`, `lent_count` and `drawn_count` are the state's

@@ -1,9 +1,9 @@
 -- What a run of a floor comes to.
 use Rattle.std.specs.Prelude.{List}
-use Rattle.event_floor.specs.declared.request.Request.{Request}
+use Rattle.pool_machine.specs.declared.request.Request.{Request}
 use Rattle.event_floor.specs.Floors.{FloorSeen}
-use Rattle.event_floor.specs.machine.Steps.{Answer}
-use Rattle.event_floor.specs.machine.Headline.{Applies as ListingApplies, Headline as ListingHeadline, ShowsSome as ListingShows}
+use Rattle.pool_machine.specs.Steps.{Answer}
+use Rattle.pool_machine.specs.Headline.{Applies as ListingApplies, Headline as ListingHeadline, ShowsSome as ListingShows}
 use Rattle.event_floor.specs.headline.Listing.{listing_of}
 use Rattle.event_floor.specs.headline.Names.{IsNamed}
 

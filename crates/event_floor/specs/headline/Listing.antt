@@ -8,7 +8,7 @@ use Rattle.event_floor.specs.declared.seat.Seat.TheVariants.{Idle, Held}
 use Rattle.event_floor.specs.Lent.{buffers_lent}
 use Rattle.event_floor.specs.Posted.{Posted}
 use Rattle.event_floor.specs.Floors.{FloorSeen}
-use Rattle.event_floor.specs.machine.Listing.{Entry, DeskListing, BatchListing, Listing}
+use Rattle.pool_machine.specs.Listing.{Entry, DeskListing, BatchListing, Listing}
 
 -- a buffer without its bytes
 abbrev pub entry_of : Buffer → Entry

@@ -7,14 +7,14 @@ use Rattle.region_cut.specs.Classes.{size_of, slots_of}
 use Rattle.slot_chain.specs.Buffer.{Buffer}
 use Rattle.pool_desk.specs.Homes.{AtHome, Unused}
 use Rattle.pool_desk.specs.Homes.AtHome.{Kept, Fresh}
-use Rattle.event_floor.specs.declared.chunks.Drawn.{Drawn}
+use Rattle.pool_machine.specs.declared.chunk.DrawnChunk.{DrawnChunk}
 use Rattle.event_floor.specs.declared.seat.Seat.{Seat}
 use Rattle.event_floor.specs.declared.seat.Seat.TheVariants.{Idle, Held}
 use Rattle.event_floor.specs.Chunks.{class_drawn}
 use Rattle.event_floor.specs.Posted.{Posted, inbox_at}
 use Rattle.event_floor.specs.Seats.{home_of, cached_of}
 use Rattle.event_floor.specs.Floors.{FloorSeen, desk_at, desk_count}
-use Rattle.event_floor.specs.machine.Slots.{one_if}
+use Rattle.pool_machine.specs.Slots.{one_if}
 
 -- the buffer of place i of a chunk has the i-th name that was taken of the chunk, the chunk's class, and as many bytes as the class says
 pub record HasName (names : List Carved) (b : Buffer) : Type 0 where
@@ -44,15 +44,15 @@ chunks_of (Idle d) = d.drawn
 chunks_of (Held d) = d.drawn
 
 -- the chunk was drawn for desk a
-abbrev pub is_drawn_for : ℕ → Option Drawn → Bool
+abbrev pub is_drawn_for : ℕ → Option DrawnChunk → Bool
 is_drawn_for a None = false
 is_drawn_for a (Some d) = d.owner == a
 
-abbrev pub drew : List Drawn → ℕ → ℕ → Bool
+abbrev pub drew : List DrawnChunk → ℕ → ℕ → Bool
 drew drawn a k = is_drawn_for a (slice_get drawn k)
 
 -- desk a: all its buffers have their names, and it knows each chunk that was drawn for it once, and no other
-pub record IsNamedDesk (names : List Carved) (drawn : List Drawn) (a : ℕ) (s : Seat) : Type 0 where
+pub record IsNamedDesk (names : List Carved) (drawn : List DrawnChunk) (a : ℕ) (s : Seat) : Type 0 where
   pub home : All (IsNamedHome names) (home_of s)
   pub cached : All (HasName names) (cached_of s)
   pub same : All (λ (c : Carved). slice_get names c.chunk ≡ Some c) (chunks_of s)
@@ -60,7 +60,7 @@ pub record IsNamedDesk (names : List Carved) (drawn : List Drawn) (a : ℕ) (s :
 
 -- chunk k was drawn for its class, over the part of its number; no more names were taken of it than it has slots, and what is left of it
 -- are the bytes behind them
-pub record IsNamedChunk (parts : List GName) (drawn : List Drawn) (k : ℕ) (c : Carved) : Type 0 where
+pub record IsNamedChunk (parts : List GName) (drawn : List DrawnChunk) (k : ℕ) (c : Carved) : Type 0 where
   pub number : c.chunk ≡ k
   pub class : class_drawn drawn k ≡ Some c.class
   pub part : slice_get parts k ≡ Some c.whole

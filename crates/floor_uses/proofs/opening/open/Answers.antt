@@ -1,7 +1,7 @@
 use Rattle.std.proofs.Common.{ℕ, subst}
 use Rattle.event_floor.specs.headline.Listing.{listing_of}
-use Rattle.event_floor.specs.machine.Listing.{Shown}
-use Rattle.event_floor.specs.machine.State.{opening}
+use Rattle.pool_machine.specs.Listing.{Shown}
+use Rattle.pool_machine.specs.State.{opening}
 use Rattle.floor_uses.proofs.opening.open.Goals as goal
 
 -- the parts are as many as the region has whole chunks

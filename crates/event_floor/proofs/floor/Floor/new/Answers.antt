@@ -4,8 +4,8 @@ use Rattle.event_floor.specs.headline.Headline.{Shows}
 use Rattle.event_floor.specs.headline.Listing.{listing_of}
 use Rattle.event_floor.specs.headline.Names.{IsNamed}
 use Rattle.event_floor.specs.headline.Whole.{IsWhole}
-use Rattle.event_floor.specs.machine.Listing.{Shown}
-use Rattle.event_floor.specs.machine.State.{opening as machine_opening}
+use Rattle.pool_machine.specs.Listing.{Shown}
+use Rattle.pool_machine.specs.State.{opening as machine_opening}
 use Rattle.event_floor.proofs.ChunkLaws.{numbered_few}
 use Rattle.event_floor.proofs.headline.Keeping.{opening_named}
 use Rattle.event_floor.proofs.headline.Runs.{opening_shows}

@@ -1,6 +1,6 @@
 use Rattle.std.proofs.Common.{◌+◌, [], ◌∷◌, ◌++◌, take, take_all, refl, sym, ap, ◌∙◌, subst, arith, get_or}
 use Rattle.std.proofs.lemmas.List.{take_more}
-use Rattle.event_floor.specs.declared.request.Request.TheVariants.{Adopt}
+use Rattle.pool_machine.specs.declared.request.Request.TheVariants.{Adopt}
 use Rattle.event_floor.specs.Runs.{Answers, Runs}
 use Rattle.event_floor.proofs.RunLaws.{runs_none, runs_push, answers_of}
 use Rattle.event_floor.proofs.headline.Runs.{AppliesAll, run_none, run_push, run_headline}

@@ -5,7 +5,7 @@ use Rattle.event_floor.specs.declared.seat.Seat.TheVariants.{Held}
 use Rattle.event_floor.specs.Floors.{AreOwned, no_desk}
 use Rattle.event_floor.proofs.SeatLaws.{alloc_seated, alloc_placed}
 use Rattle.event_floor.proofs.FloorLaws.{floor_settled, floor_seat, floor_lent, owned_set, place_within, desk_read, seated_at}
-use Rattle.event_floor.proofs.HeldLaws.{within, too_few, is_idle, floor_kept, view_kept, on_err, count_kept}
+use Rattle.event_floor.proofs.HeldLaws.{within, too_few, is_idle, floor_kept, view_kept, count_kept}
 use Rattle.event_floor.proofs.StepLaws.{alloc_refused, lends_slot}
 use Rattle.event_floor.proofs.lists.Lists.alloc.Goals as goal
 
@@ -15,7 +15,7 @@ put-requires-clause-within c =
     let held : get_or c.self.inside.desks.items c.args.a no_desk ≡ Held c.in-Held.desk = desk_read _ _ _ _ there c.index_mut.ensures.value c.in-Held.is in
     let f = c.self.invariant in
     let seat = seated_at c.args.a c.in-Held.desk f there held in
-    let at = alloc_placed _ _ _ _ _ _ _ _ c.in_ok-buf.buf seat c.in_ok-buf.ensures in
+    let at = alloc_placed _ _ _ _ _ _ _ _ c.in-Ok.buf seat c.in-Ok.ensures in
     place_within _ _ _ _ at.0 at.1 f.table
 
 pub put-requires-clause-index : goal.put-requires-clause-index
@@ -24,19 +24,19 @@ put-requires-clause-index c =
     let held : get_or c.self.inside.desks.items c.args.a no_desk ≡ Held c.in-Held.desk = desk_read _ _ _ _ there c.index_mut.ensures.value c.in-Held.is in
     let f = c.self.invariant in
     let seat = seated_at c.args.a c.in-Held.desk f there held in
-    (alloc_placed _ _ _ _ _ _ _ _ c.in_ok-buf.buf seat c.in_ok-buf.ensures).1
+    (alloc_placed _ _ _ _ _ _ _ _ c.in-Ok.buf seat c.in-Ok.ensures).1
 
-pub invariant_of-self-2 : goal.invariant_of-self-2
-invariant_of-self-2 c =
+pub invariant_of-self-in-Ok : goal.invariant_of-self-in-Ok
+invariant_of-self-in-Ok c =
     let there = within _ _ _ _ c.if-place-len.false c.len.ensures c.self.inside.desks.ok.0 in
     let held : get_or c.self.inside.desks.items c.args.a no_desk ≡ Held c.in-Held.desk = desk_read _ _ _ _ there c.index_mut.ensures.value c.in-Held.is in
     let f = c.self.invariant in
     let seat = seated_at c.args.a c.in-Held.desk f there held in
-    let at = alloc_placed _ _ _ _ _ _ _ _ c.in_ok-buf.buf seat c.in_ok-buf.ensures in
-    let own = owned_set _ _ _ _ f.owned (place_within _ _ _ _ at.0 at.1 f.table) (rw (c.in_ok-buf.ensures.1.owner_is ∙ seat.numbered.0) there) in
+    let at = alloc_placed _ _ _ _ _ _ _ _ c.in-Ok.buf seat c.in-Ok.ensures in
+    let own = owned_set _ _ _ _ f.owned (place_within _ _ _ _ at.0 at.1 f.table) (rw (c.in-Ok.ensures.1.owner_is ∙ seat.numbered.0) there) in
     floor_settled (floor_seat c.args.a _
     (floor_lent _ f (ap length c.put.ensures ∙ length-set _ _ _) (subst (λ z. AreOwned (length c.self.inside.desks.items) z) (sym c.put.ensures) own)) there
-    (alloc_seated _ _ _ _ _ _ _ _ _ seat c.in_ok-buf.ensures))
+    (alloc_seated _ _ _ _ _ _ _ _ _ seat c.in-Ok.ensures))
 
 pub returns-then-place-len-clause-refuses : goal.returns-then-place-len-clause-refuses
 returns-then-place-len-clause-refuses c =
@@ -63,33 +63,33 @@ pub returns-in_default-clause-desks : goal.returns-in_default-clause-desks
 returns-in_default-clause-desks c =
     count_kept _ _ c.args.a c.index_mut.result.now c.self.view_is
 
-pub invariant_of-self-in_err-buf : goal.invariant_of-self-in_err-buf
-invariant_of-self-in_err-buf c =
-    let same : c.index_mut.result.now ≡ Held c.alloc.new.self = c.in-Held.is ∙ ap (λ (d : DeskState). Held d) (sym c.in_err-buf.ensures.1) in
+pub invariant_of-self-in-Err : goal.invariant_of-self-in-Err
+invariant_of-self-in-Err c =
+    let same : c.index_mut.result.now ≡ Held c.alloc.new.self = c.in-Held.is ∙ ap (λ (d : DeskState). Held d) (sym c.in-Err.ensures.1) in
     floor_kept c.args.a _ _ c.self.invariant c.index_mut.ensures.value same
 
-pub returns-in_err-buf-clause-refuses : goal.returns-in_err-buf-clause-refuses
-returns-in_err-buf-clause-refuses c =
+pub returns-in-Err-clause-refuses : goal.returns-in-Err-clause-refuses
+returns-in-Err-clause-refuses c =
     let there = within _ _ _ _ c.if-place-len.false c.len.ensures c.self.inside.desks.ok.0 in
     let held : get_or c.self.inside.desks.items c.args.a no_desk ≡ Held c.in-Held.desk = desk_read _ _ _ _ there c.index_mut.ensures.value c.in-Held.is in
     let seat = seated_at c.args.a c.in-Held.desk c.self.invariant there held in
-    alloc_refused _ _ c.args.a c.args.size c.in-Held.desk _ c.from_residual.result c.self.view_is (there, held) seat.numbered c.in_err-buf.ensures.0 c.from_residual.ensures.1
+    alloc_refused _ _ c.args.a c.args.size c.in-Held.desk _ c.refusal_by_desk.result c.self.view_is (there, held) seat.numbered c.in-Err.ensures.0 c.refusal_by_desk.ensures
 
-pub returns-in_err-buf-clause-unchanged : goal.returns-in_err-buf-clause-unchanged
-returns-in_err-buf-clause-unchanged c =
-    let same : c.index_mut.result.now ≡ Held c.alloc.new.self = c.in-Held.is ∙ ap (λ (d : DeskState). Held d) (sym c.in_err-buf.ensures.1) in
-    on_err c.from_residual.result (view_kept _ _ c.args.a _ _ c.self.view_is c.index_mut.ensures.value same)
+pub returns-in-Err-clause-unchanged : goal.returns-in-Err-clause-unchanged
+returns-in-Err-clause-unchanged c =
+    let same : c.index_mut.result.now ≡ Held c.alloc.new.self = c.in-Held.is ∙ ap (λ (d : DeskState). Held d) (sym c.in-Err.ensures.1) in
+    view_kept _ _ c.args.a _ _ c.self.view_is c.index_mut.ensures.value same
 
-pub returns-in_err-buf-clause-desks : goal.returns-in_err-buf-clause-desks
-returns-in_err-buf-clause-desks c =
+pub returns-in-Err-clause-desks : goal.returns-in-Err-clause-desks
+returns-in-Err-clause-desks c =
     count_kept _ _ c.args.a (Held c.alloc.new.self) c.self.view_is
 
-pub returns-clause-does : goal.returns-clause-does
-returns-clause-does c =
+pub returns-in-Ok-clause-does : goal.returns-in-Ok-clause-does
+returns-in-Ok-clause-does c =
     let there = within _ _ _ _ c.if-place-len.false c.len.ensures c.self.inside.desks.ok.0 in
     let held : get_or c.self.inside.desks.items c.args.a no_desk ≡ Held c.in-Held.desk = desk_read _ _ _ _ there c.index_mut.ensures.value c.in-Held.is in
-    lends_slot _ _ c.args.a c.args.size _ c.in-Held.desk c.alloc.new.self c.in_ok-buf.buf c.put.new.self c.self.view_is (there, held) c.in_ok-buf.ensures c.slot-slot.ensures c.put.ensures
+    lends_slot _ _ c.args.a c.args.size _ c.in-Held.desk c.alloc.new.self c.in-Ok.buf c.put.new.self c.self.view_is (there, held) c.in-Ok.ensures c.slot-slot.ensures c.put.ensures
 
-pub returns-clause-desks : goal.returns-clause-desks
-returns-clause-desks c =
+pub returns-in-Ok-clause-desks : goal.returns-in-Ok-clause-desks
+returns-in-Ok-clause-desks c =
     count_kept _ _ c.args.a (Held c.alloc.new.self) c.self.view_is

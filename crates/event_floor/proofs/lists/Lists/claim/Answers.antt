@@ -1,6 +1,6 @@
 use Rattle.std.proofs.Common.{◌≡◌, ◌<◌, refl, ap, sym, subst, get_or}
-use Rattle.event_floor.specs.declared.refusal.Refusal.TheVariants.{BadClass, NotNeeded, NoChunk}
-use Rattle.event_floor.specs.declared.request.Request.TheVariants.{Claim}
+use Rattle.pool_machine.specs.declared.refusal.Refusal.TheVariants.{BadClass, NotNeeded, NoChunk}
+use Rattle.pool_machine.specs.declared.request.Request.TheVariants.{Claim}
 use Rattle.event_floor.specs.declared.seat.Seat.TheVariants.{Held}
 use Rattle.event_floor.specs.Floors.{FloorSeen, no_desk}
 use Rattle.event_floor.specs.Chunks.{ChunksSeen}

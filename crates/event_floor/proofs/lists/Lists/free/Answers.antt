@@ -1,8 +1,8 @@
 use Rattle.std.proofs.Common.{◌≡◌, ◌<◌, ◌∙◌, refl, ap, sym, subst, length, get_or}
 use Rattle.std.proofs.lemmas.List.{length-set}
 use Rattle.region_cut.specs.declared.slot.Slot.{Slot}
-use Rattle.event_floor.specs.declared.refusal.Refusal.TheVariants.{NotLent}
-use Rattle.event_floor.specs.declared.request.Request.TheVariants.{Free}
+use Rattle.pool_machine.specs.declared.refusal.Refusal.TheVariants.{NotLent}
+use Rattle.pool_machine.specs.declared.request.Request.TheVariants.{Free}
 use Rattle.event_floor.specs.declared.seat.Seat.TheVariants.{Held}
 use Rattle.event_floor.specs.Floors.{FloorSeen, AreOwned, IsKnown, no_desk}
 use Rattle.event_floor.specs.Steps.{Refuses}
@@ -84,7 +84,7 @@ returns-clause-does c =
     let held : get_or c.self.inside.desks.items c.args.a no_desk ≡ Held c.in-Held.desk = desk_read _ _ _ _ there c.index_mut.ensures.value c.in-Held.is in
     let took = c.in-Some.ensures in
     takes_back _ _ c.args.a c.args.chunk c.args.index c.in-Held.desk c.free.new.self c.in-Some.buf c.free.result _ c.take.new.self c.self.view_is (there, held)
-    took.0 took.1 took.4 c.free.ensures c.from.ensures
+    took.0 took.1 took.4 c.free.ensures c.reply_of_free.ensures
 
 pub returns-clause-desks : goal.returns-clause-desks
 returns-clause-desks c =

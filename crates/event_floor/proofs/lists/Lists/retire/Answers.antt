@@ -1,8 +1,8 @@
 use Rattle.std.proofs.Common.{◌<◌, subst, inr, sym}
 use Rattle.event_floor.specs.Floors.{FloorSeen}
 use Rattle.event_floor.specs.Steps.{Refuses}
-use Rattle.event_floor.specs.declared.refusal.Refusal.TheVariants.{Unsettled}
-use Rattle.event_floor.specs.declared.request.Request.TheVariants.{Retire}
+use Rattle.pool_machine.specs.declared.refusal.Refusal.TheVariants.{Unsettled}
+use Rattle.pool_machine.specs.declared.request.Request.TheVariants.{Retire}
 use Rattle.event_floor.proofs.FloorLaws.{floor_settled, floor_seat, seated_read, desk_read}
 use Rattle.event_floor.proofs.SeatLaws.{release_seated}
 use Rattle.event_floor.proofs.HeldLaws.{within, too_few, is_idle, count_kept}

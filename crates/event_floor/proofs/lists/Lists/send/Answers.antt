@@ -44,7 +44,7 @@ returns-in-Some-clause-refuses c =
     let held : get_or c.self.inside.desks.items c.args.a no_desk ≡ Held c.in-Held.desk = desk_read _ _ _ _ there c.index_mut.ensures.value c.in-Held.is in
     let seat = seated_at c.args.a c.in-Held.desk c.self.invariant there held in
     send_refused _ _ c.args.a c.args.t c.in-Held.desk c.in-Some.fault _ c.self.view_is
-    ((there, held), there_too, fault_at _ _ _ c.in-Held.desk c.args.t (Some c.in-Some.fault) seat.numbered c.in-Some.ensures) c.from.ensures
+    ((there, held), there_too, fault_at _ _ _ c.in-Held.desk c.args.t (Some c.in-Some.fault) seat.numbered c.in-Some.ensures) c.refusal_by_route.ensures
 
 pub returns-in-Some-clause-unchanged : goal.returns-in-Some-clause-unchanged
 returns-in-Some-clause-unchanged c =

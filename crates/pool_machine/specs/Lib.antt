@@ -1,0 +1,12 @@
+pub mod Slots
+pub mod State
+pub mod Refusals
+pub mod RefusalNames
+pub mod Steps
+pub mod Forwards
+pub mod Sound
+pub mod Told
+pub mod Listing
+pub mod Headline
+pub mod Laws
+pub mod Worked
