@@ -7,7 +7,6 @@ pub mod IndexLaws
 pub mod ListLaws
 pub mod PostLaws
 pub mod RiseLaws
-pub mod RunLaws
 pub mod SeatLaws
 pub mod headline
 pub mod StepLaws

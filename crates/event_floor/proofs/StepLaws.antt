@@ -1,6 +1,6 @@
 -- What the calls of the parts of a floor come to, in the words of its steps.
 use Rattle.std.proofs.Common.{◌≡◌, ℕ, ◌+◌, ◌<◌, ◌≤◌, List, [], ◌∷◌, ◌++◌, length, set, refl, sym, ap, ◌∙◌, subst}
-use Rattle.std.specs.Prelude.{Option, Some, None, Ok}
+use Rattle.std.specs.Prelude.{Option, Some, None, Result, Ok, Err, IfOk, IfErr, OnErr}
 use Rattle.std.specs.List.{slice_get}
 use Rattle.region_cut.specs.Parts.{name_of, bytes_of}
 use Rattle.region_cut.specs.Classes.{largest_of}
@@ -25,9 +25,10 @@ use Rattle.event_floor.specs.Chunks.{ChunksSeen}
 use Rattle.event_floor.specs.Seats.{IsNumbered}
 use Rattle.event_floor.specs.Posted.{Posted, SendsTo, TakesFrom}
 use Rattle.event_floor.specs.Floors.{FloorSeen, IsHeld, with_desk, last_number}
-use Rattle.event_floor.specs.Steps.{Refuses, Does, DrawsChunk, LendsSlot, TakesBack, SendsBatch, TakesFront, Routes, class_limit}
+use Rattle.event_floor.specs.Steps.{Answers, Refuses, Does, DrawsChunk, LendsSlot, TakesBack, SendsBatch, TakesFront, Routes, class_limit}
 use Rattle.event_floor.specs.Answers.{reply_of, refusal_of, route_refusal}
 use Rattle.event_floor.specs.Lent.{lent_at, place_of}
+use Rattle.pool_machine.specs.declared.request.Request.{Request}
 use Rattle.pool_machine.specs.declared.request.Request.TheVariants.{Alloc, Free, Send}
 use Rattle.pool_machine.specs.declared.reply.Reply.{Reply}
 use Rattle.pool_machine.specs.declared.refusal.Refusal.{Refusal}
@@ -159,3 +160,9 @@ takes_front v w b d d' batch inboxes counts same held took handles counted =
       counted = subst (λ z. Counted d.number z counts) took.leaves.items counted;
       same = ap (λ (z : List (List Posted)). record (with_desk v b d') { inboxes = z }) took.same;
     })
+
+-- the clauses of a step, told together
+pub answers_of : (v w : FloorSeen) (q : Request) (y : Result Reply Refusal) → IfOk y (λ reply. Does v q reply w) → IfErr y (λ refusal. Refuses v q refusal)
+    → OnErr y (w ≡ v) → Answers v q y w
+answers_of v w q (Ok reply) does refuses unchanged = does
+answers_of v w q (Err refusal) does refuses unchanged = (refuses, unchanged)

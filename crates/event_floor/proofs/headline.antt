@@ -19,3 +19,7 @@ pub mod Handed
 pub mod Keeping
 pub mod Found
 pub mod Ends
+pub mod Listed
+pub mod Stands
+pub mod Everywhere
+pub mod Kept

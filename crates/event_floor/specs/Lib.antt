@@ -4,7 +4,6 @@ pub mod Floors
 pub mod Halves
 pub mod Lent
 pub mod Posted
-pub mod Runs
 pub mod Seats
 pub mod Steps
 pub mod headline

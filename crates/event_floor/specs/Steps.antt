@@ -1,5 +1,5 @@
 -- What a request does to a floor, and why it is refused.
-use Rattle.std.specs.Prelude.{ℕ, ◌≡◌, ◌≢◌, ◌<◌, ◌≤◌, ◌+◌, ◌∷◌, ◌++◌, ◌⊎◌, [], true, List, length, slice_get, slice_index_or, slice_set, Option, Some, None, Ok}
+use Rattle.std.specs.Prelude.{ℕ, ◌≡◌, ◌≢◌, ◌<◌, ◌≤◌, ◌+◌, ◌∷◌, ◌++◌, ◌⊎◌, [], true, List, length, slice_get, slice_index_or, slice_set, Option, Some, None, Result, Ok, Err}
 use Rattle.region_cut.specs.declared.part.Part.{Part}
 use Rattle.region_cut.specs.declared.slot.Slot.{Slot}
 use Rattle.region_cut.specs.Classes.{classes_of, largest_of}
@@ -183,3 +183,8 @@ Does old (Send a t) (Batch number count) new = SendsBatch old a t number count n
 Does old (Link number) Done new = LinksBatch old number new
 Does old (Take b) (Counts home on) new = TakesFront old b home on new
 Does old request reply new = ⊥
+
+-- the request did what its reply says, or it was refused for this reason and changed nothing
+abbrev pub Answers : FloorSeen → Request → Result Reply Refusal → FloorSeen → Type 0
+Answers old request (Ok reply) new = Does old request reply new
+Answers old request (Err refusal) new = Refuses old request refusal × (new ≡ old)

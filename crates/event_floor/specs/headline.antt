@@ -1,7 +1,9 @@
 pub mod Counts
+pub mod Slots
 pub mod Listing
 pub mod Whole
 pub mod Names
 pub mod Lying
 pub mod Headline
 pub mod Known
+pub mod Bytes

@@ -1,5 +1,6 @@
 //! The floor.
-ghost use Rattle.std.specs.Prelude.{[], ◌≡◌, ◌<◌, ◌≤◌, ◌^◌, length, map, is_some, count_by, IfOk, IfErr, OnErr, IsPermutation};
+ghost use Rattle.std.specs.Prelude.{ℕ, List, [], ◌≡◌, ◌<◌, ◌≤◌, ◌^◌, ◌++◌, length, map, flat_map, is_some, count_by, IfOk, IfErr, OnErr, IsPermutation};
+ghost use Rattle.region_cut.specs.Parts.{bytes_of};
 ghost use Rattle.slot_chain.specs.Counts.{capped};
 ghost use Rattle.digit_route.specs.Slots.{slot_of};
 ghost use Rattle.pool_desk.specs.Homes.{slot_at};
@@ -7,9 +8,9 @@ ghost use Rattle.event_floor.specs.Chunks.{AreNumbered, class_drawn};
 ghost use Rattle.event_floor.specs.Floors.{desk_count, desk_at, opening};
 ghost use Rattle.event_floor.specs.Lent.{buffers_lent};
 ghost use Rattle.event_floor.specs.Posted.{buffers_in, inbox_at};
-ghost use Rattle.event_floor.specs.Runs.{Runs};
+ghost use Rattle.event_floor.specs.Steps.{Answers};
 ghost use Rattle.event_floor.specs.Seats.{home_of, cached_of};
-ghost use Rattle.event_floor.specs.Steps.{Does, Refuses};
+ghost use Rattle.event_floor.specs.headline.Bytes.{Holds, KeepsBytes, EndsAsHeld};
 ghost use Rattle.event_floor.specs.headline.Headline.{Applies, Headline, Shows};
 ghost use Rattle.event_floor.specs.headline.Known.{EndsKnown};
 ghost use Rattle.event_floor.specs.headline.Listing.{listing_of};
@@ -64,6 +65,8 @@ impl<'r> Floor<'r> {
         ensures opening { IfOk result (λ f. f ≡ opening desks parts.entry.items digits limit) }
         ensures shows { IfOk result (λ f.
             Shown (listing_of f) (machine_opening desks (length parts.entry.items) digits limit) (λ slot. 0)) }
+        ensures bytes { IfOk result (λ f.
+            (tail : List ℕ) → Holds f (flat_map bytes_of parts.entry.items ++ tail)) }
     {
         let _profile = digits.profile();
         let lists = Lists::new(alloc, parts, desks, digits, limit)?;
@@ -77,8 +80,21 @@ impl<'r> Floor<'r> {
     /// batches wait in that inbox. All other requests take constant time.
     pub fn apply(&mut self, alloc: Global, request: Request) -> Result<Reply, Refusal>
         ensures applies { Applies self.old request result self.new }
-        ensures does { IfOk result (λ reply. Does self.old request reply self.new) }
-        ensures refuses { IfErr result (λ refusal. Refuses self.old request refusal) }
+        ensures named { IsNamed self.new }
+        ensures bytes { KeepsBytes self.old self.new }
+        ensures unchanged { OnErr result (self.new ≡ self.old) }
+        ensures desks { desk_count self.new ≡ desk_count self.old }
+        ensures parts { self.new.parts ≡ self.old.parts }
+    {
+        self.keeps();
+        self.step(alloc, request)
+    }
+
+    // The same, by the lists.
+    fn step(&mut self, alloc: Global, request: Request) -> Result<Reply, Refusal>
+        ensures answers { Answers self.old request result self.new }
+        ensures applies { Applies self.old request result self.new }
+        ensures named { IsNamed self.new }
         ensures unchanged { OnErr result (self.new ≡ self.old) }
         ensures desks { desk_count self.new ≡ desk_count self.old }
         ensures parts { self.new.parts ≡ self.old.parts }
@@ -97,7 +113,8 @@ impl<'r> Floor<'r> {
     ) -> Result<Vec<Result<Reply, Refusal>>, NoMemory>
         ensures shows { Shows self.old }
         ensures headline { IfOk result (λ answers. Headline self.old requests.now answers.items self.new) }
-        ensures runs { IfOk result (λ answers. Runs self.old requests.now answers.items self.new) }
+        ensures named { IsNamed self.new }
+        ensures bytes { KeepsBytes self.old self.new }
         ensures unchanged { OnErr result (self.new ≡ self.old) }
         ensures desks { desk_count self.new ≡ desk_count self.old }
         ensures parts { self.new.parts ≡ self.old.parts }
@@ -105,7 +122,7 @@ impl<'r> Floor<'r> {
         self.keeps();
         let mut answers = Vec::with_capacity(alloc, requests.len())?;
         for request in requests {
-            let answer = self.apply(alloc, *request);
+            let answer = self.step(alloc, *request);
             answers.push_reserved(answer);
         }
         self.keeps();
@@ -116,6 +133,7 @@ impl<'r> Floor<'r> {
     /// holds. Takes a walk over all of them, and no memory.
     pub fn end(self) -> Endings<'r>
         ensures known { EndsKnown self.entry result.known }
+        ensures bytes { EndsAsHeld self.entry result.known }
         ensures closed { result.chunks ≡ [] }
     {
         let Floor { lists } = self;

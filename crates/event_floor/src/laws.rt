@@ -2,9 +2,16 @@
 //!
 //! The laws of the machine itself are those of `pool_machine` (`laws`).
 ghost use Rattle.event_floor.specs.headline.Counts.{FloorsTellCounts};
+ghost use Rattle.event_floor.specs.headline.Slots.{FloorsListSlots};
 
 /// What a floor counts is what the machine counts: slots at home, in caches and on their way, lent buffers and drawn
 /// chunks of any state that the floor shows.
 pub fn floors_tell_counts()
     ensures { FloorsTellCounts }
+{}
+
+/// The slots that a floor lists at home, in caches, on their way and lent are those that the machine has there, in any
+/// state that the floor shows; joined they are each slot of each drawn chunk, once.
+pub fn floors_list_slots()
+    ensures { FloorsListSlots }
 {}

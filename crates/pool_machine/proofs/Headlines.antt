@@ -78,13 +78,7 @@ headline old qs ys new f st count h =
       g.0,
       record {
         run = g.1;
-        frame = g.2.frame;
+        shown = g.2;
         once = shown_once new g.0 (λ s. forwards st qs ys s (start_count st count s)) g.2;
-        in_place = g.2.in_place;
-        homes = g.2.homes;
-        lent = g.2.lent;
-        cached = g.2.cached;
-        posted = g.2.posted;
-        few = g.2.sound.few;
       },
     )

@@ -1,12 +1,12 @@
 -- What a floor does is what the machine does.
-use Rattle.std.specs.Prelude.{ℕ, ◌<◌, Bool, true, false, List, ◌++◌, flat_map, if◌then◌else◌, All, Option, Some}
+use Rattle.std.specs.Prelude.{ℕ, Bool, true, false, List, ◌++◌, flat_map, if◌then◌else◌, Option, Some}
 use Rattle.region_cut.specs.declared.slot.Slot.{Slot}
 use Rattle.pool_machine.specs.declared.request.Request.{Request}
 use Rattle.pool_machine.specs.Slots.{ExactlyOnce}
-use Rattle.pool_machine.specs.State.{State, Place, InCache, InBatch, digits_of}
+use Rattle.pool_machine.specs.State.{State, Place, InCache, InBatch}
 use Rattle.pool_machine.specs.Steps.{Answer, Step, Run}
 use Rattle.pool_machine.specs.Forwards.{counted, forwards}
-use Rattle.pool_machine.specs.Listing.{Listing, DeskListing, BatchListing, desk_listing, inbox_listing, slots_seen, Labelled, Counted, ShowsFrame, InPlace, Shown}
+use Rattle.pool_machine.specs.Listing.{Listing, DeskListing, BatchListing, slots_seen, Shown}
 
 -- one request is one step of the machine, from each state that the floor shows to one that it shows afterwards
 abbrev pub Applies : Listing → Request → Answer → Listing → Type 0
@@ -18,7 +18,7 @@ abbrev pub AppliesAll : Listing → List Request → List Answer → Listing →
 AppliesAll old qs ys new = (st : State) (count : Slot → ℕ) → Shown old st count →
     (end : State) × Run st qs ys end × Shown new end (λ s. forwards st qs ys s (count s))
 
--- the floor shows some sound state
+-- the lists show some sound state
 abbrev pub ShowsSome : Listing → Type 0
 ShowsSome v = (st : State) × (count : Slot → ℕ) × Shown v st count
 
@@ -44,19 +44,12 @@ start_count st count s = if is_kept (st.place s) then count s else 0
 abbrev pub count_after : State → (Slot → ℕ) → List Request → List Answer → Slot → ℕ
 count_after st count requests answers s = forwards st requests answers s (start_count st count s)
 
--- The answers are a run. After it each slot of a drawn chunk is once in the floor's lists joined, in the list that the machine names;
--- each buffer has the owner and the class of its slot, and in a cache or a batch it carries how often it was passed on, which is less
--- often than the number of a desk has digits.
+-- The answers are a run, and the new lists show the state that it leads to, in which each slot was passed on as often as the run tells:
+-- a caller may go on from there. Each slot of a drawn chunk is once in the floor's lists joined.
 pub record HeadlineAt (st : State) (count : Slot → ℕ) (requests : List Request) (answers : List Answer) (new : Listing) (end : State) : Type 0 where
   pub run : Run st requests answers end
-  pub frame : ShowsFrame new end
+  pub shown : Shown new end (count_after st count requests answers)
   pub once : ExactlyOnce (joined new) end.drawn
-  pub in_place : InPlace new end
-  pub homes : (a : ℕ) → All (Labelled end) (desk_listing new a).home
-  pub lent : All (Labelled end) new.lent
-  pub cached : (a : ℕ) → All (Counted end (count_after st count requests answers)) (desk_listing new a).cache
-  pub posted : (b : ℕ) → All (λ (w : BatchListing). All (Counted end (count_after st count requests answers)) w.buffers) (inbox_listing new b)
-  pub few : (s : Slot) → count_after st count requests answers s < digits_of end
 
 -- so it is from each state that the floor shows before
 abbrev pub Headline : Listing → List Request → List Answer → Listing → Type 0

@@ -139,7 +139,7 @@ one_inbox v st c h a b i j d e l m q =
     eqb-true a _ x.1 ∙ (ap (λ (w : Waiting). w.address) z ∙ sym (eqb-true b _ y.1))
 
 module _ (v : Listing) (st : State) (c : Slot → ℕ) (h : Shown v st c) (b j : ℕ) (d : BatchListing) (l : b < length v.inboxes) (m : j < length (inbox_listing v b)) where
-  abbrev w : BatchListing
+  abbrev pub w : BatchListing
   w = get_or (inbox_listing v b) j d
 
   row_only : flat_map (if_numbered w.number) (inbox_listing v b) ≡ slots_seen w.buffers
@@ -149,7 +149,7 @@ module _ (v : Listing) (st : State) (c : Slot → ℕ) (h : Shown v st c) (b j :
       ∙ ap (λ (t : Bool). if t then slots_seen w.buffers else []) (eq-eqb w.number w.number refl)
 
   -- the batch is all that has its number
-  batch_only : slots_in v (BatchOf w.number) ≡ slots_seen w.buffers
+  pub batch_only : slots_in v (BatchOf w.number) ≡ slots_seen w.buffers
   batch_only = flat_only (λ ws. flat_map (if_numbered w.number) ws) v.inboxes b [] l
       (λ a k n. flat_none (if_numbered w.number) (get_or v.inboxes a []) d
       (λ i k'. ap (λ (t : Bool). if t then slots_seen (get_or (inbox_listing v a) i d).buffers else [])

@@ -1,12 +1,13 @@
 -- What is known once all buffers of a floor, and all parts that aren't drawn, were let go.
-use Rattle.std.proofs.Common.{◌≡◌, ℕ, ◌+◌, ◌*◌, ◌-◌, ◌<◌, ◌≤◌, ◌==◌, List, [], ◌∷◌, ◌++◌, map, flat_map, length, get_or, All, Option, Some, None, is_some, refl, sym, ap, ap₂, ◌∙◌, subst, arith, ⊎_elim, IsPermutation}
+use Rattle.std.proofs.Common.{◌≡◌, ℕ, ◌+◌, ◌*◌, ◌-◌, ◌<◌, ◌≤◌, ◌==◌, List, [], ◌∷◌, ◌++◌, map, flat_map, length, take, get_or, All, Option, Some, None, is_some, refl, sym, ap, ap₂, ◌∙◌, subst, arith, ⊎_elim, IsPermutation}
 use Rattle.std.specs.Prelude.{count_by, option_map}
 use Rattle.std.specs.Borrow.{GName}
 use Rattle.std.specs.List.{slice_get}
 use Rattle.std.proofs.Math.Nat.{suc-mul}
 use Rattle.std.proofs.lemmas.Bool.{true≢false, cases_lt}
 use Rattle.std.proofs.lemmas.Option.{slice_get-get_or, get_or_from_slice_get}
-use Rattle.std.proofs.lemmas.List.{length-map, length-append, length-drop, get_or-map, get_or-drop}
+use Rattle.std.proofs.lemmas.List.{length-map, length-append, length-drop, length-take-le, get_or-map, get_or-drop, get_or-take, take-append-drop}
+use Rattle.std.proofs.lemmas.Grind.{flat_map-append}
 use Rattle.std.proofs.lemmas.List.Elements.{All-nil, All-cons, All-head, All-tail}
 use Rattle.std.proofs.lemmas.List.Sorted.{All-permutation, IsPermutation-sym, IsPermutation-refl}
 use Rattle.region_cut.specs.declared.TheConstants.{CHUNK}
@@ -23,6 +24,7 @@ use Rattle.event_floor.specs.Floors.{FloorSeen, desk_at, desk_count}
 use Rattle.pool_machine.specs.Slots.{one_if}
 use Rattle.pool_machine.specs.State.{State}
 use Rattle.pool_machine.specs.Listing.{Shown}
+use Rattle.event_floor.specs.headline.Bytes.{Holds, LieAt, RestLies, EndsAsHeld}
 use Rattle.event_floor.specs.headline.Known.{buffers_of, undrawn_parts, EndsAsDrawn, EndsKnown}
 use Rattle.event_floor.specs.headline.Listing.{desk_of, listing_of}
 use Rattle.event_floor.specs.headline.Headline.{Shows}
@@ -32,6 +34,7 @@ use Rattle.event_floor.proofs.headline.Found.{All-flat, All-parts, found, seat_e
 use Rattle.event_floor.proofs.headline.Counts.{some_at}
 use Rattle.event_floor.proofs.headline.Handed.{All-to-both}
 use Rattle.event_floor.proofs.headline.Named.{All-first, All-second}
+use Rattle.event_floor.proofs.headline.Stands.{stands_join, flat_stand}
 use Rattle.event_floor.proofs.headline.Taken.{All-to, some_is, same_eqb, eqb_is}
 
 -- ---- lists
@@ -227,6 +230,82 @@ module _ (v : FloorSeen) (names : List Carved) (n : AreNames names v) (st : Stat
                 (subst (λ z. BeginsWith (end_in second) q.chunk.taken (size_of z) (end_in second q.chunk.whole)) q.class
                 (chunk_begins b.slot.chunk q.chunk q.is_chunk)) b.bytes.ghost_name q.name)
 
+        -- ---- where the bytes of before stand
+
+        module _ (region : List ℕ) (lie : Holds v region) where
+          abbrev IsThere : Buffer → Type 0
+          IsThere b = IsLetGo b × LieAt region b.slot b.class b.bytes.now
+
+          -- a slice that was taken of a chunk
+          slice_stands : (k i : ℕ) (c : Carved) (x : GName) → slice_get names k ≡ Some c → slice_get c.taken i ≡ Some x
+              → StandsAt (end_in second x) (CHUNK * k + i * size_of c.class) region
+          slice_stands k i c x e at =
+              let f = taken_buffer v names n st count h IsThere (λ j d l. (all_let_go j d l, lie.buffers j d l)) k i c x e at in
+              let b = f.0 in
+              let bytes : end_in second x ≡ b.bytes.now = ap (end_in second) (sym f.1) ∙ ((stays b.bytes.ghost_name f.4.0.0).1 ∙ f.4.0.1) in
+              let slot : StandsAt b.bytes.now (CHUNK * k + i * size_of b.class) region = subst (λ (s : Slot). StandsAt b.bytes.now (start_of s b.class) region) f.5 f.4.1 in
+              subst (λ bs. StandsAt bs (CHUNK * k + i * size_of c.class) region) (sym bytes) (subst (λ z. StandsAt b.bytes.now (CHUNK * k + i * size_of z) region) f.2 slot)
+
+          chunk_stands : (k : ℕ) (c : Carved) → slice_get names k ≡ Some c → StandsAt (end_in second c.whole) (CHUNK * k) region
+          chunk_stands k c e =
+              let z = size_of c.class in
+              let taken = flat_map (end_in second) c.taken in
+              let sizes = (chunk_begins k c e).sizes in
+              let number = (n.chunks k c e).number in
+              let long : length taken ≡ length c.taken * z = length_flat (end_in second) z c.taken sizes in
+              let place : CHUNK * c.chunk + length c.taken * z ≡ CHUNK * k + length taken = ap (λ j. CHUNK * j + length c.taken * z) number ∙ ap (λ m. CHUNK * k + m) (sym long) in
+              subst (λ bs. StandsAt bs (CHUNK * k) region) (sym (ends_as_drawn k c e))
+              (stands_join taken c.rest (CHUNK * k) region
+              (flat_stand (end_in second) z (CHUNK * k) region c.taken sizes (λ i d l. slice_stands k i c (get_or c.taken i d) e (slice_get-get_or c.taken i d l)))
+              (subst (λ m. StandsAt c.rest m region) place (of_chunk (RestLies region) lie.rests k c e)))
+
+          abbrev drawn_parts : List GName
+          drawn_parts = take (length v.drawn) v.parts
+
+          few_drawn : length drawn_parts ≡ length v.drawn
+          few_drawn = length-take-le (length v.drawn) v.parts (let e = stocked.0 in omega (arith, e))
+
+          -- the part of a place
+          part_stands : (i : ℕ) (d : GName) → i < length v.drawn → StandsAt (end_in second (get_or v.parts i d)) (0 + i * CHUNK) region
+          part_stands i d l =
+              let m : i < length names = (let e = n.count in omega (arith, l, e)) in
+              let o = some_at names i m in
+              let place : CHUNK * i ≡ 0 + i * CHUNK = omega arith in
+              subst (λ x. StandsAt (end_in second x) (0 + i * CHUNK) region) (sym (get_or_from_slice_get v.parts i o.0.whole d (n.chunks i o.0 o.1).part))
+              (subst (λ m. StandsAt (end_in second o.0.whole) m region) place (chunk_stands i o.0 o.1))
+
+          part_sizes : All (λ x. length (end_in second x) ≡ CHUNK) drawn_parts
+          part_sizes = λ i d l.
+              (let m : i < length v.drawn = (let e = few_drawn in omega (arith, l, e)) in
+              let k : i < length v.parts = (let e = stocked.0 in omega (arith, m, e)) in
+              subst (λ x. length (end_in second x) ≡ CHUNK) (sym (get_or-take (length v.drawn) v.parts i d m))
+              (each_part (λ x. length (end_in second x) ≡ CHUNK) chunk_whole left_whole i d k))
+
+          drawn_stand : StandsAt (flat_map (end_in second) drawn_parts) 0 region
+          drawn_stand =
+              flat_stand (end_in second) CHUNK 0 region drawn_parts part_sizes
+              (λ i d l. (let m : i < length v.drawn = (let e = few_drawn in omega (arith, l, e)) in
+              subst (λ x. StandsAt (end_in second x) (0 + i * CHUNK) region) (sym (get_or-take (length v.drawn) v.parts i d m)) (part_stands i d m)))
+
+          flat_of_ends : (xs : List GName) → flat_map (λ (bs : List ℕ). bs) (map (end_in second) xs) ≡ flat_map (end_in second) xs
+          flat_of_ends [] = refl
+          flat_of_ends (x ∷ xs) = ap (λ bs. end_in second x ++ bs) (flat_of_ends xs)
+
+          left_stand : StandsAt (flat_map (end_in second) (undrawn_parts v)) (0 + length (flat_map (end_in second) drawn_parts)) region
+          left_stand =
+              let long = length_flat (end_in second) CHUNK drawn_parts part_sizes in
+              let few = few_drawn in
+              let place : CHUNK * length v.drawn ≡ 0 + length (flat_map (end_in second) drawn_parts) = omega (arith, long, few) in
+              subst (λ m. StandsAt (flat_map (end_in second) (undrawn_parts v)) m region) place
+              (subst (λ bs. StandsAt bs (CHUNK * length v.drawn) region) (flat_of_ends (undrawn_parts v))
+              (subst (λ us. StandsAt (flat_map (λ (bs : List ℕ). bs) us) (CHUNK * length v.drawn) region) (sym left_ends) lie.undrawn))
+
+          pub parts_stand : StandsAt (flat_map (end_in second) v.parts) 0 region
+          parts_stand =
+              subst (λ ps. StandsAt (flat_map (end_in second) ps) 0 region) (take-append-drop (length v.drawn) v.parts)
+              (subst (λ bs. StandsAt bs 0 region) (sym (flat_map-append (end_in second) drawn_parts (undrawn_parts v)))
+              (stands_join (flat_map (end_in second) drawn_parts) (flat_map (end_in second) (undrawn_parts v)) 0 region drawn_stand left_stand))
+
 -- ---- a floor
 
 module _ (v : FloorSeen) (whole : IsWhole v) (shows : Shows v) (named : IsNamed v) (first : List Ended) (chunks : List Carved) (agree : Agrees first)
@@ -252,3 +331,9 @@ module _ (v : FloorSeen) (whole : IsWhole v) (shows : Shows v) (named : IsNamed 
   unfolding Shows IsNamed
   floor_ends last is agree' stay lie =
       subst (EndsKnown v) (sym is) (all_ends_known v named.0 named.1 shows.0 shows.1 shows.2 first agree held chunks same (subst Agrees is agree') stay whole.stocked left lie)
+
+  pub floor_held : (last : List Ended) → last ≡ map (ended_chunk first) chunks ++ first → Agrees last → KnownEndsStay → EndsAsHeld v last
+  unfolding Shows IsNamed
+  floor_held last is agree' stay region lie =
+      subst (λ (all : List Ended). StandsAt (flat_map (end_in all) v.parts) 0 region) (sym is)
+      (parts_stand v named.0 named.1 shows.0 shows.1 shows.2 first agree held chunks same (subst Agrees is agree') stay whole.stocked left region lie)

@@ -110,7 +110,7 @@ kept_each K [] h = All-nil (KeptIs K)
 kept_each K (Kept b ∷ hs) h = All-cons (KeptIs K) (Kept b) hs (All-head K b (kept_in hs) h) (kept_each K hs (All-tail K b (kept_in hs) h))
 kept_each K (Fresh u ∷ hs) h = All-cons (KeptIs K) (Fresh u) hs tt (kept_each K hs h)
 
-kept_back : (P : AtHome → Type 0) (hs : List AtHome) → All P hs → All (λ b. P (Kept b)) (kept_in hs)
+pub kept_back : (P : AtHome → Type 0) (hs : List AtHome) → All P hs → All (λ b. P (Kept b)) (kept_in hs)
 kept_back P [] h = All-nil (λ b. P (Kept b))
 kept_back P (Kept b ∷ hs) h = All-cons (λ b. P (Kept b)) b (kept_in hs) (All-head P (Kept b) hs h) (kept_back P hs (All-tail P (Kept b) hs h))
 kept_back P (Fresh u ∷ hs) h = kept_back P hs (All-tail P (Fresh u) hs h)
@@ -135,7 +135,7 @@ placed_each K v h =
     (All-append (KeptIs K) (map Kept lent) (map Kept caches ++ map Kept posts) (All-map (KeptIs K) Kept lent (All-first K lent posts out))
     (All-append (KeptIs K) (map Kept caches) (map Kept posts) (All-map (KeptIs K) Kept caches in_caches) (All-map (KeptIs K) Kept posts (All-second K lent posts out))))
 
-lent_each : (P : Buffer → Type 0) (lent : List (Option Buffer)) → ((i : ℕ) → IfSome (get_or lent i None) P) → All P (buffers_lent lent)
+pub lent_each : (P : Buffer → Type 0) (lent : List (Option Buffer)) → ((i : ℕ) → IfSome (get_or lent i None) P) → All P (buffers_lent lent)
 lent_each P [] h = All-nil P
 lent_each P (o ∷ lent) h = All-append P (option_to_list o) (buffers_lent lent) (one o (h zero)) (lent_each P lent (λ i. h (suc i)))
   where
@@ -191,7 +191,7 @@ module _ (v : FloorSeen) (names : List Carved) (n : AreNames names v) where
 
     -- the buffer of a slot that was handed out
     pub taken_buffer : (K : Buffer → Type 0) → All K (buffers_of v) → (k i : ℕ) (c : Carved) (x : GName) → slice_get names k ≡ Some c → slice_get c.taken i ≡ Some x
-        → (b : Buffer) × (b.bytes.ghost_name ≡ x) × (b.class ≡ c.class) × HasName names b × K b
+        → (b : Buffer) × (b.bytes.ghost_name ≡ x) × (b.class ≡ c.class) × HasName names b × K b × (b.slot ≡ record { chunk = k; index = i })
     taken_buffer K all k i c x e at =
         let s : Slot = record { chunk = k; index = i } in
         let low = slice_get_within c.taken i x at in
@@ -201,12 +201,12 @@ module _ (v : FloorSeen) (names : List Carved) (n : AreNames names v) where
         go f.0 (same_slot_eq s (slot_at f.0) f.1) f.2.0 f.2.1
       where
         go : (y : AtHome) → (let s : Slot = record { chunk = k; index = i } in s ≡ slot_at y) → IsNamedHome names y → KeptIs K y
-            → (b : Buffer) × (b.bytes.ghost_name ≡ x) × (b.class ≡ c.class) × HasName names b × K b
+            → (b : Buffer) × (b.bytes.ghost_name ≡ x) × (b.class ≡ c.class) × HasName names b × K b × (b.slot ≡ record { chunk = k; index = i })
         go (Kept b) q p z =
             let same : p.chunk ≡ c = some_is p.chunk c (sym p.is_chunk ∙ (ap (λ (r : Slot). slice_get names r.chunk) (sym q) ∙ e)) in
             let name : b.bytes.ghost_name ≡ x =
             some_is b.bytes.ghost_name x (sym p.name ∙ (ap (λ (d : Carved). slice_get d.taken b.slot.index) same ∙ (ap (λ (r : Slot). slice_get c.taken r.index) (sym q) ∙ at))) in
-            (b, name, sym p.class ∙ ap (λ (d : Carved). d.class) same, p, z)
+            (b, name, sym p.class ∙ ap (λ (d : Carved). d.class) same, p, z, sym q)
         go (Fresh u) q p z =
             let same : p.chunk ≡ c = some_is p.chunk c (sym p.is_chunk ∙ (ap (λ (r : Slot). slice_get names r.chunk) (sym q) ∙ e)) in
             let place : length c.taken ≤ i = subst (λ (r : Slot). length c.taken ≤ r.index) (sym q) (subst (λ (d : Carved). length d.taken ≤ u.slot.index) same p.place) in

@@ -17,7 +17,7 @@ use Rattle.event_floor.specs.Posted.{Posted}
 use Rattle.event_floor.specs.Seats.{idle_seats, home_of, cached_of}
 use Rattle.event_floor.specs.Floors.{FloorSeen, no_desk, opening}
 use Rattle.event_floor.specs.Steps.{Does}
-use Rattle.event_floor.specs.Runs.{Answers}
+use Rattle.event_floor.specs.Steps.{Answers}
 use Rattle.pool_machine.specs.Steps.{Answer}
 use Rattle.event_floor.specs.headline.Headline.{Shows}
 use Rattle.event_floor.specs.headline.Names.{HasName, IsNamedHome, IsNamedDesk, AreNames, IsNamed, chunks_of}
@@ -54,10 +54,10 @@ stays_named v w q (Err r) s n h = subst (λ (z : FloorSeen). (names : List Carve
 -- ---- a new floor
 
 -- desks with nothing
-abbrev IsBare : Seat → Type 0
+abbrev pub IsBare : Seat → Type 0
 IsBare s = (home_of s ≡ []) × (cached_of s ≡ []) × (chunks_of s ≡ [])
 
-idle_bare : (digits : Scheme) (limit n : ℕ) → All IsBare (idle_seats digits limit n)
+pub idle_bare : (digits : Scheme) (limit n : ℕ) → All IsBare (idle_seats digits limit n)
 unfolding idle_seats
 idle_bare digits limit zero = All-nil IsBare
 idle_bare digits limit (suc n) = All-append IsBare (idle_seats digits limit n) _ (idle_bare digits limit n) (All-cons IsBare _ [] (refl, refl, refl) (All-nil IsBare))
@@ -70,13 +70,13 @@ bare_named a s h = record {
   once = λ k. ap (λ cs. count_by (λ (c : Carved). c.chunk == k) cs) h.2;
 }
 
-none_lent : (P : Buffer → Type 0) (n i : ℕ) → IfSome (get_or (replicate n (let o : Option Buffer = None in o)) i None) P
+pub none_lent : (P : Buffer → Type 0) (n i : ℕ) → IfSome (get_or (replicate n (let o : Option Buffer = None in o)) i None) P
 none_lent P zero zero = tt
 none_lent P zero (suc i) = tt
 none_lent P (suc n) zero = tt
 none_lent P (suc n) (suc i) = none_lent P n i
 
-none_posted : (P : Posted → Type 0) (n b : ℕ) → All P (get_or (replicate n (let ps : List Posted = [] in ps)) b [])
+pub none_posted : (P : Posted → Type 0) (n b : ℕ) → All P (get_or (replicate n (let ps : List Posted = [] in ps)) b [])
 none_posted P zero zero = All-nil P
 none_posted P zero (suc b) = All-nil P
 none_posted P (suc n) zero = All-nil P

@@ -47,11 +47,11 @@ each_place P (x ∷ lent) zero o h each (suc i) = each (suc i)
 each_place P (x ∷ lent) (suc p) o h each zero = each zero
 each_place P (x ∷ lent) (suc p) o h each (suc i) = each_place P lent p o h (λ j. each (suc j)) i
 
-All-map-to : {X Y : Type 0} (P : X → Type 0) (Q : Y → Type 0) (f : X → Y) (xs : List X) → ((x : X) → P x → Q (f x)) → All P xs → All Q (map f xs)
+pub All-map-to : {X Y : Type 0} (P : X → Type 0) (Q : Y → Type 0) (f : X → Y) (xs : List X) → ((x : X) → P x → Q (f x)) → All P xs → All Q (map f xs)
 All-map-to P Q f [] g h = All-nil Q
 All-map-to P Q f (x ∷ xs) g h = All-cons Q (f x) (map f xs) (g x (All-head P x xs h)) (All-map-to P Q f xs g (All-tail P x xs h))
 
-All-filtered : {X : Type 0} (P : X → Type 0) (p : X → Bool) (xs : List X) → All P xs → All P (filter p xs)
+pub All-filtered : {X : Type 0} (P : X → Type 0) (p : X → Bool) (xs : List X) → All P xs → All P (filter p xs)
 All-filtered P p [] h = All-nil P
 All-filtered P p (x ∷ xs) h = go (p x) (All-filtered P p xs (All-tail P x xs h))
   where

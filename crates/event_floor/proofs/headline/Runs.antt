@@ -4,12 +4,11 @@ use Rattle.digit_route.specs.Digits.{Scheme, IsScheme}
 use Rattle.pool_machine.specs.declared.request.Request.{Request}
 use Rattle.region_cut.specs.declared.part.Part.{Part}
 use Rattle.event_floor.specs.Floors.{FloorSeen, opening}
-use Rattle.event_floor.specs.Runs.{Answers}
+use Rattle.event_floor.specs.Steps.{Answers}
 use Rattle.pool_machine.specs.Steps.{Answer}
 use Rattle.pool_machine.specs.Headline.{AppliesAll as ListingAppliesAll}
 use Rattle.event_floor.specs.headline.Headline.{Shows, Applies, Headline}
 use Rattle.event_floor.specs.headline.Listing.{listing_of}
-use Rattle.event_floor.specs.headline.Names.{IsNamed}
 use Rattle.event_floor.specs.headline.Whole.{IsWhole}
 use Rattle.pool_machine.proofs.Applied.{shows_next}
 use Rattle.pool_machine.proofs.Joins.{applies_none, applies_push}
@@ -38,9 +37,9 @@ pub run_push : (u v w : FloorSeen) (qs : List Request) (ys : List Answer) (q : R
 unfolding AppliesAll Applies
 run_push u v w qs ys q y more one = applies_push (listing_of u) (listing_of v) (listing_of w) qs ys q y more one
 
-pub run_headline : (u v : FloorSeen) (qs : List Request) (ys : List Answer) → AppliesAll u qs ys v → IsNamed v → Headline u qs ys v
-unfolding AppliesAll
-run_headline u v qs ys f n = record { run = headline (listing_of u) qs ys (listing_of v) f; named = n }
+pub run_headline : (u v : FloorSeen) (qs : List Request) (ys : List Answer) → AppliesAll u qs ys v → Headline u qs ys v
+unfolding AppliesAll Headline
+run_headline u v qs ys f = headline (listing_of u) qs ys (listing_of v) f
 
 pub opening_shows : (desks : ℕ) (parts : List Part) (digits : Scheme) (limit : ℕ) → IsScheme digits → desks ≤ 2 ^ digits.bits → Shows (opening desks parts digits limit)
 unfolding Shows

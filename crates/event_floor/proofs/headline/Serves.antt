@@ -9,7 +9,7 @@ use Rattle.pool_machine.specs.declared.refusal.Refusal.{Refusal}
 use Rattle.pool_machine.specs.declared.refusal.Refusal.TheVariants.{NoMemory}
 use Rattle.event_floor.specs.Floors.{FloorSeen}
 use Rattle.event_floor.specs.Steps.{Does, Refuses}
-use Rattle.event_floor.specs.Runs.{Answers}
+use Rattle.event_floor.specs.Steps.{Answers}
 use Rattle.pool_machine.specs.Refusals.{may_grow}
 use Rattle.pool_machine.specs.Steps.{Answer}
 use Rattle.pool_machine.specs.Headline.{Applies}

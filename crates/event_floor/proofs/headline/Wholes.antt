@@ -19,7 +19,7 @@ use Rattle.region_cut.specs.Parts.{name_of, bytes_of}
 use Rattle.region_cut.specs.declared.part.Part.{Part}
 use Rattle.event_floor.specs.Floors.{FloorSeen, IsFloor, opening}
 use Rattle.event_floor.specs.Steps.{Does, DrawsChunk, LendsSlot, TakesBack}
-use Rattle.event_floor.specs.Runs.{Answers}
+use Rattle.event_floor.specs.Steps.{Answers}
 use Rattle.pool_machine.specs.Steps.{Answer}
 use Rattle.pool_machine.specs.Listing.{empty_desk, Shown}
 use Rattle.pool_machine.specs.State.{opening as machine_opening}

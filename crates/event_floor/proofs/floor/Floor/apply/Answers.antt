@@ -1,39 +1,5 @@
-use Rattle.std.proofs.Common.{◌≡◌, subst}
-use Rattle.event_floor.specs.Floors.{FloorSeen}
-use Rattle.event_floor.specs.headline.Headline.{Applies}
-use Rattle.event_floor.proofs.RunLaws.{answers_of}
-use Rattle.event_floor.proofs.headline.Keeping.{stays_named}
-use Rattle.event_floor.proofs.headline.Runs.{step_applies, step_shows}
-use Rattle.event_floor.proofs.headline.Wholes.{stays_whole, stays_over}
+use Rattle.event_floor.proofs.headline.Kept.{step_keeps_bytes}
 use Rattle.event_floor.proofs.floor.Floor.apply.Goals as goal
 
-pub invariant_of-self : goal.invariant_of-self
-invariant_of-self c =
-    let v = c.self.inside.lists in
-    let w = c.apply-answer.new.self in
-    let y = c.apply-answer.result in
-    let e = c.apply-answer.ensures in
-    let m = answers_of v w c.args.request y e.does e.refuses e.unchanged in
-    let k = c.self.invariant in (
-      stays_whole v w c.args.request y k.0 m c.keeps.ensures,
-      step_shows v w c.args.request y (step_applies v w c.args.request y k.0 m) k.1,
-      stays_named v w c.args.request y k.1 k.2 m,
-    )
-
-pub returns-clause-applies : goal.returns-clause-applies
-returns-clause-applies c =
-    let v = c.self.inside.lists in
-    let w = c.apply-answer.new.self in
-    let y = c.apply-answer.result in
-    let e = c.apply-answer.ensures in
-    let m = answers_of v w c.args.request y e.does e.refuses e.unchanged in
-    subst (λ u. Applies u c.args.request y w) c.self.view_is (step_applies v w c.args.request y c.self.invariant.0 m)
-
-pub returns-clause-parts : goal.returns-clause-parts
-returns-clause-parts c =
-    let v = c.self.inside.lists in
-    let w = c.apply-answer.new.self in
-    let y = c.apply-answer.result in
-    let e = c.apply-answer.ensures in
-    let m = answers_of v w c.args.request y e.does e.refuses e.unchanged in
-    subst (λ (u : FloorSeen). w.parts ≡ u.parts) c.self.view_is (stays_over v w c.args.request y c.self.invariant.0 m)
+pub returns-clause-bytes : goal.returns-clause-bytes
+returns-clause-bytes c = step_keeps_bytes c.args.self.now c.step.new.self c.args.request c.step.result c.keeps.ensures.named c.step.ensures.answers

@@ -1,8 +1,9 @@
 use Rattle.std.proofs.Common.{ap, subst}
 use Rattle.region_cut.specs.Ended.{EndingsState}
 use Rattle.event_floor.specs.Floors.{FloorSeen}
+use Rattle.event_floor.specs.headline.Bytes.{EndsAsHeld}
 use Rattle.event_floor.specs.headline.Known.{EndsKnown}
-use Rattle.event_floor.proofs.headline.Ends.{floor_slots, floor_ends}
+use Rattle.event_floor.proofs.headline.Ends.{floor_slots, floor_ends, floor_held}
 use Rattle.event_floor.proofs.floor.Floor.end.Goals as goal
 
 pub close_chunks-requires : goal.close_chunks-requires
@@ -19,3 +20,12 @@ returns-clause-known c =
     subst (λ (v : FloorSeen). EndsKnown v new.known) c.self.view_is
     (floor_ends c.self.inside.lists k.0 k.1 k.2 c.end-endings.result.known c.end-endings.result.chunks c.agree.ensures e.chunks e.known
     new.known (ap (λ (s : EndingsState). s.known) c.close_chunks.ensures) c.agree-2.ensures c.known_ends_stay.ensures c.slots_lie_at_their_ranges.ensures)
+
+pub returns-clause-bytes : goal.returns-clause-bytes
+returns-clause-bytes c =
+    let k = c.self.invariant in
+    let e = c.end-endings.ensures in
+    let new = c.close_chunks.new.self in
+    subst (λ (v : FloorSeen). EndsAsHeld v new.known) c.self.view_is
+    (floor_held c.self.inside.lists k.0 k.1 k.2 c.end-endings.result.known c.end-endings.result.chunks c.agree.ensures e.chunks e.known
+    new.known (ap (λ (s : EndingsState). s.known) c.close_chunks.ensures) c.agree-2.ensures c.known_ends_stay.ensures)

@@ -1,5 +1,7 @@
-use Rattle.std.proofs.Common.{◌≡◌, ◌≤◌, length, sym, subst}
+use Rattle.std.proofs.Common.{◌≡◌, ◌≤◌, ◌++◌, length, flat_map, sym, subst}
+use Rattle.region_cut.specs.Parts.{bytes_of}
 use Rattle.event_floor.specs.Floors.{FloorSeen, IsFloor, opening}
+use Rattle.event_floor.specs.headline.Bytes.{Holds}
 use Rattle.event_floor.specs.headline.Headline.{Shows}
 use Rattle.event_floor.specs.headline.Listing.{listing_of}
 use Rattle.event_floor.specs.headline.Names.{IsNamed}
@@ -8,6 +10,7 @@ use Rattle.pool_machine.specs.Listing.{Shown}
 use Rattle.pool_machine.specs.State.{opening as machine_opening}
 use Rattle.event_floor.proofs.ChunkLaws.{numbered_few}
 use Rattle.event_floor.proofs.headline.Keeping.{opening_named}
+use Rattle.event_floor.proofs.headline.Kept.{opening_holds}
 use Rattle.event_floor.proofs.headline.Runs.{opening_shows}
 use Rattle.event_floor.proofs.headline.Wholes.{opening_whole, shows_opening}
 use Rattle.event_floor.proofs.floor.Floor.new.Goals as goal
@@ -30,3 +33,9 @@ returns-clause-shows c =
     let e : c.in_ok-lists.lists ≡ opening c.args.desks parts c.args.digits c.args.limit = c.in_ok-lists.ensures in
     subst (λ v. Shown (listing_of v) (machine_opening c.args.desks (length parts) c.args.digits c.args.limit) (λ slot. 0)) (sym e)
     (shows_opening c.args.desks parts c.args.digits c.args.limit c.profile-profile.ensures.scheme c.requires.few)
+
+pub returns-clause-bytes : goal.returns-clause-bytes
+returns-clause-bytes c tail =
+    let parts = c.args.parts.items in
+    let e : c.in_ok-lists.lists ≡ opening c.args.desks parts c.args.digits c.args.limit = c.in_ok-lists.ensures in
+    subst (λ v. Holds v (flat_map bytes_of parts ++ tail)) (sym e) (opening_holds c.args.desks parts c.args.digits c.args.limit tail)

@@ -1,0 +1,59 @@
+-- The bytes of a floor's slots, which no request changes.
+use Rattle.std.specs.Prelude.{ℕ, ◌≡◌, ◌≢◌, ◌+◌, ◌*◌, ◌⊎◌, List, [], ◌∷◌, length, flat_map, All, Any}
+use Rattle.region_cut.specs.declared.TheConstants.{CHUNK}
+use Rattle.region_cut.specs.declared.slot.Slot.{Slot}
+use Rattle.region_cut.specs.Carved.{Carved}
+use Rattle.region_cut.specs.Classes.{size_of}
+use Rattle.region_cut.specs.Ended.{Ended, end_in}
+use Rattle.region_cut.specs.Endings.{StandsAt}
+use Rattle.region_cut.specs.Ranges.{start_of}
+use Rattle.slot_chain.specs.Buffer.{Buffer}
+use Rattle.pool_desk.specs.Homes.{AtHome, Unused}
+use Rattle.pool_desk.specs.Homes.AtHome.{Kept, Fresh}
+use Rattle.event_floor.specs.Floors.{FloorSeen}
+use Rattle.event_floor.specs.Seats.{home_of}
+use Rattle.event_floor.specs.headline.Known.{buffers_of}
+use Rattle.event_floor.specs.headline.Names.{chunks_of}
+
+-- those of the slots at home that were never handed out, and all such slots of a floor
+abbrev pub fresh_in : List AtHome → List Unused
+fresh_in [] = []
+fresh_in (Kept b ∷ hs) = fresh_in hs
+fresh_in (Fresh u ∷ hs) = u ∷ fresh_in hs
+
+abbrev pub fresh_of : FloorSeen → List Unused
+fresh_of v = flat_map (λ s. fresh_in (home_of s)) v.desks
+
+-- the region has these bytes at the range of the slot of the class
+abbrev pub LieAt : List ℕ → Slot → ℕ → List ℕ → Type 0
+LieAt region s class bytes = StandsAt bytes (start_of s class) region
+
+-- the region has what is left of the chunk behind the slots that were taken of it
+abbrev pub RestLies : List ℕ → Carved → Type 0
+RestLies region c = StandsAt c.rest (CHUNK * c.chunk + length c.taken * size_of c.class) region
+
+-- The floor holds the bytes of this region, each slot those of its range: each buffer, and each slot that was never handed out. What is
+-- left of a drawn chunk, and the chunks that aren't drawn, are the region's too.
+pub record Holds (v : FloorSeen) (region : List ℕ) : Type 0 where
+  pub buffers : All (λ (b : Buffer). LieAt region b.slot b.class b.bytes.now) (buffers_of v)
+  pub fresh : All (λ (u : Unused). LieAt region u.slot u.class u.bytes) (fresh_of v)
+  pub rests : All (RestLies region) (flat_map chunks_of v.desks)
+  pub undrawn : StandsAt (flat_map (λ (bs : List ℕ). bs) v.undrawn) (CHUNK * length v.drawn) region
+
+-- the same slot of the same class and owner, and the same slice: its bytes now, and its name
+abbrev pub IsSameSlice : Buffer → Buffer → Type 0
+IsSameSlice b c = (c.slot ≡ b.slot) × (c.class ≡ b.class) × (c.owner ≡ b.owner) × (c.bytes ≡ b.bytes)
+
+-- the buffer is one of the old ones, or that of a slot that none of them has
+abbrev pub IsKept : List Buffer → Buffer → Type 0
+IsKept olds b = Any (IsSameSlice b) olds ⊎ All (λ (c : Buffer). c.slot ≢ b.slot) olds
+
+-- No byte is changed: each buffer is one of the old ones, or that of a slot that was never handed out, and the floor still holds the
+-- bytes of whatever region it held.
+pub record KeepsBytes (old new : FloorSeen) : Type 0 where
+  pub buffers : All (IsKept (buffers_of old)) (buffers_of new)
+  pub region : (region : List ℕ) → Holds old region → Holds new region
+
+-- Once the floor is ended, its parts, joined in order, are the beginning of whatever region it held.
+abbrev pub EndsAsHeld : FloorSeen → List Ended → Type 0
+EndsAsHeld v known = (region : List ℕ) → Holds v region → StandsAt (flat_map (end_in known) v.parts) 0 region
