@@ -21,7 +21,7 @@ ghost use Rattle.pool_machine.specs.State.{opening as machine_opening};
 use crate::lists::Lists;
 use crate::{Refusal, Reply, Request};
 use digit_route::Digits;
-use region_cut::laws::{known_ends_stay, slots_lie_at_their_ranges};
+use region_cut::laws::{known_ends_stay, slices_lie_in_order, slots_lie_at_their_ranges};
 use region_cut::{Class, Endings, Part, Slot};
 use slot_chain::NoMemory;
 use std::alloc::Global;
@@ -142,6 +142,7 @@ impl<'r> Floor<'r> {
         endings.close_chunks();
         endings.agree();
         known_ends_stay();
+        slices_lie_in_order();
         slots_lie_at_their_ranges();
         endings
     }

@@ -3,7 +3,7 @@ use Rattle.std.proofs.Common.{◌≡◌, ℕ, ◌+◌, ◌*◌, ◌-◌, ◌<◌
 use Rattle.std.specs.Prelude.{count_by, option_map}
 use Rattle.std.specs.Borrow.{GName}
 use Rattle.std.specs.List.{slice_get}
-use Rattle.std.proofs.Math.Nat.{suc-mul}
+use Rattle.std.proofs.Math.Nat.{suc-mul, add-mul}
 use Rattle.std.proofs.lemmas.Bool.{true≢false, cases_lt}
 use Rattle.std.proofs.lemmas.Option.{slice_get-get_or, get_or_from_slice_get}
 use Rattle.std.proofs.lemmas.List.{length-map, length-append, length-drop, length-take-le, get_or-map, get_or-drop, get_or-take, take-append-drop}
@@ -15,9 +15,10 @@ use Rattle.region_cut.specs.declared.slot.Slot.{Slot}
 use Rattle.region_cut.specs.Carved.{Carved}
 use Rattle.region_cut.specs.Classes.{size_of}
 use Rattle.region_cut.specs.Ended.{Ended, name_at, Agrees, IsKnown, HasKnownSlots, KnownEndsStay, end_in, ended_chunk}
-use Rattle.region_cut.specs.Endings.{StandsAt, BeginsWith, SlotsLieAtTheirRanges}
+use Rattle.region_cut.specs.Endings.{StandsAt, BeginsWith, SlicesLieInOrder, SlotsLieAtTheirRanges}
 use Rattle.region_cut.specs.Ranges.{start_of}
 use Rattle.slot_chain.specs.Buffer.{Buffer, ended_of}
+use Rattle.pool_desk.specs.Homes.{Unused}
 use Rattle.pool_machine.specs.declared.chunk.DrawnChunk.{DrawnChunk}
 use Rattle.event_floor.specs.Chunks.{ended_parts}
 use Rattle.event_floor.specs.Floors.{FloorSeen, desk_at, desk_count}
@@ -25,16 +26,18 @@ use Rattle.pool_machine.specs.Slots.{one_if}
 use Rattle.pool_machine.specs.State.{State}
 use Rattle.pool_machine.specs.Listing.{Shown}
 use Rattle.event_floor.specs.headline.Bytes.{Holds, LieAt, RestLies, EndsAsHeld}
-use Rattle.event_floor.specs.headline.Known.{buffers_of, undrawn_parts, EndsAsDrawn, EndsKnown}
+use Rattle.event_floor.specs.headline.Lying.{UnusedSlotsLie}
+use Rattle.event_floor.specs.headline.Known.{buffers_of, fresh_of, undrawn_parts, EndsAsDrawn, EndsKnown}
 use Rattle.event_floor.specs.headline.Listing.{desk_of, listing_of}
 use Rattle.event_floor.specs.headline.Headline.{Shows}
-use Rattle.event_floor.specs.headline.Names.{HasName, AreNames, IsNamed, chunks_of, is_drawn_for}
+use Rattle.event_floor.specs.headline.Names.{HasName, HasNoName, AreNames, IsNamed, chunks_of, is_drawn_for}
 use Rattle.event_floor.specs.headline.Whole.{IsStocked, IsWhole}
 use Rattle.event_floor.proofs.headline.Found.{All-flat, All-parts, found, seat_each, buffers_named, taken_buffer}
 use Rattle.event_floor.proofs.headline.Counts.{some_at}
 use Rattle.event_floor.proofs.headline.Handed.{All-to-both}
+use Rattle.event_floor.proofs.headline.Kept.{fresh_named}
 use Rattle.event_floor.proofs.headline.Named.{All-first, All-second}
-use Rattle.event_floor.proofs.headline.Stands.{stands_join, flat_stand}
+use Rattle.event_floor.proofs.headline.Stands.{stands_join, stands_in_front, stands_within, flat_stand}
 use Rattle.event_floor.proofs.headline.Taken.{All-to, some_is, same_eqb, eqb_is}
 
 -- ---- lists
@@ -54,6 +57,28 @@ length_flat f z (x ∷ xs) h =
 unmap : {X Y : Type 0} (P : Y → Type 0) (f : X → Y) (xs : List X) → All P (map f xs) → All (λ x. P (f x)) xs
 unmap P f [] h = All-nil (λ x. P (f x))
 unmap P f (x ∷ xs) h = All-cons (λ y. P (f y)) x xs (All-head P (f x) (map f xs) h) (unmap P f xs (All-tail P (f x) (map f xs) h))
+
+-- ---- a slot that was never handed out
+
+-- the slots that were handed out before it, and those that weren't
+before : (m i z : ℕ) → m ≤ i → m * z + (i - m) * z ≡ i * z
+before m i z l = sym (add-mul m (i - m) z) ∙ ap (λ k. k * z) (let e : m + (i - m) ≡ i = omega (arith, l) in e)
+
+pub unused_lies : SlicesLieInOrder → UnusedSlotsLie
+unused_lies order end v names n u g region at sizes ends =
+    let c = g.chunk in
+    let k = u.slot.chunk in
+    let z = size_of u.class in
+    let taken = flat_map end c.taken in
+    let long : length taken ≡ length c.taken * z = length_flat end z c.taken sizes in
+    let place : length taken + (u.slot.index - length c.taken) * z ≡ u.slot.index * z =
+    ap (λ m. m + (u.slot.index - length c.taken) * z) long ∙ before (length c.taken) u.slot.index z g.place in
+    let in_chunk : StandsAt u.bytes (u.slot.index * z) (end c.whole) =
+    subst (λ bs. StandsAt u.bytes (u.slot.index * z) bs) (sym ends)
+    (subst (λ p. StandsAt u.bytes p (taken ++ c.rest)) place (stands_in_front taken u.bytes ((u.slot.index - length c.taken) * z) c.rest g.lies)) in
+    let chunk : StandsAt (end c.whole) (k * CHUNK) region = order end v.parts CHUNK region at k c.whole (n.chunks k c g.is_chunk).part in
+    let at : k * CHUNK + u.slot.index * z ≡ start_of u.slot u.class = omega arith in
+    subst (λ p. StandsAt u.bytes p region) at (stands_within (u.slot.index * z) (k * CHUNK) u.bytes (end c.whole) region in_chunk chunk)
 
 -- ---- what is noted
 
@@ -207,12 +232,14 @@ module _ (v : FloorSeen) (names : List Carved) (n : AreNames names v) (st : Stat
             let m : j < length (undrawn_parts v) = (let e = length-drop (length v.drawn) v.parts in omega (arith, high, l, e)) in
             subst P (get_or-drop (length v.drawn) v.parts j d ∙ ap (λ i. get_or v.parts i d) back) (g j d m)) (cases_lt k (length v.drawn))
 
-        pub all_ends_known : SlotsLieAtTheirRanges → EndsKnown v second
-        all_ends_known lie = record {
+        pub all_ends_known : SlotsLieAtTheirRanges → SlicesLieInOrder → EndsKnown v second
+        all_ends_known lie order = record {
           parts = each_part (IsKnown second) (λ k c e. (chunk_ends k c e).0) (All-to HasStayed (IsKnown second) (undrawn_parts v) (λ x y. y.0) left_stays);
           whole = whole;
           buffers = λ tail. All-to-both (HasName names) IsLetGo (λ b. StandsAt b.bytes.now (start_of b.slot b.class) (flat_map (end_in second) v.parts ++ tail)) (buffers_of v)
               (lies tail) (buffers_named v names n) all_let_go;
+          fresh = λ tail. All-to (HasNoName names) (λ u. StandsAt u.bytes (start_of u.slot u.class) (flat_map (end_in second) v.parts ++ tail)) (fresh_of v)
+              (fresh_lies tail) (fresh_named names v n);
           drawn = All-flat (EndsAsDrawn second) chunks_of v.desks (seat_each (λ s. All (EndsAsDrawn second) (chunks_of s)) v
               (λ a l. All-to (λ (c : Carved). slice_get names c.chunk ≡ Some c) (EndsAsDrawn second) (chunks_of (desk_at v a))
               (λ c e. ends_as_drawn c.chunk c e) (n.desks a l).same));
@@ -221,6 +248,13 @@ module _ (v : FloorSeen) (names : List Carved) (n : AreNames names v) (st : Stat
           where
             whole : All (λ x. length (end_in second x) ≡ CHUNK) v.parts
             whole = each_part (λ x. length (end_in second x) ≡ CHUNK) chunk_whole left_whole
+
+            fresh_lies : (tail : List ℕ) (u : Unused) → HasNoName names u → StandsAt u.bytes (start_of u.slot u.class) (flat_map (end_in second) v.parts ++ tail)
+            fresh_lies tail u g =
+                unused_lies order (end_in second) v names n u g (flat_map (end_in second) v.parts ++ tail) (record { sizes = whole; rest = tail; joined = refl })
+                (All-to (λ x. length (end_in second x) ≡ size_of g.chunk.class) (λ x. length (end_in second x) ≡ size_of u.class) g.chunk.taken (λ x e. e ∙ ap size_of g.class)
+                (chunk_begins u.slot.chunk g.chunk g.is_chunk).sizes)
+                (ends_as_drawn u.slot.chunk g.chunk g.is_chunk)
 
             lies : (tail : List ℕ) (b : Buffer) → HasName names b → IsLetGo b → StandsAt b.bytes.now (start_of b.slot b.class) (flat_map (end_in second) v.parts ++ tail)
             lies tail b q r =
@@ -327,10 +361,10 @@ module _ (v : FloorSeen) (whole : IsWhole v) (shows : Shows v) (named : IsNamed 
   unfolding Shows IsNamed
   floor_slots = slots_known v named.0 named.1 shows.0 shows.1 shows.2 first agree held chunks same
 
-  pub floor_ends : (last : List Ended) → last ≡ map (ended_chunk first) chunks ++ first → Agrees last → KnownEndsStay → SlotsLieAtTheirRanges → EndsKnown v last
+  pub floor_ends : (last : List Ended) → last ≡ map (ended_chunk first) chunks ++ first → Agrees last → KnownEndsStay → SlotsLieAtTheirRanges → SlicesLieInOrder → EndsKnown v last
   unfolding Shows IsNamed
-  floor_ends last is agree' stay lie =
-      subst (EndsKnown v) (sym is) (all_ends_known v named.0 named.1 shows.0 shows.1 shows.2 first agree held chunks same (subst Agrees is agree') stay whole.stocked left lie)
+  floor_ends last is agree' stay lie order =
+      subst (EndsKnown v) (sym is) (all_ends_known v named.0 named.1 shows.0 shows.1 shows.2 first agree held chunks same (subst Agrees is agree') stay whole.stocked left lie order)
 
   pub floor_held : (last : List Ended) → last ≡ map (ended_chunk first) chunks ++ first → Agrees last → KnownEndsStay → EndsAsHeld v last
   unfolding Shows IsNamed

@@ -22,7 +22,7 @@ use Rattle.event_floor.specs.Floors.{FloorSeen, desk_count, desk_at, no_desk, wi
 use Rattle.event_floor.specs.Steps.{DrawsChunk, LendsSlot, SendsBatch, LinksBatch, TakesFront, TakesBack}
 use Rattle.event_floor.specs.headline.Known.{buffers_with, buffers_of}
 use Rattle.event_floor.specs.headline.Names.{chunks_of}
-use Rattle.event_floor.specs.headline.Bytes.{fresh_in, fresh_of}
+use Rattle.event_floor.specs.headline.Known.{fresh_in, fresh_of}
 use Rattle.event_floor.proofs.headline.Found.{All-flat, All-parts, seat_each, lent_each, kept_back}
 use Rattle.event_floor.proofs.headline.Lists.{get_or_same}
 use Rattle.event_floor.proofs.headline.Named.{each_desk, each_row, each_place, All-map-to, All-filtered, All-first, All-second}

@@ -1,5 +1,5 @@
 -- Names of slots that are handed out.
-use Rattle.std.proofs.Common.{◌≡◌, ◌≢◌, ℕ, suc, ◌+◌, ◌*◌, ◌<◌, ◌≤◌, Bool, true, false, ◌==◌, cond, List, [], ◌∷◌, ◌++◌, length, get_or, set, All, Option, Some, None, refl, sym, ap, ◌∙◌, subst, arith, ⊎_elim, IsPermutation}
+use Rattle.std.proofs.Common.{◌≡◌, ◌≢◌, ℕ, suc, ◌+◌, ◌-◌, ◌*◌, ◌<◌, ◌≤◌, Bool, true, false, ◌==◌, cond, List, [], ◌∷◌, ◌++◌, length, get_or, set, All, Option, Some, None, refl, sym, ap, ◌∙◌, subst, arith, ⊎_elim, IsPermutation}
 use Rattle.std.specs.List.{slice_get}
 use Rattle.std.proofs.Math.Nat.{suc-mul}
 use Rattle.std.proofs.lemmas.Bool.Decides.{eqb_tells}
@@ -10,6 +10,7 @@ use Rattle.region_cut.specs.declared.TheConstants.{CHUNK}
 use Rattle.region_cut.specs.declared.slot.Slot.{Slot}
 use Rattle.region_cut.specs.Carved.{Carved}
 use Rattle.region_cut.specs.Classes.{size_of, slots_of}
+use Rattle.region_cut.specs.Endings.{StandsAt}
 use Rattle.slot_chain.specs.Buffer.{Buffer}
 use Rattle.pool_desk.specs.Homes.{AtHome, Unused, slot_at, Gives, Names, TakesNext, taken_next}
 use Rattle.pool_desk.specs.Homes.AtHome.{Kept, Fresh}
@@ -28,6 +29,7 @@ use Rattle.event_floor.specs.headline.Listing.{listing_of}
 use Rattle.event_floor.specs.headline.Names.{HasName, HasNoName, IsNamedHome, IsNamedChunk, IsNamedDesk, AreNames, chunks_of, drew, is_drawn_for}
 use Rattle.pool_machine.proofs.Enumerate.{count_cons}
 use Rattle.event_floor.proofs.headline.Named.{held_named, changed_named, desk_named, each_place}
+use Rattle.event_floor.proofs.headline.Stands.{stands_behind}
 use Rattle.event_floor.proofs.headline.Taken.{get_pushed, get_last, get_set_same, get_set_other, some_is, count_zero, All-to, some_to, same_eqb, other_eqb, eqb_is, eqb_same, chunk_count, chunk_permuted}
 use Rattle.event_floor.proofs.headline.Apart.{rest_apart, others_apart, more_than_none}
 
@@ -105,6 +107,14 @@ module _ (names : List Carved) (v w : FloorSeen) (a n : ℕ) (slot : Slot) (f : 
         let apart_index : x.slot.index ≢ u.slot.index = (λ i. ne (λ j. record { chunk = same.1 j; index = i j })) in
         let more = length_push t.from.taken buffer.bytes.ghost_name in
         let at = t.place in
+        let size : length buffer.bytes.now ≡ size_of x.class =
+        ap length g.3 ∙ (fresh_named.size ∙ ap size_of (sym t.class_is ∙ (sym (ap (λ (c : Carved). c.class) q) ∙ h.class))) in
+        let z = size_of x.class in
+        let behind : (x.slot.index - length t.from.taken) * z ≡ length buffer.bytes.now + (x.slot.index - length taken.taken) * z =
+        (let j : x.slot.index - length t.from.taken ≡ (x.slot.index - length taken.taken) + 1 = omega (arith, low, apart_index, more, at) in
+        let m = suc-mul (x.slot.index - length taken.taken) z in
+        ap (λ n. n * z) j ∙ omega (arith, m, size)) in
+        let old_lies : StandsAt x.bytes ((x.slot.index - length t.from.taken) * z) t.from.rest = subst (λ (c : Carved). StandsAt x.bytes ((x.slot.index - length c.taken) * z) c.rest) q h.lies in
         let r : HasNoName new_names x = record {
           chunk = taken;
           is_chunk = ap (slice_get new_names) same.1 ∙ now_there;
@@ -113,9 +123,11 @@ module _ (names : List Carved) (v w : FloorSeen) (a n : ℕ) (slot : Slot) (f : 
           place = omega (arith, low, apart_index, more, at);
           within = h.within;
           size = h.size;
+          lies = stands_behind buffer.bytes.now x.bytes ((x.slot.index - length taken.taken) * z) t.rest
+              (subst (λ bs. StandsAt x.bytes (length buffer.bytes.now + (x.slot.index - length taken.taken) * z) bs) t.left (subst (λ p. StandsAt x.bytes p t.from.rest) behind old_lies));
         } in r)
         (λ (other : _ × (x.slot.chunk ≢ chunk)).
-        let r : HasNoName new_names x = record { chunk = h.chunk; is_chunk = get_set_other names chunk x.slot.chunk taken other.1 ∙ h.is_chunk; class = h.class; part = h.part; place = h.place; within = h.within; size = h.size } in r)
+        let r : HasNoName new_names x = record { chunk = h.chunk; is_chunk = get_set_other names chunk x.slot.chunk taken other.1 ∙ h.is_chunk; class = h.class; part = h.part; place = h.place; within = h.within; size = h.size; lies = h.lies } in r)
         (eqb_tells x.slot.chunk chunk)
 
     kept_home : (x : AtHome) → slot_at x ≢ u.slot → IsNamedHome names x → IsNamedHome new_names x

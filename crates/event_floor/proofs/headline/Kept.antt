@@ -29,8 +29,8 @@ use Rattle.event_floor.specs.declared.seat.Seat.{Seat}
 use Rattle.digit_route.specs.Digits.{Scheme}
 use Rattle.event_floor.specs.Steps.{Answers}
 use Rattle.event_floor.specs.Steps.{Does, DrawsChunk, LendsSlot}
-use Rattle.event_floor.specs.headline.Bytes.{LieAt, RestLies, Holds, IsKept, KeepsBytes, fresh_of}
-use Rattle.event_floor.specs.headline.Known.{buffers_of}
+use Rattle.event_floor.specs.headline.Bytes.{LieAt, RestLies, Holds, IsKept, KeepsBytes}
+use Rattle.event_floor.specs.headline.Known.{buffers_of, fresh_of}
 use Rattle.event_floor.specs.headline.Names.{HasName, HasNoName, IsNamedHome, AreNames, IsNamed}
 use Rattle.event_floor.proofs.headline.Everywhere.{Everywhere, OfDesk, IsHome, everywhere, buffers_everywhere, fresh_everywhere, chunks_everywhere, adopt_everywhere, retire_everywhere, link_everywhere, send_everywhere, free_everywhere, take_everywhere, claim_everywhere, alloc_everywhere}
 use Rattle.event_floor.proofs.headline.Lists.{get_or_same}
@@ -240,11 +240,14 @@ names_everywhere names v n = record {
   posted = n.posted;
 }
 
+pub fresh_named : (names : List Carved) (v : FloorSeen) → AreNames names v → All (HasNoName names) (fresh_of v)
+fresh_named names v n = fresh_everywhere (HasName names) (HasNoName names) AnyChunk v (names_everywhere names v n)
+
 names_start : (names : List Carved) (v : FloorSeen) → AreNames names v → KeptSince v v
 names_start names v n =
     let e = names_everywhere names v n in
     let named = buffers_everywhere (HasName names) (HasNoName names) AnyChunk v e in
-    let none = fresh_everywhere (HasName names) (HasNoName names) AnyChunk v e in record {
+    let none = fresh_named names v n in record {
       kept = everywhere (IsKept (buffers_of v)) (HasNone (buffers_of v)) AnyChunk v (kept_self (buffers_of v))
           (All-to (HasNoName names) (HasNone (buffers_of v)) (fresh_of v) (λ u g. λ k d l. names_apart names (get_or (buffers_of v) k d) u (named k d l) g) none)
           (λ k d l. tt);

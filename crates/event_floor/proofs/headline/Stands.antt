@@ -1,5 +1,5 @@
 -- Where bytes stand in a region.
-use Rattle.std.proofs.Common.{◌≡◌, ℕ, zero, suc, ◌+◌, ◌*◌, ◌<◌, List, [], ◌∷◌, ◌++◌, length, take, drop, get_or, flat_map, All, refl, sym, ap, ap₂, subst, arith}
+use Rattle.std.proofs.Common.{◌≡◌, ℕ, zero, suc, ◌+◌, ◌*◌, ◌<◌, List, [], ◌∷◌, ◌++◌, length, take, drop, get_or, flat_map, All, refl, sym, ap, ap₂, ◌∙◌, subst, arith}
 use Rattle.std.specs.Borrow.{GName}
 use Rattle.std.proofs.Math.Nat.{suc-mul}
 use Rattle.std.proofs.lemmas.List.{drop-drop}
@@ -68,6 +68,33 @@ stands_join xs ys p w g h = begins_join xs ys (drop p w) g (subst (λ z. Begins 
 -- bytes with others behind them
 pub stands_there : (xs ys : List ℕ) → StandsAt xs 0 (xs ++ ys)
 stands_there xs ys = take_front xs ys
+
+pub stands_whole : (xs : List ℕ) → StandsAt xs 0 xs
+stands_whole [] = refl
+stands_whole (x ∷ xs) = ap (λ zs. x ∷ zs) (stands_whole xs)
+
+-- behind other bytes
+pub stands_behind : (ys xs : List ℕ) (p : ℕ) (w : List ℕ) → StandsAt xs (length ys + p) (ys ++ w) → StandsAt xs p w
+stands_behind ys xs p w h = subst (λ z. Begins xs z) (sym (drop-drop p (length ys) (ys ++ w)) ∙ ap (drop p) (drop_front ys w)) h
+
+pub stands_in_front : (ys xs : List ℕ) (p : ℕ) (w : List ℕ) → StandsAt xs p w → StandsAt xs (length ys + p) (ys ++ w)
+stands_in_front ys xs p w h = subst (λ z. Begins xs z) (sym (sym (drop-drop p (length ys) (ys ++ w)) ∙ ap (drop p) (drop_front ys w))) h
+
+-- in what stands there itself
+begins_trans : (xs m z : List ℕ) → Begins xs m → Begins m z → Begins xs z
+begins_trans [] m z g h = refl
+begins_trans (x ∷ xs) [] z g h = cc
+begins_trans (x ∷ xs) (y ∷ m) [] g h = cc
+begins_trans (x ∷ xs) (y ∷ m) (w ∷ z) g h =
+    let e : y ∷ take (length xs) m ≡ x ∷ xs = g in
+    let f : w ∷ take (length m) z ≡ y ∷ m = h in
+    let first : take (length xs) m ≡ xs = cc in
+    let rest : take (length m) z ≡ m = cc in
+    let head : w ≡ x = cc in
+    ap₂ ◌∷◌ head (begins_trans xs m z first rest)
+
+pub stands_within : (p q : ℕ) (xs ys w : List ℕ) → StandsAt xs p ys → StandsAt ys q w → StandsAt xs (q + p) w
+stands_within p q xs ys w g h = begins_trans xs (drop p ys) (drop (q + p) w) g (stands_drop p q ys w h)
 
 -- the slots of a chunk that stands there
 module _ (P : AtHome → Type 0) (chunk class : ℕ) (w : List ℕ)

@@ -1,5 +1,5 @@
 -- Names of chunks that are drawn, and of slots that are handed out for the first time.
-use Rattle.std.proofs.Common.{◌≡◌, ◌≢◌, ℕ, zero, suc, ◌+◌, ◌*◌, ◌<◌, ◌≤◌, Bool, true, false, ◌==◌, cond, List, [], ◌∷◌, ◌++◌, length, get_or, set, take, drop, All, Option, Some, None, is_some, refl, sym, ap, ap₂, ◌∙◌, subst, arith, ⊎_elim, IsPermutation}
+use Rattle.std.proofs.Common.{◌≡◌, ◌≢◌, ℕ, zero, suc, ◌+◌, ◌-◌, ◌*◌, ◌<◌, ◌≤◌, Bool, true, false, ◌==◌, cond, List, [], ◌∷◌, ◌++◌, length, get_or, set, take, drop, All, Option, Some, None, is_some, refl, sym, ap, ap₂, ◌∙◌, subst, arith, ⊎_elim, IsPermutation}
 use Rattle.std.specs.Prelude.{IfSome, count_by, option_map}
 use Rattle.std.specs.List.{slice_get}
 use Rattle.std.proofs.lemmas.Bool.{true≢false}
@@ -12,6 +12,7 @@ use Rattle.region_cut.specs.declared.TheConstants.{CHUNK}
 use Rattle.std.proofs.lemmas.List.Sorted.{All-permutation, sum_by-IsPermutation}
 use Rattle.region_cut.specs.Carved.{Carved}
 use Rattle.region_cut.specs.Classes.{slots_of, size_of}
+use Rattle.region_cut.specs.Endings.{StandsAt}
 use Rattle.slot_chain.specs.Buffer.{Buffer}
 use Rattle.pool_desk.specs.Homes.{AtHome, unused_from}
 use Rattle.pool_desk.specs.Homes.AtHome.{Kept, Fresh}
@@ -27,6 +28,7 @@ use Rattle.pool_machine.specs.Slots.{one_if}
 use Rattle.event_floor.specs.headline.Names.{HasName, IsNamedHome, IsNamedChunk, IsNamedDesk, AreNames, chunks_of, drew, is_drawn_for}
 use Rattle.pool_machine.proofs.Enumerate.{count_cons}
 use Rattle.event_floor.proofs.headline.Named.{held_named}
+use Rattle.event_floor.proofs.headline.Stands.{stands_take, stands_drop, stands_whole}
 
 -- ---- lists
 
@@ -124,14 +126,18 @@ module _ (names : List Carved) (v w : FloorSeen) (a class k : ℕ) (n : AreNames
 
   kept_home : (x : AtHome) → IsNamedHome names x → IsNamedHome new_names x
   kept_home (Kept b) h = kept_name b h
-  kept_home (Fresh u) h = record { chunk = h.chunk; is_chunk = get_pushed names new_chunk h.chunk u.slot.chunk h.is_chunk; class = h.class; part = h.part; place = h.place; within = h.within; size = h.size }
+  kept_home (Fresh u) h = record { chunk = h.chunk; is_chunk = get_pushed names new_chunk h.chunk u.slot.chunk h.is_chunk; class = h.class; part = h.part; place = h.place; within = h.within; size = h.size; lies = h.lies }
 
   last_place : length names ≡ k
   last_place = n.count ∙ sym s.is_next
 
-  uncut_named : (i m : ℕ) (bs : List ℕ) → i + m ≤ slots_of class → m * size_of class ≤ length bs → All (IsNamedHome new_names) (unused_from k class s.part.bytes.ghost_name m i bs)
-  uncut_named i zero bs l fits = All-nil (IsNamedHome new_names)
-  uncut_named i (suc m) bs l fits =
+  uncut_named : (i m : ℕ) (bs : List ℕ) → i + m ≤ slots_of class → m * size_of class ≤ length bs → StandsAt bs (i * size_of class) new_chunk.rest
+      → All (IsNamedHome new_names) (unused_from k class s.part.bytes.ghost_name m i bs)
+  uncut_named i zero bs l fits lie = All-nil (IsNamedHome new_names)
+  uncut_named i (suc m) bs l fits lie =
+      let none : length new_chunk.taken ≡ 0 = ap length s.claims.drawn.uncut.none_taken in
+      let ahead : i ≡ i - length new_chunk.taken = omega (arith, none) in
+      let next : i * size_of class + size_of class ≡ (i + 1) * size_of class = (let e = suc-mul i (size_of class) in omega (arith, e)) in
       let long : size_of class ≤ length bs = more_than m (size_of class) (length bs) fits in
       let left : m * size_of class ≤ length (drop (size_of class) bs) = rest_of m (size_of class) bs fits in
       All-cons (IsNamedHome new_names) (Fresh (record { slot = record { chunk = k; index = i }; class = class; part = s.part.bytes.ghost_name; bytes = take (size_of class) bs })) _
@@ -143,8 +149,17 @@ module _ (names : List Carved) (v w : FloorSeen) (a class k : ℕ) (n : AreNames
         place = subst (λ xs. length xs ≤ i) (sym s.claims.drawn.uncut.none_taken) (omega arith);
         within = omega (arith, l);
         size = length-take-le (size_of class) bs long;
+        lies = subst (λ j. StandsAt (take (size_of class) bs) (j * size_of class) new_chunk.rest) ahead (stands_take (size_of class) (i * size_of class) bs new_chunk.rest lie);
       })
-      (uncut_named (i + 1) m (drop (size_of class) bs) (omega (arith, l)) left)
+      (uncut_named (i + 1) m (drop (size_of class) bs) (omega (arith, l)) left
+      (subst (λ p. StandsAt (drop (size_of class) bs) p new_chunk.rest) next (stands_drop (size_of class) (i * size_of class) bs new_chunk.rest lie)))
+
+  -- all bytes of the part are left
+  whole_rest : StandsAt s.part.bytes.now (0 * size_of class) new_chunk.rest
+  whole_rest =
+      let none : 0 ≡ 0 * size_of class = omega arith in
+      subst (λ p. StandsAt s.part.bytes.now p new_chunk.rest) none
+      (subst (λ bs. StandsAt s.part.bytes.now 0 bs) (sym s.claims.drawn.uncut.all_left) (stands_whole s.part.bytes.now))
 
   drew_last : (b : ℕ) → drew new_drawn b (length v.drawn) ≡ (a == b)
   drew_last b = ap (is_drawn_for b) (get_last v.drawn (record { owner = a; class = class }))
@@ -194,7 +209,7 @@ module _ (names : List Carved) (v w : FloorSeen) (a class k : ℕ) (n : AreNames
       subst (λ m. IsPermutation (unused_from m class s.part.bytes.ghost_name (slots_of class) 0 s.part.bytes.now ++ s.before.home) s.after.home) s.is_part s.claims.home in
       record {
         home = All-permutation (IsNamedHome new_names) _ _ slots
-            (All-append (IsNamedHome new_names) _ s.before.home (uncut_named 0 (slots_of class) s.part.bytes.now (omega arith) (subst (λ n. slots_of class * size_of class ≤ n) (sym s.part.is_whole) (slots_fit class))) (All-to (IsNamedHome names) (IsNamedHome new_names) s.before.home kept_home h.home));
+            (All-append (IsNamedHome new_names) _ s.before.home (uncut_named 0 (slots_of class) s.part.bytes.now (omega arith) (subst (λ n. slots_of class * size_of class ≤ n) (sym s.part.is_whole) (slots_fit class)) whole_rest) (All-to (IsNamedHome names) (IsNamedHome new_names) s.before.home kept_home h.home));
         cached = subst (λ bs. All (HasName new_names) bs) (ap (λ (x : DeskState). x.cached) (sym s.claims.same)) (All-to (HasName names) (HasName new_names) s.before.cached kept_name h.cached);
         same = All-permutation (λ (c : Carved). slice_get new_names c.chunk ≡ Some c) _ _ s.claims.drawn.added
             (All-cons (λ (c : Carved). slice_get new_names c.chunk ≡ Some c) new_chunk s.before.drawn

@@ -1,5 +1,5 @@
 -- The bytes of a floor's slots, which no request changes.
-use Rattle.std.specs.Prelude.{ℕ, ◌≡◌, ◌≢◌, ◌+◌, ◌*◌, ◌⊎◌, List, [], ◌∷◌, length, flat_map, All, Any}
+use Rattle.std.specs.Prelude.{ℕ, ◌≡◌, ◌≢◌, ◌+◌, ◌*◌, ◌⊎◌, List, length, flat_map, All, Any}
 use Rattle.region_cut.specs.declared.TheConstants.{CHUNK}
 use Rattle.region_cut.specs.declared.slot.Slot.{Slot}
 use Rattle.region_cut.specs.Carved.{Carved}
@@ -8,21 +8,10 @@ use Rattle.region_cut.specs.Ended.{Ended, end_in}
 use Rattle.region_cut.specs.Endings.{StandsAt}
 use Rattle.region_cut.specs.Ranges.{start_of}
 use Rattle.slot_chain.specs.Buffer.{Buffer}
-use Rattle.pool_desk.specs.Homes.{AtHome, Unused}
-use Rattle.pool_desk.specs.Homes.AtHome.{Kept, Fresh}
+use Rattle.pool_desk.specs.Homes.{Unused}
 use Rattle.event_floor.specs.Floors.{FloorSeen}
-use Rattle.event_floor.specs.Seats.{home_of}
-use Rattle.event_floor.specs.headline.Known.{buffers_of}
+use Rattle.event_floor.specs.headline.Known.{buffers_of, fresh_of}
 use Rattle.event_floor.specs.headline.Names.{chunks_of}
-
--- those of the slots at home that were never handed out, and all such slots of a floor
-abbrev pub fresh_in : List AtHome → List Unused
-fresh_in [] = []
-fresh_in (Kept b ∷ hs) = fresh_in hs
-fresh_in (Fresh u ∷ hs) = u ∷ fresh_in hs
-
-abbrev pub fresh_of : FloorSeen → List Unused
-fresh_of v = flat_map (λ s. fresh_in (home_of s)) v.desks
 
 -- the region has these bytes at the range of the slot of the class
 abbrev pub LieAt : List ℕ → Slot → ℕ → List ℕ → Type 0

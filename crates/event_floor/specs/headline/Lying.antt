@@ -1,13 +1,14 @@
--- Where the bytes of a buffer lie.
-use Rattle.std.specs.Prelude.{◌≢◌, ℕ, List}
+-- Where the bytes of a slot lie.
+use Rattle.std.specs.Prelude.{◌≡◌, ◌≢◌, ℕ, List, ◌++◌, length, flat_map, All}
 use Rattle.region_cut.specs.declared.TheConstants.{CHUNK}
 use Rattle.region_cut.specs.Carved.{Carved}
 use Rattle.region_cut.specs.Classes.{size_of}
 use Rattle.region_cut.specs.Endings.{Ending, StandsAt, BeginsWith}
 use Rattle.region_cut.specs.Ranges.{start_of, Covers}
 use Rattle.slot_chain.specs.Buffer.{Buffer}
+use Rattle.pool_desk.specs.Homes.{AtHome, Unused, slot_at, class_at}
 use Rattle.event_floor.specs.Floors.{FloorSeen}
-use Rattle.event_floor.specs.headline.Names.{HasName, AreNames}
+use Rattle.event_floor.specs.headline.Names.{HasName, HasNoName, IsNamedHome, AreNames}
 
 -- Where a region ends as the parts of a floor, and the chunk of a buffer that has the name of its place as the slots that were taken of
 -- it, the buffer's slice lies at the range of its slot of the region.
@@ -17,8 +18,17 @@ NamedBuffersLie =
     → BeginsWith end v.parts CHUNK region → BeginsWith end named.chunk.taken (size_of b.class) (end named.chunk.whole)
     → StandsAt (end b.bytes.ghost_name) (start_of b.slot b.class) region
 
--- Two buffers of a floor that have the names of their places share no byte of the region, where they are of different slots.
-abbrev pub NamedBuffersShareNoByte : Type 0
-NamedBuffersShareNoByte =
-    (v : FloorSeen) (names : List Carved) → AreNames names v → (b c : Buffer) → HasName names b → HasName names c → b.slot ≢ c.slot
-    → (byte : ℕ) → Covers b.slot b.class byte → Covers c.slot c.class byte → ⊥
+-- So does a slot that was never handed out, whose chunk ends as the slots that were taken of it and then as what is left of it: its bytes
+-- stand at the range.
+abbrev pub UnusedSlotsLie : Type 0
+UnusedSlotsLie =
+    (end : Ending) (v : FloorSeen) (names : List Carved) → AreNames names v → (u : Unused) (unnamed : HasNoName names u) (region : List ℕ)
+    → BeginsWith end v.parts CHUNK region → All (λ x. length (end x) ≡ size_of u.class) unnamed.chunk.taken
+    → end unnamed.chunk.whole ≡ flat_map end unnamed.chunk.taken ++ unnamed.chunk.rest → StandsAt u.bytes (start_of u.slot u.class) region
+
+-- Two slots of a floor share no byte of the region, where they are different: buffers that have the names of their places, and slots that
+-- were never handed out.
+abbrev pub NamedSlotsShareNoByte : Type 0
+NamedSlotsShareNoByte =
+    (v : FloorSeen) (names : List Carved) → AreNames names v → (x y : AtHome) → IsNamedHome names x → IsNamedHome names y → slot_at x ≢ slot_at y
+    → (byte : ℕ) → Covers (slot_at x) (class_at x) byte → Covers (slot_at y) (class_at y) byte → ⊥

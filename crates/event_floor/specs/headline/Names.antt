@@ -1,9 +1,10 @@
 -- The names by which the bytes of the slots are known when the region's borrow ends.
-use Rattle.std.specs.Prelude.{◌≡◌, ℕ, ◌+◌, ◌*◌, ◌<◌, ◌≤◌, Bool, false, ◌==◌, List, length, slice_get, slice_index_or, count_by, Option, Some, None, IfSome, All}
+use Rattle.std.specs.Prelude.{◌≡◌, ℕ, ◌+◌, ◌-◌, ◌*◌, ◌<◌, ◌≤◌, Bool, false, ◌==◌, List, length, slice_get, slice_index_or, count_by, Option, Some, None, IfSome, All}
 use Rattle.std.specs.Borrow.{GName}
 use Rattle.region_cut.specs.declared.TheConstants.{CHUNK}
 use Rattle.region_cut.specs.Carved.{Carved}
 use Rattle.region_cut.specs.Classes.{size_of, slots_of}
+use Rattle.region_cut.specs.Endings.{StandsAt}
 use Rattle.slot_chain.specs.Buffer.{Buffer}
 use Rattle.pool_desk.specs.Homes.{AtHome, Unused}
 use Rattle.pool_desk.specs.Homes.AtHome.{Kept, Fresh}
@@ -24,7 +25,8 @@ pub record HasName (names : List Carved) (b : Buffer) : Type 0 where
   pub name : slice_get chunk.taken b.slot.index ≡ Some b.bytes.ghost_name
   pub size : length b.bytes.now ≡ size_of b.class
 
--- a slot of a chunk that was never handed out: no name was taken for its place yet
+-- a slot of a chunk that was never handed out: no name was taken for its place yet, and its bytes stand in what is left of the chunk,
+-- behind those of the slots that are handed out before it
 pub record HasNoName (names : List Carved) (u : Unused) : Type 0 where
   pub chunk : Carved
   pub is_chunk : slice_get names u.slot.chunk ≡ Some chunk
@@ -33,6 +35,7 @@ pub record HasNoName (names : List Carved) (u : Unused) : Type 0 where
   pub place : length chunk.taken ≤ u.slot.index
   pub within : u.slot.index < slots_of u.class
   pub size : length u.bytes ≡ size_of u.class
+  pub lies : StandsAt u.bytes ((u.slot.index - length chunk.taken) * size_of u.class) chunk.rest
 
 abbrev pub IsNamedHome : List Carved → AtHome → Type 0
 IsNamedHome names (Kept b) = HasName names b

@@ -19,7 +19,7 @@ returns-clause-known c =
     let new = c.close_chunks.new.self in
     subst (λ (v : FloorSeen). EndsKnown v new.known) c.self.view_is
     (floor_ends c.self.inside.lists k.0 k.1 k.2 c.end-endings.result.known c.end-endings.result.chunks c.agree.ensures e.chunks e.known
-    new.known (ap (λ (s : EndingsState). s.known) c.close_chunks.ensures) c.agree-2.ensures c.known_ends_stay.ensures c.slots_lie_at_their_ranges.ensures)
+    new.known (ap (λ (s : EndingsState). s.known) c.close_chunks.ensures) c.agree-2.ensures c.known_ends_stay.ensures c.slots_lie_at_their_ranges.ensures c.slices_lie_in_order.ensures)
 
 pub returns-clause-bytes : goal.returns-clause-bytes
 returns-clause-bytes c =
