@@ -10,24 +10,26 @@ use region_cut::cut;
 use region_cut::laws::parts_make_the_whole;
 use std::alloc::Global;
 
-/// A floor of so many desks over all chunks of the region, each desk's cache with a limit of 4,096 bytes. None where the region has
-/// too many chunks, or there was no memory.
+/// A floor of so many desks over all chunks of the region, each desk's cache with this limit in bytes. None where the region has too
+/// many chunks, or there was no memory.
 pub fn open<'r>(
     alloc: Global,
     region: &'r mut [u8],
     desks: u32,
     digits: Digits,
+    limit: u64,
 ) -> Option<Floor<'r>>
     requires some { 1 ≤ desks }
     requires few { desks ≤ 2 ^ digits.bits }
+    requires limit { limit ≤ 1048576 }
     ensures { IfSome result (λ floor.
-        Shown (listing_of floor) (opening desks (length region.old / 4096) digits 4096) (λ slot. 0)) }
+        Shown (listing_of floor) (opening desks (length region.old / 4096) digits limit) (λ slot. 0)) }
 {
     parts_make_the_whole();
     let Ok(parts) = cut(alloc, region) else {
         return None;
     };
-    match Floor::new(alloc, parts, desks, digits, 4096) {
+    match Floor::new(alloc, parts, desks, digits, limit) {
         Ok(floor) => Some(floor),
         Err(_) => None,
     }

@@ -10,6 +10,7 @@ use std::process::Abort;
 mod ending;
 mod inboxes;
 mod lending;
+mod limits;
 mod listing;
 mod profiles;
 mod routing;
@@ -34,13 +35,14 @@ use slot;
 /// A desk's number, and how many slots it has at home, in its cache and in its inbox.
 type Closing = (u32, u64, u64, u64);
 
-/// How a floor is made: the profile, so many desks and chunks, and digits of so many bits.
+/// How a floor is made: the profile, so many desks and chunks, digits of so many bits, and the limit of a cache in bytes.
 #[derive(Clone, Copy)]
 struct Made {
     profile: Profile,
     desks: u32,
     chunks: usize,
     width: u32,
+    limit: u64,
 }
 
 fn pool(desks: u32, chunks: usize, width: u32) -> Made {
@@ -49,6 +51,7 @@ fn pool(desks: u32, chunks: usize, width: u32) -> Made {
         desks,
         chunks,
         width,
+        limit: 4096,
     }
 }
 
@@ -58,6 +61,7 @@ fn pool2(desks: u32, chunks: usize, width: u32) -> Made {
         desks,
         chunks,
         width,
+        limit: 4096,
     }
 }
 
@@ -148,7 +152,8 @@ fn open_as<'r>(
 ) -> Option<Floor<'r>> {
     let digits = digits_of(rt, made);
     assert!(rt; made.desks >= 1 && made.desks <= 1 << digits.profile().bits());
-    open(alloc, region, made.desks, digits)
+    assert!(rt; made.limit <= 1_048_576);
+    open(alloc, region, made.desks, digits, made.limit)
 }
 
 // Plays on a new floor. Where memory for it was refused, there is a second region for the next try, which works.
