@@ -5,7 +5,7 @@ use Rattle.std.specs.List.{slice_get}
 use Rattle.std.proofs.lemmas.Option.{slice_get-get_or}
 use Rattle.std.proofs.lemmas.List.{reverse-append, map-append, length-map, length-reverse, length_push}
 use Rattle.region_cut.specs.declared.part.Part.{Part}
-use Rattle.region_cut.specs.Ended.{EndingsState}
+use Rattle.region_cut.specs.Endings.{EndingsState}
 use Rattle.region_cut.specs.Parts.{number_of, name_of, bytes_of, numbers_from}
 use Rattle.event_floor.specs.Chunks.{AreNumbered, AreUndrawn, stacked, ended_part, ended_parts}
 

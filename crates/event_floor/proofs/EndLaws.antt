@@ -3,7 +3,7 @@ use Rattle.std.proofs.Common.{◌≡◌, List, [], ◌∷◌, ◌++◌, map, fla
 use Rattle.std.proofs.lemmas.List.{map-append}
 use Rattle.std.proofs.lemmas.Grind.{flat_map-append}
 use Rattle.std.proofs.lemmas.List.Sorted.{IsPermutation-trans, IsPermutation-append_right}
-use Rattle.region_cut.specs.Ended.{Ended, EndingsState}
+use Rattle.region_cut.specs.Endings.{Ended, EndingsState}
 use Rattle.slot_chain.specs.Buffer.{Buffer, ended_of}
 
 append_none : {X : Type 0} (xs : List X) → xs ++ [] ≡ xs

@@ -5,9 +5,9 @@ use Rattle.std.specs.Prelude.{Option, Result, Ok, Err, OnErr, Bool, true, IsTrue
 use Rattle.slot_chain.specs.Buffer.{Buffer}
 use Rattle.digit_route.specs.Digits.{Scheme}
 use Rattle.pool_desk.specs.Desks.{IdleState, DeskState}
-use Rattle.event_floor.specs.declared.seat.Seat.{Seat}
-use Rattle.event_floor.specs.declared.seat.Seat.TheVariants.{Idle, Held}
-use Rattle.event_floor.specs.Posted.{Posted}
+use Rattle.event_floor.specs.declared.any_desk.AnyDesk.{AnyDesk}
+use Rattle.event_floor.specs.declared.any_desk.AnyDesk.TheVariants.{Idle, Held}
+use Rattle.event_floor.specs.Posted.{BatchSeen}
 use Rattle.event_floor.specs.Floors.{FloorSeen, desk_count, no_desk, with_seat, IsFloor, IsIdle, IsHeld}
 use Rattle.event_floor.proofs.FloorLaws.{desk_read}
 
@@ -18,26 +18,26 @@ within a n m k l e f = subst (λ z. a < z) (e ∙ f) l
 pub too_few : (v w : FloorSeen) (a n m : ℕ) → v ≡ w → n ≤ a → n ≡ m → m ≡ desk_count v → desk_count w ≤ a
 too_few v w a n m same l e f = subst (λ (z : FloorSeen). desk_count z ≤ a) same (subst (λ z. z ≤ a) (e ∙ f) l)
 
-pub is_idle : (v w : FloorSeen) (a : ℕ) (x : Seat) (d : IdleState) → v ≡ w → a < desk_count v → x ≡ get_or v.desks a x → x ≡ Idle d → IsIdle w a d
+pub is_idle : (v w : FloorSeen) (a : ℕ) (x : AnyDesk) (d : IdleState) → v ≡ w → a < desk_count v → x ≡ get_or v.desks a x → x ≡ Idle d → IsIdle w a d
 is_idle v w a x d same l read is = subst (λ (z : FloorSeen). IsIdle z a d) same (l, sym (get_or_read v.desks a x l read no_desk) ∙ is)
 
-pub is_held : (v w : FloorSeen) (a : ℕ) (x : Seat) (d : DeskState) → v ≡ w → a < desk_count v → x ≡ get_or v.desks a x → x ≡ Held d → IsHeld w a d
+pub is_held : (v w : FloorSeen) (a : ℕ) (x : AnyDesk) (d : DeskState) → v ≡ w → a < desk_count v → x ≡ get_or v.desks a x → x ≡ Held d → IsHeld w a d
 is_held v w a x d same l read is = subst (λ (z : FloorSeen). IsHeld z a d) same (l, desk_read v.desks a x d l read is)
 
 -- the desk is put back as it was read
-pub put_back : (desks : List Seat) (a : ℕ) (x y : Seat) → x ≡ get_or desks a x → x ≡ y → set desks a y ≡ desks
+pub put_back : (desks : List AnyDesk) (a : ℕ) (x y : AnyDesk) → x ≡ get_or desks a x → x ≡ y → set desks a y ≡ desks
 put_back desks a x y read is = ap (set desks a) (sym is ∙ read) ∙ set-get_or desks a x
 
-pub floor_kept : {digits : Scheme} {limit chunks : ℕ} {desks : List Seat} {lent : List (Option Buffer)} {inboxes : List (List Posted)} {next : ℕ} (a : ℕ) (x y : Seat)
+pub floor_kept : {digits : Scheme} {limit chunks : ℕ} {desks : List AnyDesk} {lent : List (Option Buffer)} {inboxes : List (List BatchSeen)} {next : ℕ} (a : ℕ) (x y : AnyDesk)
     → IsFloor digits limit chunks desks lent inboxes next → x ≡ get_or desks a x → x ≡ y → IsFloor digits limit chunks (set desks a y) lent inboxes next
 floor_kept {digits} {limit} {chunks} {desks} {lent} {inboxes} {next} a x y f read is =
-    subst (λ (z : List Seat). IsFloor digits limit chunks z lent inboxes next) (sym (put_back desks a x y read is)) f
+    subst (λ (z : List AnyDesk). IsFloor digits limit chunks z lent inboxes next) (sym (put_back desks a x y read is)) f
 
-pub view_kept : (v w : FloorSeen) (a : ℕ) (x y : Seat) → v ≡ w → x ≡ get_or v.desks a x → x ≡ y → with_seat v a y ≡ w
-view_kept v w a x y same read is = ap (λ (z : List Seat). record v { desks = z }) (put_back v.desks a x y read is) ∙ same
+pub view_kept : (v w : FloorSeen) (a : ℕ) (x y : AnyDesk) → v ≡ w → x ≡ get_or v.desks a x → x ≡ y → with_seat v a y ≡ w
+view_kept v w a x y same read is = ap (λ (z : List AnyDesk). record v { desks = z }) (put_back v.desks a x y read is) ∙ same
 
 -- the desks stay as many
-pub count_kept : (v w : FloorSeen) (a : ℕ) (y : Seat) → v ≡ w → desk_count (with_seat v a y) ≡ desk_count w
+pub count_kept : (v w : FloorSeen) (a : ℕ) (y : AnyDesk) → v ≡ w → desk_count (with_seat v a y) ≡ desk_count w
 count_kept v w a y same = length-set v.desks a y ∙ ap (λ (z : FloorSeen). desk_count z) same
 
 -- a test that failed

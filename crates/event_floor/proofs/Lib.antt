@@ -1,7 +1,7 @@
 pub mod ChunkLaws
 pub mod EndLaws
 pub mod FloorLaws
-pub mod HalfLaws
+pub mod UnlinkedLaws
 pub mod HeldLaws
 pub mod IndexLaws
 pub mod ListLaws

@@ -11,15 +11,17 @@ use Rattle.region_cut.specs.Classes.{size_of, slots_of, class_count}
 use Rattle.region_cut.specs.declared.part.Part.{Part}
 use Rattle.slot_chain.specs.Buffer.{Buffer}
 use Rattle.digit_route.specs.Digits.{Scheme}
-use Rattle.digit_route.specs.States.{BatchState, Gives as Routed}
-use Rattle.pool_desk.specs.Homes.{AtHome, Gives, unused_from, slot_at}
+use Rattle.digit_route.specs.States.{BatchState}
+use Rattle.digit_route.specs.Route.{GivesBucket as Routed}
+use Rattle.pool_desk.specs.Homes.{AtHome, unused_from, slot_at}
+use Rattle.pool_desk.specs.Homes.{GivenAs}
 use Rattle.pool_desk.specs.Homes.AtHome.{Kept, Fresh}
 use Rattle.pool_desk.specs.Desks.{DeskState}
 use Rattle.pool_desk.specs.Steps.{Claims, Allocs, Frees, Caches, Handles, freed, passed_on, own, others}
 use Rattle.pool_desk.specs.declared.freed.Freed.{Freed}
 use Rattle.pool_desk.specs.declared.freed.Freed.TheVariants.{Home, Cached, Due}
-use Rattle.event_floor.specs.declared.seat.Seat.{Seat}
-use Rattle.event_floor.specs.declared.seat.Seat.TheVariants.{Idle, Held}
+use Rattle.event_floor.specs.declared.any_desk.AnyDesk.{AnyDesk}
+use Rattle.event_floor.specs.declared.any_desk.AnyDesk.TheVariants.{Idle, Held}
 use Rattle.event_floor.specs.Seats.{IsNumbered, HasPlace, held_by, Releases}
 use Rattle.event_floor.specs.Floors.{IsKnown, IsSeated}
 
@@ -64,7 +66,7 @@ all_right : {X : Type 0} (P : X → Type 0) (xs ys : List X) → All P (xs ++ ys
 all_right P [] ys h = h
 all_right P (x ∷ xs) ys h = all_right P xs ys (tail_of P x (xs ++ ys) h)
 
-same_slot : (s : AtHome) (b : Buffer) → Gives s b → b.slot ≡ slot_at s
+same_slot : (s : AtHome) (b : Buffer) → GivenAs s b → b.slot ≡ slot_at s
 same_slot (Kept a) b g = ap (λ (z : Buffer). z.slot) g
 same_slot (Fresh u) b g = g.0
 
@@ -180,11 +182,11 @@ handle_seated digits limit n chunks a d d' bs h k s = record {
       (passed_known n chunks (others d.number bs) (All-filter (λ (b : Buffer). not (b.owner == d.number)) (IsKnown n chunks) bs k)) h.known);
 }
 
-pub adopt_seated : (digits : Scheme) (limit n chunks a worker : ℕ) (s : Seat) → IsSeated digits limit n chunks a s → IsSeated digits limit n chunks a (held_by worker s)
+pub adopt_seated : (digits : Scheme) (limit n chunks a worker : ℕ) (s : AnyDesk) → IsSeated digits limit n chunks a s → IsSeated digits limit n chunks a (held_by worker s)
 adopt_seated digits limit n chunks a worker (Idle d) h = record { numbered = h.numbered; placed = h.placed; known = All-nil (IsKnown n chunks) }
 adopt_seated digits limit n chunks a worker (Held d) h = h
 
-pub release_seated : (digits : Scheme) (limit n chunks a : ℕ) (s s' : Seat) (done : Bool) → IsSeated digits limit n chunks a s → Releases s done s'
+pub release_seated : (digits : Scheme) (limit n chunks a : ℕ) (s s' : AnyDesk) (done : Bool) → IsSeated digits limit n chunks a s → Releases s done s'
     → IsSeated digits limit n chunks a s'
 release_seated digits limit n chunks a (Idle d) s' true h r = absurd r
 release_seated digits limit n chunks a (Idle d) s' false h r = subst (λ z. IsSeated digits limit n chunks a z) (sym r) h

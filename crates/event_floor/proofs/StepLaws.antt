@@ -12,7 +12,8 @@ use Rattle.digit_route.specs.declared.error.RouteError.TheVariants.{ToSelf, Noth
 use Rattle.digit_route.specs.Digits.{Scheme}
 use Rattle.digit_route.specs.Profiles.{profile_of}
 use Rattle.digit_route.specs.Route.{RouteFault}
-use Rattle.digit_route.specs.States.{BatchState, Gives}
+use Rattle.digit_route.specs.States.{BatchState}
+use Rattle.digit_route.specs.Route.{GivesBucket}
 use Rattle.pool_desk.specs.Desks.{DeskState}
 use Rattle.pool_desk.specs.Steps.{Claims, Allocs, AllocFault, Frees, Handles, Counted}
 use Rattle.pool_desk.specs.declared.error.DeskError.{DeskError}
@@ -20,10 +21,10 @@ use Rattle.pool_desk.specs.declared.error.DeskError.TheVariants.{TooLarge, NeedC
 use Rattle.pool_desk.specs.declared.freed.Freed.{Freed}
 use Rattle.pool_desk.specs.declared.freed.Freed.TheVariants.{Home, Cached, Due}
 use Rattle.pool_desk.specs.declared.counts.Counts.{Counts}
-use Rattle.event_floor.specs.declared.seat.Seat.TheVariants.{Held}
+use Rattle.event_floor.specs.declared.any_desk.AnyDesk.TheVariants.{Held}
 use Rattle.event_floor.specs.Chunks.{ChunksSeen}
 use Rattle.event_floor.specs.Seats.{IsNumbered}
-use Rattle.event_floor.specs.Posted.{Posted, SendsTo, TakesFrom}
+use Rattle.event_floor.specs.Posted.{BatchSeen, SendsTo, TakesFrom}
 use Rattle.event_floor.specs.Floors.{FloorSeen, IsHeld, with_desk, last_number}
 use Rattle.event_floor.specs.Steps.{Answers, Refuses, Does, DrawsChunk, LendsSlot, TakesBack, SendsBatch, TakesFront, Routes, class_limit}
 use Rattle.event_floor.specs.Answers.{reply_of, refusal_of, route_refusal}
@@ -111,11 +112,11 @@ fault_at digits limit a d t fault n f =
     subst (λ (z : ℕ). RouteFault digits z t d.cached fault) n.0 (subst (λ (z : Scheme). RouteFault z d.number t d.cached fault) n.2 f)
 
 gives_at : (digits : Scheme) (limit a : ℕ) (d : DeskState) (b : BatchState) (new : List Buffer) → IsNumbered digits limit a (Held d)
-    → Gives d.digits d.number d.cached b new → Gives digits a d.cached b new
+    → GivesBucket d.digits d.number d.cached b new → GivesBucket digits a d.cached b new
 gives_at digits limit a d b new n g =
-    subst (λ (z : ℕ). Gives digits z d.cached b new) n.0 (subst (λ (z : Scheme). Gives z d.number d.cached b new) n.2 g)
+    subst (λ (z : ℕ). GivesBucket digits z d.cached b new) n.0 (subst (λ (z : Scheme). GivesBucket z d.number d.cached b new) n.2 g)
 
-pub sends_batch : (v w : FloorSeen) (a t count : ℕ) (d d' : DeskState) (inboxes : List (List Posted)) → v ≡ w → Routes v a t d None → v.next ≤ last_number
+pub sends_batch : (v w : FloorSeen) (a t count : ℕ) (d d' : DeskState) (inboxes : List (List BatchSeen)) → v ≡ w → Routes v a t d None → v.next ≤ last_number
     → IsNumbered v.digits v.limit a (Held d) → SendsTo d t v.next count v.inboxes d' inboxes
     → SendsBatch w a t v.next count (record (with_desk v a d') { inboxes = inboxes; next = v.next + 1 })
 sends_batch v w a t count d d' inboxes same routes unspent n s =
@@ -130,7 +131,7 @@ sends_batch v w a t count d d' inboxes same routes unspent n s =
       gives = gives_at v.digits v.limit a d s.sends.batch d'.cached n s.sends.gives;
       same_desk = s.sends.same_desk;
       counted = s.sends.counted;
-      same = ap (λ (z : List (List Posted)). record (with_desk v a d') { inboxes = z; next = v.next + 1 }) (s.same ∙ ap (set v.inboxes t) s.sends.posted);
+      same = ap (λ (z : List (List BatchSeen)). record (with_desk v a d') { inboxes = z; next = v.next + 1 }) (s.same ∙ ap (set v.inboxes t) s.sends.posted);
     })
 
 -- why a desk has no batch is why the floor refuses to send
@@ -144,7 +145,7 @@ pub send_refused : (v w : FloorSeen) (a t : ℕ) (d : DeskState) (fault : RouteE
 send_refused v w a t d fault refusal same r is =
     subst (λ (y : FloorSeen). Refuses y (Send a t) refusal) same (subst (λ (z : Refusal). Refuses v (Send a t) z) (sym is) (refuses_for v a t d fault r))
 
-pub takes_front : (v w : FloorSeen) (b : ℕ) (d d' : DeskState) (batch : BatchState) (inboxes : List (List Posted)) (counts : Counts) → v ≡ w → IsHeld v b d
+pub takes_front : (v w : FloorSeen) (b : ℕ) (d d' : DeskState) (batch : BatchState) (inboxes : List (List BatchSeen)) (counts : Counts) → v ≡ w → IsHeld v b d
     → TakesFrom batch b v.inboxes inboxes → Handles d batch.items d' → Counted d.number batch.items counts
     → TakesFront w b counts.home counts.on (record (with_desk v b d') { inboxes = inboxes })
 takes_front v w b d d' batch inboxes counts same held took handles counted =
@@ -158,7 +159,7 @@ takes_front v w b d d' batch inboxes counts same held took handles counted =
       linked = took.leaves.linked;
       handles = subst (λ z. Handles d z d') took.leaves.items handles;
       counted = subst (λ z. Counted d.number z counts) took.leaves.items counted;
-      same = ap (λ (z : List (List Posted)). record (with_desk v b d') { inboxes = z }) took.same;
+      same = ap (λ (z : List (List BatchSeen)). record (with_desk v b d') { inboxes = z }) took.same;
     })
 
 -- the clauses of a step, told together

@@ -2,7 +2,7 @@
 use Rattle.std.specs.Prelude.{ℕ, zero, suc, ◌≡◌, ◌≤◌, ◌+◌, List, [], ◌∷◌, ◌++◌, length, map, drop, reverse, Option, option_map, slice_get}
 use Rattle.std.specs.Borrow.{GName}
 use Rattle.region_cut.specs.declared.part.Part.{Part}
-use Rattle.region_cut.specs.Ended.{Ended}
+use Rattle.region_cut.specs.Endings.{Ended}
 use Rattle.region_cut.specs.Parts.{number_of, name_of, bytes_of, numbers_from}
 use Rattle.pool_machine.specs.declared.chunk.DrawnChunk.{DrawnChunk}
 

@@ -9,10 +9,10 @@ use Rattle.digit_route.specs.Digits.{Scheme}
 use Rattle.digit_route.specs.Profiles.{profile_of}
 use Rattle.pool_desk.specs.Desks.{IdleState, DeskState}
 use Rattle.pool_machine.specs.declared.chunk.DrawnChunk.{DrawnChunk}
-use Rattle.event_floor.specs.declared.seat.Seat.{Seat}
-use Rattle.event_floor.specs.declared.seat.Seat.TheVariants.{Idle, Held}
-use Rattle.event_floor.specs.Seats.{idle_seats, new_desk, home_of, cached_of, IsNumbered, HasPlace}
-use Rattle.event_floor.specs.Posted.{Posted, inbox_at}
+use Rattle.event_floor.specs.declared.any_desk.AnyDesk.{AnyDesk}
+use Rattle.event_floor.specs.declared.any_desk.AnyDesk.TheVariants.{Idle, Held}
+use Rattle.event_floor.specs.Seats.{new_desks, new_desk, home_of, cached_of, IsNumbered, HasPlace}
+use Rattle.event_floor.specs.Posted.{BatchSeen, inbox_at}
 
 -- how the numbers of desks are read, the limit in bytes of each desk's cache, how many chunks there are, the names of their parts,
 -- the chunks that are drawn, and the bytes of the parts of the others, all in the order of their numbers, the desks, the table of
@@ -24,9 +24,9 @@ pub record FloorSeen : Type 0 where
   pub parts : List GName
   pub drawn : List DrawnChunk
   pub undrawn : List (List ℕ)
-  pub desks : List Seat
+  pub desks : List AnyDesk
   pub lent : List (Option Buffer)
-  pub inboxes : List (List Posted)
+  pub inboxes : List (List BatchSeen)
   pub next : ℕ
 
 -- how many desks it has
@@ -41,11 +41,11 @@ profile_seen v = profile_of v.digits.bits
 abbrev pub no_digits : Scheme
 no_digits = record { width = 0; bits = 0 }
 
-abbrev pub no_desk : Seat
+abbrev pub no_desk : AnyDesk
 no_desk = Idle (new_desk no_digits 0 0)
 
 -- the desk of a number
-abbrev pub desk_at : FloorSeen → ℕ → Seat
+abbrev pub desk_at : FloorSeen → ℕ → AnyDesk
 desk_at v a = slice_index_or v.desks a no_desk
 
 -- the desk a is idle; it is held, and is d
@@ -56,14 +56,14 @@ abbrev pub IsHeld : FloorSeen → ℕ → DeskState → Type 0
 IsHeld v a d = (a < desk_count v) × (desk_at v a ≡ Held d)
 
 -- the same floor with another desk a, in any hands or in those of a worker
-abbrev pub with_seat : FloorSeen → ℕ → Seat → FloorSeen
+abbrev pub with_seat : FloorSeen → ℕ → AnyDesk → FloorSeen
 with_seat v a s = record v { desks = slice_set v.desks a s }
 
 abbrev pub with_desk : FloorSeen → ℕ → DeskState → FloorSeen
 with_desk v a d = with_seat v a (Held d)
 
 -- the same floor with another inbox of desk b
-abbrev pub with_inbox : FloorSeen → ℕ → List Posted → FloorSeen
+abbrev pub with_inbox : FloorSeen → ℕ → List BatchSeen → FloorSeen
 with_inbox v b posted = record v { inboxes = slice_set v.inboxes b posted }
 
 -- a floor over these parts, with nothing drawn and nothing lent, all desks idle, no batch numbered
@@ -75,7 +75,7 @@ opening desks parts digits limit = record {
   parts = map name_of parts;
   drawn = [];
   undrawn = map bytes_of parts;
-  desks = idle_seats digits limit desks;
+  desks = new_desks digits limit desks;
   lent = replicate (256 * length parts) None;
   inboxes = replicate desks [];
   next = 1;
@@ -92,13 +92,13 @@ pub record IsKnown (desks chunks : ℕ) (b : Buffer) : Type 0 where
   pub index : b.slot.index < 256
 
 -- desk a of so many: it has its number, and the floor's digits and limit; its slots at home and the buffers in its cache are known
-pub record IsSeated (digits : Scheme) (limit desks chunks a : ℕ) (s : Seat) : Type 0 where
+pub record IsSeated (digits : Scheme) (limit desks chunks a : ℕ) (s : AnyDesk) : Type 0 where
   pub numbered : IsNumbered digits limit a s
   pub placed : All (HasPlace chunks) (home_of s)
   pub known : All (IsKnown desks chunks) (cached_of s)
 
 -- a batch in the inbox of b: it was numbered before, it is addressed to b, it has the floor's digits, and its buffers are known
-pub record IsPostedTo (digits : Scheme) (desks chunks next b : ℕ) (p : Posted) : Type 0 where
+pub record IsPostedTo (digits : Scheme) (desks chunks next b : ℕ) (p : BatchSeen) : Type 0 where
   pub numbered : p.number < next
   pub address : p.address ≡ b
   pub sender : p.sender < desks
@@ -110,7 +110,7 @@ abbrev pub last_number : ℕ
 last_number = 4294967295
 
 -- A floor of n desks, each with its inbox. There are no more desks than numbers, and the table has 256 places for each chunk.
-pub record IsFloorOf (n : ℕ) (digits : Scheme) (limit chunks : ℕ) (desks : List Seat) (lent : List (Option Buffer)) (inboxes : List (List Posted)) (next : ℕ)
+pub record IsFloorOf (n : ℕ) (digits : Scheme) (limit chunks : ℕ) (desks : List AnyDesk) (lent : List (Option Buffer)) (inboxes : List (List BatchSeen)) (next : ℕ)
     : Type 0 where
   pub count : length desks ≡ n
   pub few : n ≤ 2 ^ digits.bits
@@ -123,5 +123,5 @@ pub record IsFloorOf (n : ℕ) (digits : Scheme) (limit chunks : ℕ) (desks : L
   pub next_low : 1 ≤ next
   pub next_high : next ≤ last_number + 1
 
-abbrev pub IsFloor : Scheme → ℕ → ℕ → List Seat → List (Option Buffer) → List (List Posted) → ℕ → Type 0
+abbrev pub IsFloor : Scheme → ℕ → ℕ → List AnyDesk → List (Option Buffer) → List (List BatchSeen) → ℕ → Type 0
 IsFloor digits limit chunks desks lent inboxes next = IsFloorOf (length desks) digits limit chunks desks lent inboxes next

@@ -1,7 +1,7 @@
 pub mod Answers
 pub mod Chunks
 pub mod Floors
-pub mod Halves
+pub mod Unlinked
 pub mod Lent
 pub mod Posted
 pub mod Seats

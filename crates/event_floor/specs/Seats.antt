@@ -4,17 +4,17 @@ use Rattle.slot_chain.specs.Buffer.{Buffer}
 use Rattle.digit_route.specs.Digits.{Scheme}
 use Rattle.pool_desk.specs.Homes.{AtHome, slot_at}
 use Rattle.pool_desk.specs.Desks.{IdleState, DeskState}
-use Rattle.event_floor.specs.declared.seat.Seat.{Seat}
-use Rattle.event_floor.specs.declared.seat.Seat.TheVariants.{Idle, Held}
+use Rattle.event_floor.specs.declared.any_desk.AnyDesk.{AnyDesk}
+use Rattle.event_floor.specs.declared.any_desk.AnyDesk.TheVariants.{Idle, Held}
 
 -- a desk with nothing at home
 abbrev pub new_desk : Scheme → ℕ → ℕ → IdleState
 new_desk digits limit number = record { number = number; digits = digits; limit = limit; home = []; drawn = [] }
 
 -- n desks that no worker holds, with nothing at home
-unfoldable pub idle_seats : Scheme → ℕ → ℕ → List Seat
-idle_seats digits limit zero = []
-idle_seats digits limit (suc n) = idle_seats digits limit n ++ Idle (new_desk digits limit n) ∷ []
+unfoldable pub new_desks : Scheme → ℕ → ℕ → List AnyDesk
+new_desks digits limit zero = []
+new_desks digits limit (suc n) = new_desks digits limit n ++ Idle (new_desk digits limit n) ∷ []
 
 -- the desk in the hands of a worker, with nothing in its cache
 abbrev pub adopted : ℕ → IdleState → DeskState
@@ -24,16 +24,16 @@ adopted worker d = record { number = d.number; digits = d.digits; limit = d.limi
 abbrev pub retired : DeskState → IdleState
 retired d = record { number = d.number; digits = d.digits; limit = d.limit; home = d.home; drawn = d.drawn }
 
-abbrev pub held_by : ℕ → Seat → Seat
+abbrev pub held_by : ℕ → AnyDesk → AnyDesk
 held_by worker (Idle d) = Held (adopted worker d)
 held_by worker (Held d) = Held d
 
-abbrev pub home_of : Seat → List AtHome
+abbrev pub home_of : AnyDesk → List AtHome
 home_of (Idle d) = d.home
 home_of (Held d) = d.home
 
 -- the desk has this number and limit, and reads the numbers of desks so
-abbrev pub IsNumbered : Scheme → ℕ → ℕ → Seat → Type 0
+abbrev pub IsNumbered : Scheme → ℕ → ℕ → AnyDesk → Type 0
 IsNumbered digits limit number (Idle d) = (d.number ≡ number) × (d.limit ≡ limit) × (d.digits ≡ digits)
 IsNumbered digits limit number (Held d) = (d.number ≡ number) × (d.limit ≡ limit) × (d.digits ≡ digits)
 
@@ -42,12 +42,12 @@ abbrev pub HasPlace : ℕ → AtHome → Type 0
 HasPlace chunks s = ((slot_at s).chunk < chunks) × ((slot_at s).index < 256)
 
 -- the others' buffers that were freed here
-abbrev pub cached_of : Seat → List Buffer
+abbrev pub cached_of : AnyDesk → List Buffer
 cached_of (Idle d) = []
 cached_of (Held d) = d.cached
 
 -- the desk was let go by its worker, where nothing is in its cache; else it stays as it was
-abbrev pub Releases : Seat → Bool → Seat → Type 0
+abbrev pub Releases : AnyDesk → Bool → AnyDesk → Type 0
 Releases (Idle d) true new = ⊥
 Releases (Idle d) false new = new ≡ Idle d
 Releases (Held d) true new = (d.cached ≡ []) × (new ≡ Idle (retired d))

@@ -7,10 +7,11 @@ use Rattle.region_cut.specs.Parts.{name_of, bytes_of}
 use Rattle.slot_chain.specs.Buffer.{Buffer}
 use Rattle.slot_chain.specs.Counts.{capped}
 use Rattle.digit_route.specs.Route.{RouteFault}
-use Rattle.digit_route.specs.States.{BatchState, Gives}
+use Rattle.digit_route.specs.States.{BatchState}
+use Rattle.digit_route.specs.Route.{GivesBucket}
 use Rattle.digit_route.specs.declared.error.RouteError.{RouteError}
 use Rattle.digit_route.specs.declared.error.RouteError.TheVariants.{ToSelf as RouteToSelf, NothingFor as RouteNothingFor, NotAnOwner as RouteNotAnOwner}
-use Rattle.pool_desk.specs.ByClass.{HasClass}
+use Rattle.pool_desk.specs.HomesState.{HasClass}
 use Rattle.pool_desk.specs.Desks.{IdleState, DeskState}
 use Rattle.pool_desk.specs.Steps.{Claims, Allocs, AllocFault, Frees, Handles, Counted}
 use Rattle.pool_desk.specs.declared.error.DeskError.TheVariants.{NeedChunk as DeskNeedChunk, NoMemory as DeskNoMemory}
@@ -22,10 +23,10 @@ use Rattle.pool_machine.specs.declared.reply.Reply.{Reply}
 use Rattle.pool_machine.specs.declared.reply.Reply.TheVariants.{Done, Chunk, Slot as Lent, Home, Cached, Due, Batch, Counts}
 use Rattle.pool_machine.specs.declared.refusal.Refusal.{Refusal}
 use Rattle.pool_machine.specs.declared.refusal.Refusal.TheVariants.{NoDesk, Idle, TooLarge, NeedChunk, NotNeeded, NoChunk, NotLent, NothingFor, NotAnOwner, ToSelf, NoBatch, Nothing, Unsettled, Held, NoMemory, BadClass, Spent}
-use Rattle.event_floor.specs.declared.seat.Seat.TheVariants.{Idle as IdleSeat}
+use Rattle.event_floor.specs.declared.any_desk.AnyDesk.TheVariants.{Idle as IdleSeat}
 use Rattle.event_floor.specs.Seats.{adopted, retired}
 use Rattle.event_floor.specs.Lent.{lent_at, place_of}
-use Rattle.event_floor.specs.Posted.{Posted, inbox_at, sent_as, as_linked, no_batch, IsHalf, IsHalfOf, IsHalfAt, SomePosted, NonePosted, HasNoFront}
+use Rattle.event_floor.specs.Posted.{BatchSeen, inbox_at, sent_as, as_linked, no_batch, IsHalf, IsHalfOf, IsHalfAt, SomePosted, NonePosted, HasNoFront}
 use Rattle.event_floor.specs.Floors.{FloorSeen, desk_count, profile_seen, IsIdle, IsHeld, with_seat, with_desk, with_inbox, last_number}
 
 -- ---- refusals, each with all that was looked at before
@@ -145,7 +146,7 @@ pub record SendsBatch (old : FloorSeen) (a t number count : ℕ) (new : FloorSee
   pub unspent : old.next ≤ last_number
   pub is_next : number ≡ old.next
   pub address : batch.address ≡ t
-  pub gives : Gives old.digits a before.cached batch after.cached
+  pub gives : GivesBucket old.digits a before.cached batch after.cached
   pub same_desk : after ≡ record before { cached = after.cached }
   pub counted : count ≡ capped (length batch.items)
   pub same : new ≡ record (with_inbox (with_desk old a after) t (inbox_at old.inboxes t ++ sent_as number batch ∷ [])) { next = old.next + 1 }
@@ -162,8 +163,8 @@ pub record LinksBatch (old : FloorSeen) (number : ℕ) (new : FloorSeen) : Type 
 pub record TakesFront (old : FloorSeen) (b home on : ℕ) (new : FloorSeen) : Type 0 where
   pub before : DeskState
   pub after : DeskState
-  pub front : Posted
-  pub rest : List Posted
+  pub front : BatchSeen
+  pub rest : List BatchSeen
   pub held : IsHeld old b before
   pub is_front : inbox_at old.inboxes b ≡ front ∷ rest
   pub linked : front.linked ≡ true

@@ -7,7 +7,8 @@ ghost use Rattle.region_cut.specs.declared.part.Part.{Part};
 
 use crate::part_names::{PartNames, names_of};
 use pool_machine::DrawnChunk;
-use region_cut::{Class, Endings, Part};
+use region_cut::endings::Endings;
+use region_cut::{Class, Part};
 use slot_chain::NoMemory;
 use std::alloc::Global;
 use std::marker::Model;

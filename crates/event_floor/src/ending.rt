@@ -5,31 +5,31 @@ ghost use Rattle.event_floor.specs.Chunks.{ended_parts};
 ghost use Rattle.event_floor.specs.headline.Known.{buffers_with, buffers_of, undrawn_parts};
 ghost use Rattle.event_floor.specs.headline.Names.{chunks_of};
 
+use crate::any_desk::AnyDesk;
 use crate::inboxes::end_inboxes;
 use crate::lists::Lists;
-use crate::seat::Seat;
-use region_cut::Endings;
+use region_cut::endings::Endings;
 
 // Lets go a desk's buffers, and the cursors over its chunks.
-fn end_seat<'r>(seat: Seat<'r>, endings: &mut Endings<'r>)
-    ensures chunks { endings.new.chunks ≡ chunks_of seat.entry ++ endings.old.chunks }
-    ensures known { IsPermutation (map ended_of (buffers_with seat.entry) ++ endings.old.known) endings.new.known }
+fn end_desk<'r>(any: AnyDesk<'r>, endings: &mut Endings<'r>)
+    ensures chunks { endings.new.chunks ≡ chunks_of any.entry ++ endings.old.chunks }
+    ensures known { IsPermutation (map ended_of (buffers_with any.entry) ++ endings.old.known) endings.new.known }
 {
-    match seat {
-        Seat::Idle(desk) => desk.end(endings),
-        Seat::Held(desk) => desk.end(endings),
+    match any {
+        AnyDesk::Idle(desk) => desk.end(endings),
+        AnyDesk::Held(desk) => desk.end(endings),
     }
 }
 
 // The same of all desks.
-fn end_seats<'r>(desks: Vec<Seat<'r>>, endings: &mut Endings<'r>)
+fn end_desks<'r>(desks: Vec<AnyDesk<'r>>, endings: &mut Endings<'r>)
     ensures chunks { endings.new.chunks ≡ flat_map chunks_of desks.entry.items ++ endings.old.chunks }
     ensures known { IsPermutation (map ended_of (flat_map buffers_with desks.entry.items) ++ endings.old.known)
         endings.new.known }
 {
     let mut desks = desks;
-    while let Some(seat) = desks.pop() {
-        end_seat(seat, endings);
+    while let Some(any) = desks.pop() {
+        end_desk(any, endings);
     }
 }
 
@@ -54,7 +54,7 @@ impl<'r> Lists<'r> {
         chunks.end(&mut endings);
         end_inboxes(inboxes, &mut endings);
         lent.end(&mut endings);
-        end_seats(desks, &mut endings);
+        end_desks(desks, &mut endings);
         endings
     }
 }

@@ -4,8 +4,8 @@ ghost use Rattle.event_floor.specs.Floors.{desk_count};
 ghost use Rattle.event_floor.specs.Steps.{Does, Refuses};
 ghost use Rattle.pool_machine.specs.declared.request.Request.TheVariants.{Adopt, Retire};
 
+use crate::any_desk::{AnyDesk, hold, release};
 use crate::lists::Lists;
-use crate::seat::{Seat, hold, release};
 use crate::{Refusal, Reply};
 
 impl<'r> Lists<'r> {
@@ -19,7 +19,7 @@ impl<'r> Lists<'r> {
         if place >= self.desks.len() {
             return Err(Refusal::NoDesk);
         }
-        if let Seat::Held(_) = &self.desks[place] {
+        if let AnyDesk::Held(_) = &self.desks[place] {
             return Err(Refusal::Held);
         }
         hold(&mut self.desks[place], self.digits, worker);
@@ -36,7 +36,7 @@ impl<'r> Lists<'r> {
         if place >= self.desks.len() {
             return Err(Refusal::NoDesk);
         }
-        if let Seat::Idle(_) = &self.desks[place] {
+        if let AnyDesk::Idle(_) = &self.desks[place] {
             return Err(Refusal::Idle);
         }
         if self.inboxes.has_half_of(a) {

@@ -3,13 +3,14 @@ ghost use Rattle.std.specs.Prelude.{◌≡◌, ◌<◌, ◌≤◌, ℕ, ◌∷�
 ghost use Rattle.slot_chain.specs.Buffer.{ended_of};
 ghost use Rattle.slot_chain.specs.Counts.{capped};
 ghost use Rattle.digit_route.specs.Route.{RouteFault};
-ghost use Rattle.digit_route.specs.Slots.{slot_of};
-ghost use Rattle.event_floor.specs.Posted.{Posted, as_linked, no_batch, IsHalf, NumbersRise, buffers_in, HasNoFront, LeavesFront, SendsInto};
+ghost use Rattle.slot_chain.specs.Slots.{slot_of};
+ghost use Rattle.event_floor.specs.Posted.{BatchSeen, as_linked, no_batch, IsHalf, NumbersRise, buffers_in, HasNoFront, LeavesFront, SendsInto};
 
-use crate::waiting::Waiting;
+use crate::queued_batch::QueuedBatch;
 use digit_route::Batch;
 use pool_desk::Desk;
-use region_cut::{Endings, Slot};
+use region_cut::Slot;
+use region_cut::endings::Endings;
 use slot_chain::NoMemory;
 use std::alloc::Global;
 use std::collections::VecDeque;
@@ -18,14 +19,14 @@ use std::marker::Model;
 /// The batches that wait for a desk, in order of arrival.
 #[derive(Drop)]
 pub(crate) struct Inbox<'r> {
-    batches: VecDeque<Waiting<'r>>,
+    batches: VecDeque<QueuedBatch<'r>>,
 }
 
 impl<'r> Model for Inbox<'r> {
     ghost use Rattle.std.specs.Prelude.{List};
-    ghost use Rattle.event_floor.specs.Posted.{Posted, NumbersRise};
+    ghost use Rattle.event_floor.specs.Posted.{BatchSeen, NumbersRise};
 
-    ghost Value = { List Posted };
+    ghost Value = { List BatchSeen };
 
     ghost view = { λ i. i.batches.items };
 
@@ -44,19 +45,19 @@ impl<'r> Inbox<'r> {
 
     // The place of the first batch whose number isn't below this one.
     fn place_of(&self, number: u32) -> usize
-        ensures below { (k : ℕ) (d : Posted) → k < result → (slice_index_or self.now k d).number < number }
-        ensures above { (k : ℕ) (d : Posted) → result ≤ k → k < length self.now → number ≤ (slice_index_or self.now k d).number }
+        ensures below { (k : ℕ) (d : BatchSeen) → k < result → (slice_index_or self.now k d).number < number }
+        ensures above { (k : ℕ) (d : BatchSeen) → result ≤ k → k < length self.now → number ≤ (slice_index_or self.now k d).number }
         ensures rising { NumbersRise self.now }
     {
         self.batches
-            .partition_point(|waiting| waiting.number() < number)
+            .partition_point(|queued| queued.number() < number)
     }
 
     /// The place of the batch of this number, where it waits here and still has to be linked. The numbers rise along the inbox, so it
     /// takes a time that grows with the logarithm of how many wait.
     pub(crate) fn find_half(&self, number: u32) -> Option<usize>
         ensures found { MatchOption result
-            (All (λ (p : Posted). IsHalf number p → ⊥) self.now)
+            (All (λ (p : BatchSeen). IsHalf number p → ⊥) self.now)
             (λ i. (i < length self.now) × IsHalf number (slice_index_or self.now i no_batch)) }
         ensures rising { NumbersRise self.now }
     {
@@ -79,7 +80,7 @@ impl<'r> Inbox<'r> {
     /// is made first, so a refusal changes nothing.
     pub(crate) fn send(&mut self, desk: &mut Desk<'r>, t: u16, number: u32) -> Result<u64, NoMemory>
         requires routes { RouteFault desk.old.digits desk.old.number t desk.old.cached None }
-        requires later { All (λ (p : Posted). p.number < number) self.old }
+        requires later { All (λ (p : BatchSeen). p.number < number) self.old }
         ensures sends { IfOk result (λ count. SendsInto desk.old t number count self.old desk.new self.new) }
         ensures refused { OnErr result (self.new ≡ self.old) }
         ensures refused_desk { OnErr result (desk.new ≡ desk.old) }
@@ -88,7 +89,8 @@ impl<'r> Inbox<'r> {
         match desk.batch_for(t) {
             Ok(batch) => {
                 let count = batch.len();
-                self.batches.push_back_reserved(Waiting::new(number, batch));
+                self.batches
+                    .push_back_reserved(QueuedBatch::new(number, batch));
                 Ok(count)
             }
             Err(_) => unreachable!(),
@@ -117,8 +119,8 @@ impl<'r> Inbox<'r> {
     {
         let Inbox { batches } = self;
         let mut batches = batches;
-        while let Some(waiting) = batches.pop_back() {
-            waiting.into_batch().into_chain().end(endings);
+        while let Some(queued) = batches.pop_back() {
+            queued.into_batch().into_chain().end(endings);
         }
     }
 

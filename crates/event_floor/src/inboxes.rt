@@ -3,14 +3,15 @@ ghost use Rattle.std.specs.Prelude.{◌≡◌, ◌<◌, ℕ, [], ◌++◌, lengt
 ghost use Rattle.slot_chain.specs.Buffer.{ended_of};
 ghost use Rattle.slot_chain.specs.Counts.{capped};
 ghost use Rattle.digit_route.specs.Route.{RouteFault};
-ghost use Rattle.digit_route.specs.Slots.{slot_of};
-ghost use Rattle.event_floor.specs.Posted.{Posted, inbox_at, buffers_in, IsHalf, IsHalfOf, SomePosted, NonePosted, HasNoFront, SendsTo, TakesFrom, LinksHalf};
+ghost use Rattle.slot_chain.specs.Slots.{slot_of};
+ghost use Rattle.event_floor.specs.Posted.{BatchSeen, inbox_at, buffers_in, IsHalf, IsHalfOf, SomePosted, NonePosted, HasNoFront, SendsTo, TakesFrom, LinksHalf};
 
-use crate::halves::{Half, Halves};
 use crate::inbox::Inbox;
+use crate::unlinked::{Unlinked, UnlinkedIndex};
 use digit_route::Batch;
 use pool_desk::Desk;
-use region_cut::{Endings, Slot};
+use region_cut::Slot;
+use region_cut::endings::Endings;
 use slot_chain::NoMemory;
 use std::alloc::Global;
 use std::marker::Model;
@@ -19,19 +20,19 @@ use std::marker::Model;
 #[derive(Drop)]
 pub(crate) struct Inboxes<'r> {
     inboxes: Vec<Inbox<'r>>,
-    halves: Halves,
+    unlinked: UnlinkedIndex,
 }
 
 impl<'r> Model for Inboxes<'r> {
     ghost use Rattle.std.specs.Prelude.{List};
-    ghost use Rattle.event_floor.specs.Posted.{Posted};
-    ghost use Rattle.event_floor.specs.Halves.{IsIndexOf};
+    ghost use Rattle.event_floor.specs.Posted.{BatchSeen};
+    ghost use Rattle.event_floor.specs.Unlinked.{IsIndexOf};
 
-    ghost Value = { List (List Posted) };
+    ghost Value = { List (List BatchSeen) };
 
     ghost view = { λ i. i.inboxes.items };
 
-    ghost invariant = { λ i. IsIndexOf i.inboxes.items i.halves };
+    ghost invariant = { λ i. IsIndexOf i.inboxes.items i.unlinked };
 }
 
 impl<'r> Inboxes<'r> {
@@ -43,8 +44,8 @@ impl<'r> Inboxes<'r> {
         for _inbox in 0..count {
             inboxes.push_reserved(Inbox::new(alloc));
         }
-        let halves = Halves::new(alloc, count)?;
-        Ok(Inboxes { inboxes, halves })
+        let unlinked = UnlinkedIndex::new(alloc, count)?;
+        Ok(Inboxes { inboxes, unlinked })
     }
 
     /// Takes out of the desk's cache all that goes to `t`, and puts it behind all that waits in the inbox of `t`, as a batch of this
@@ -53,20 +54,20 @@ impl<'r> Inboxes<'r> {
         requires routes { RouteFault desk.old.digits desk.old.number t desk.old.cached None }
         requires sender { desk.old.number < length self.old }
         requires there { t < length self.old }
-        requires later { (b : ℕ) → b < length self.old → All (λ (p : Posted). p.number < number) (inbox_at self.old b) }
+        requires later { (b : ℕ) → b < length self.old → All (λ (p : BatchSeen). p.number < number) (inbox_at self.old b) }
         ensures sends { IfOk result (λ count. SendsTo desk.old t number count self.old desk.new self.new) }
         ensures refused { OnErr result (self.new ≡ self.old) }
         ensures refused_desk { OnErr result (desk.new ≡ desk.old) }
     {
-        let half = Half {
+        let half = Unlinked {
             sender: desk.number() as u32,
             inbox: t as u32,
         };
-        self.halves.add(number, half)?;
+        self.unlinked.add(number, half)?;
         match self.inboxes[t as usize].send(desk, t, number) {
             Ok(count) => Ok(count),
             Err(refused) => {
-                self.halves.remove(number);
+                self.unlinked.remove(number);
                 Err(refused)
             }
         }
@@ -78,7 +79,7 @@ impl<'r> Inboxes<'r> {
         ensures { MatchBool result (LinksHalf number self.old self.new)
             (NonePosted (IsHalf number) self.old × (self.new ≡ self.old)) }
     {
-        let Some(half) = self.halves.remove(number) else {
+        let Some(half) = self.unlinked.remove(number) else {
             return false;
         };
         let inbox = &mut self.inboxes[half.inbox as usize];
@@ -96,7 +97,7 @@ impl<'r> Inboxes<'r> {
         requires { sender < length self.now }
         ensures { MatchBool result (SomePosted (IsHalfOf sender) self.now) (NonePosted (IsHalfOf sender) self.now) }
     {
-        self.halves.has_sender(sender)
+        self.unlinked.has_sender(sender)
     }
 
     /// Takes the front of the inbox of `b`, or None where there is none or it still has to be linked.
@@ -129,7 +130,10 @@ impl<'r> Inboxes<'r> {
 pub(crate) fn end_inboxes<'r>(inboxes: Inboxes<'r>, endings: &mut Endings<'r>)
     ensures { endings.new ≡ record endings.old { known = map ended_of (flat_map buffers_in inboxes.entry) ++ endings.old.known } }
 {
-    let Inboxes { inboxes, halves: _ } = inboxes;
+    let Inboxes {
+        inboxes,
+        unlinked: _,
+    } = inboxes;
     let mut inboxes = inboxes;
     while let Some(inbox) = inboxes.pop() {
         inbox.end(endings);

@@ -7,8 +7,8 @@ ghost use Rattle.event_floor.specs.Steps.{Does, Refuses};
 ghost use Rattle.pool_machine.specs.declared.request.Request.TheVariants.{Claim, Alloc, Free};
 
 use crate::answers::{refusal_by_desk, reply_of_free};
+use crate::any_desk::AnyDesk;
 use crate::lists::Lists;
-use crate::seat::Seat;
 use crate::{Refusal, Reply};
 use digit_route::Digits;
 use region_cut::Class;
@@ -37,7 +37,7 @@ impl<'r> Lists<'r> {
         if place >= self.desks.len() {
             return Err(Refusal::NoDesk);
         }
-        let Seat::Held(desk) = &mut self.desks[place] else {
+        let AnyDesk::Held(desk) = &mut self.desks[place] else {
             return Err(Refusal::Idle);
         };
         let Some(class) = class_of(self.digits, class) else {
@@ -66,7 +66,7 @@ impl<'r> Lists<'r> {
         if place >= self.desks.len() {
             return Err(Refusal::NoDesk);
         }
-        let Seat::Held(desk) = &mut self.desks[place] else {
+        let AnyDesk::Held(desk) = &mut self.desks[place] else {
             return Err(Refusal::Idle);
         };
         match desk.alloc(alloc, size as usize) {
@@ -89,7 +89,7 @@ impl<'r> Lists<'r> {
         if place >= self.desks.len() {
             return Err(Refusal::NoDesk);
         }
-        let Seat::Held(desk) = &mut self.desks[place] else {
+        let AnyDesk::Held(desk) = &mut self.desks[place] else {
             return Err(Refusal::Idle);
         };
         let Some(buf) = self.lent.take(chunk, index) else {

@@ -3,10 +3,11 @@ ghost use Rattle.std.specs.Prelude.{◌≡◌, ◌<◌, ◌≤◌, ◌*◌, ◌+
 ghost use Rattle.std.specs.Option.{option_to_list};
 ghost use Rattle.slot_chain.specs.Buffer.{ended_of};
 ghost use Rattle.std.specs.Prelude.{count_by};
-ghost use Rattle.digit_route.specs.Slots.{slot_of};
+ghost use Rattle.slot_chain.specs.Slots.{slot_of};
 ghost use Rattle.event_floor.specs.Lent.{lent_at, place_of, buffers_lent};
 
-use region_cut::{Endings, Slot};
+use region_cut::Slot;
+use region_cut::endings::Endings;
 use slot_chain::{Buf, NoMemory};
 use std::alloc::Global;
 use std::marker::Model;

@@ -5,10 +5,10 @@
 #![tactic(auto)]
 
 mod answers;
+mod any_desk;
 mod chunks;
 mod ending;
 mod floor;
-mod halves;
 mod holding;
 mod inbox;
 mod inboxes;
@@ -18,10 +18,10 @@ mod lent;
 mod lists;
 pub mod naming;
 mod part_names;
-mod seat;
+mod queued_batch;
 mod sending;
 mod telling;
-mod waiting;
+mod unlinked;
 
 pub use floor::Floor;
 pub use pool_machine::{Refusal, Reply, Request};

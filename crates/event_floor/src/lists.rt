@@ -4,10 +4,10 @@ ghost use Rattle.event_floor.specs.Chunks.{AreNumbered};
 ghost use Rattle.event_floor.specs.Floors.{desk_count, opening, IsFloor};
 ghost use Rattle.event_floor.specs.Steps.{Does, Refuses};
 
+use crate::any_desk::{AnyDesk, idle_desks};
 use crate::chunks::Chunks;
 use crate::inboxes::Inboxes;
 use crate::lent::Lent;
-use crate::seat::{Seat, empty_seats};
 use crate::{Refusal, Reply, Request};
 use digit_route::Digits;
 use region_cut::Part;
@@ -20,7 +20,7 @@ use std::marker::Model;
 pub(crate) struct Lists<'r> {
     pub(crate) digits: Digits,
     pub(crate) limit: u64,
-    pub(crate) desks: Vec<Seat<'r>>,
+    pub(crate) desks: Vec<AnyDesk<'r>>,
     pub(crate) chunks: Chunks<'r>,
     pub(crate) lent: Lent<'r>,
     pub(crate) inboxes: Inboxes<'r>,
@@ -68,7 +68,7 @@ impl<'r> Lists<'r> {
         let lent = Lent::new(alloc, parts.len())?;
         let chunks = Chunks::new(alloc, parts)?;
         let inboxes = Inboxes::new(alloc, desks)?;
-        let desks = empty_seats(alloc, desks, digits, limit)?;
+        let desks = idle_desks(alloc, desks, digits, limit)?;
         Ok(Lists {
             digits,
             limit,

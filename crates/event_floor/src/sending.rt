@@ -5,8 +5,8 @@ ghost use Rattle.event_floor.specs.Steps.{Does, Refuses};
 ghost use Rattle.pool_machine.specs.declared.request.Request.TheVariants.{Send, Link, Take};
 
 use crate::answers::refusal_by_route;
+use crate::any_desk::AnyDesk;
 use crate::lists::Lists;
-use crate::seat::Seat;
 use crate::{Refusal, Reply};
 
 /// The greatest number that a batch can have.
@@ -22,7 +22,7 @@ impl<'r> Lists<'r> {
         if a as usize >= self.desks.len() || t as usize >= self.desks.len() {
             return Err(Refusal::NoDesk);
         }
-        let Seat::Held(desk) = &mut self.desks[a as usize] else {
+        let AnyDesk::Held(desk) = &mut self.desks[a as usize] else {
             return Err(Refusal::Idle);
         };
         match desk.fault_for(t as u16) {
@@ -65,7 +65,7 @@ impl<'r> Lists<'r> {
         if place >= self.desks.len() {
             return Err(Refusal::NoDesk);
         }
-        let Seat::Held(desk) = &mut self.desks[place] else {
+        let AnyDesk::Held(desk) = &mut self.desks[place] else {
             return Err(Refusal::Idle);
         };
         let Some(batch) = self.inboxes.take(place) else {

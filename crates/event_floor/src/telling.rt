@@ -2,7 +2,7 @@
 ghost use Rattle.std.specs.Prelude.{◌≡◌, ◌<◌, length, is_some, map, IfOk, IsPermutation};
 ghost use Rattle.std.specs.Prelude.{count_by};
 ghost use Rattle.slot_chain.specs.Counts.{capped};
-ghost use Rattle.digit_route.specs.Slots.{slot_of};
+ghost use Rattle.slot_chain.specs.Slots.{slot_of};
 ghost use Rattle.pool_desk.specs.Homes.{slot_at};
 ghost use Rattle.event_floor.specs.Chunks.{class_drawn};
 ghost use Rattle.event_floor.specs.Floors.{desk_count, desk_at};
@@ -10,8 +10,8 @@ ghost use Rattle.event_floor.specs.Lent.{buffers_lent};
 ghost use Rattle.event_floor.specs.Posted.{buffers_in, inbox_at};
 ghost use Rattle.event_floor.specs.Seats.{home_of, cached_of};
 
+use crate::any_desk::{AnyDesk, cached, home};
 use crate::lists::Lists;
-use crate::seat::{Seat, cached, home};
 use digit_route::Digits;
 use region_cut::{Class, Slot};
 use slot_chain::NoMemory;
@@ -28,11 +28,11 @@ impl<'r> Lists<'r> {
     {
         let queued = self.inboxes.count(a as usize);
         match &self.desks[a as usize] {
-            Seat::Idle(desk) => {
+            AnyDesk::Idle(desk) => {
                 let (home, cached) = desk.counts();
                 (home, cached, queued)
             }
-            Seat::Held(desk) => {
+            AnyDesk::Held(desk) => {
                 let (home, cached) = desk.counts();
                 (home, cached, queued)
             }

@@ -6,9 +6,9 @@ use Rattle.std.proofs.Math.Nat.{suc-mul}
 use Rattle.std.proofs.lemmas.List.{length-append, take-append-drop}
 use Rattle.std.proofs.lemmas.List.Elements.{All-head, All-tail}
 use Rattle.region_cut.specs.declared.TheConstants.{CHUNK}
-use Rattle.region_cut.specs.declared.tie.Front.{Front}
-use Rattle.region_cut.specs.Ended.{Ended, end_in, ended_front}
-use Rattle.region_cut.specs.Endings.{StandsAt}
+use Rattle.region_cut.specs.declared.endings.front.Front.{Front}
+use Rattle.region_cut.specs.Endings.{Ended, end_in, ended_front}
+use Rattle.region_cut.specs.Laws.{StandsAt}
 use Rattle.region_cut.specs.Fronts.{whole_of, lent_of, rest_of}
 
 pub length_flat : {X Y : Type 0} (f : X → List Y) (z : ℕ) (xs : List X) → All (λ x. length (f x) ≡ z) xs → length (flat_map f xs) ≡ length xs * z

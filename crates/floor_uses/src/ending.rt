@@ -1,12 +1,12 @@
 //! A floor's whole life, after which its region is known to hold what it held.
 ghost use Rattle.std.specs.Prelude.{◌≤◌, ◌^◌, IfSome};
 ghost use Rattle.std.specs.List.{Contains};
-ghost use Rattle.region_cut.specs.Ended.{Ended};
+ghost use Rattle.region_cut.specs.Endings.{Ended};
 
 use digit_route::Digits;
 use event_floor::{Floor, Request};
+use region_cut::endings::{Endings, cut_with_front};
 use region_cut::laws::parts_make_the_whole;
-use region_cut::{Endings, cut_with_front};
 use std::alloc::Global;
 
 /// A floor of so many desks lives over the region, whatever is asked of it, and is ended. Then the region is let go, and it is known

@@ -14,10 +14,10 @@ use Rattle.region_cut.specs.declared.slot.Slot.{Slot}
 use Rattle.slot_chain.specs.Buffer.{Buffer}
 use Rattle.slot_chain.specs.Counts.{capped}
 use Rattle.pool_machine.specs.declared.chunk.DrawnChunk.{DrawnChunk}
-use Rattle.event_floor.specs.declared.seat.Seat.{Seat}
-use Rattle.event_floor.specs.declared.seat.Seat.TheVariants.{Idle, Held}
+use Rattle.event_floor.specs.declared.any_desk.AnyDesk.{AnyDesk}
+use Rattle.event_floor.specs.declared.any_desk.AnyDesk.TheVariants.{Idle, Held}
 use Rattle.event_floor.specs.Lent.{buffers_lent}
-use Rattle.event_floor.specs.Posted.{Posted, buffers_in, inbox_at}
+use Rattle.event_floor.specs.Posted.{BatchSeen, buffers_in, inbox_at}
 use Rattle.event_floor.specs.Seats.{home_of, cached_of}
 use Rattle.event_floor.specs.Floors.{FloorSeen, desk_at}
 use Rattle.pool_machine.specs.Slots.{same_slot, times, one_if}
@@ -69,11 +69,11 @@ module _ (v : FloorSeen) (st : State) (c : Slot → ℕ) (few : v.chunks ≤ 102
   counted : (n : ℕ) (q : Slot → Bool) → n ≡ length (filter q (slots st)) → capped n ≡ length (filter q (slots st))
   counted n q e = capped_is n (subst (λ m. m ≤ 4194304) (sym e) (few_there q)) ∙ e
 
-  home_length : (s : Seat) → length (home_of s) ≡ length (desk_of s).home
+  home_length : (s : AnyDesk) → length (home_of s) ≡ length (desk_of s).home
   home_length (Idle d) = sym (length-map d.home (entry_at d.number))
   home_length (Held d) = sym (length-map d.home (entry_at d.number))
 
-  cached_length : (s : Seat) → length (cached_of s) ≡ length (desk_of s).cache
+  cached_length : (s : AnyDesk) → length (cached_of s) ≡ length (desk_of s).cache
   cached_length (Idle d) = refl
   cached_length (Held d) = sym (length-map d.cached entry_of)
 
@@ -225,9 +225,9 @@ module _ (v : Listing) (st : State) (c : Slot → ℕ) (h : Shown v st c) where
       omega (arith, e, f)
 
 module _ (v : FloorSeen) (st : State) (c : Slot → ℕ) (few : v.chunks ≤ 1024) (h : Shown (listing_of v) st c) where
-  batches_length : (ps : List Posted) → length (buffers_in ps) ≡ sum_by (λ (w : BatchListing). length w.buffers) (map batch_of ps)
-  batches_length ps = length-flat_map (λ (p : Posted). p.buffers) ps
-      ∙ (sums (λ (p : Posted). length p.buffers) (λ (p : Posted). length (map entry_of p.buffers)) ps (λ i d l. sym (length-map (get_or ps i d).buffers entry_of))
+  batches_length : (ps : List BatchSeen) → length (buffers_in ps) ≡ sum_by (λ (w : BatchListing). length w.buffers) (map batch_of ps)
+  batches_length ps = length-flat_map (λ (p : BatchSeen). p.buffers) ps
+      ∙ (sums (λ (p : BatchSeen). length p.buffers) (λ (p : BatchSeen). length (map entry_of p.buffers)) ps (λ i d l. sym (length-map (get_or ps i d).buffers entry_of))
       ∙ sym (sum_map (λ (w : BatchListing). length w.buffers) batch_of ps))
 
   queued_sum : (b : ℕ) → b < length (listing_of v).inboxes → length (buffers_in (inbox_at v.inboxes b)) ≡ queued_count st b

@@ -14,8 +14,9 @@ use Rattle.region_cut.specs.declared.TheConstants.{CHUNK}
 use Rattle.region_cut.specs.declared.slot.Slot.{Slot}
 use Rattle.region_cut.specs.Carved.{Carved}
 use Rattle.region_cut.specs.Classes.{size_of}
-use Rattle.region_cut.specs.Ended.{Ended, name_at, Agrees, IsKnown, HasKnownSlots, KnownEndsStay, end_in, ended_chunk}
-use Rattle.region_cut.specs.Endings.{StandsAt, BeginsWith, SlicesLieInOrder, SlotsLieAtTheirRanges}
+use Rattle.region_cut.specs.Endings.{Ended, name_at, Agrees, IsKnown, HasKnownSlots, end_in, ended_chunk}
+use Rattle.region_cut.specs.Laws.{KnownEndsStay}
+use Rattle.region_cut.specs.Laws.{StandsAt, BeginsWith, SlicesLieInOrder, SlotsLieAtTheirRanges}
 use Rattle.region_cut.specs.Ranges.{start_of}
 use Rattle.slot_chain.specs.Buffer.{Buffer, ended_of}
 use Rattle.pool_desk.specs.Homes.{Unused}

@@ -7,16 +7,17 @@ use Rattle.region_cut.specs.declared.slot.Slot.{Slot}
 use Rattle.region_cut.specs.Carved.{Carved}
 use Rattle.region_cut.specs.Classes.{slots_of}
 use Rattle.slot_chain.specs.Buffer.{Buffer}
-use Rattle.pool_desk.specs.Homes.{AtHome, Unused, Gives, Names, TakesNext, taken_next, unused_from, kept_in}
+use Rattle.pool_desk.specs.Homes.{AtHome, Unused, Names, TakesNext, taken_next, unused_from, kept_in}
+use Rattle.pool_desk.specs.Homes.{GivenAs}
 use Rattle.pool_desk.specs.Homes.AtHome.{Kept, Fresh}
 use Rattle.pool_desk.specs.Desks.{IdleState, DeskState}
 use Rattle.pool_desk.specs.Steps.{freed, passed_on, own, others, Caches, Frees}
 use Rattle.pool_desk.specs.declared.freed.Freed.{Freed}
 use Rattle.pool_desk.specs.declared.freed.Freed.TheVariants.{Home as FreedHome, Cached as FreedCached, Due as FreedDue}
-use Rattle.event_floor.specs.declared.seat.Seat.{Seat}
-use Rattle.event_floor.specs.declared.seat.Seat.TheVariants.{Idle, Held}
+use Rattle.event_floor.specs.declared.any_desk.AnyDesk.{AnyDesk}
+use Rattle.event_floor.specs.declared.any_desk.AnyDesk.TheVariants.{Idle, Held}
 use Rattle.event_floor.specs.Lent.{place_of, buffers_lent}
-use Rattle.event_floor.specs.Posted.{Posted, inbox_at, sent_as, as_linked, no_batch, buffers_in}
+use Rattle.event_floor.specs.Posted.{BatchSeen, inbox_at, sent_as, as_linked, no_batch, buffers_in}
 use Rattle.event_floor.specs.Seats.{adopted, retired, home_of, cached_of}
 use Rattle.event_floor.specs.Floors.{FloorSeen, desk_count, desk_at, no_desk, with_seat, with_desk, IsIdle, IsHeld}
 use Rattle.event_floor.specs.Steps.{DrawsChunk, LendsSlot, SendsBatch, LinksBatch, TakesFront, TakesBack}
@@ -34,7 +35,7 @@ IsHome K U (Kept b) = K b
 IsHome K U (Fresh u) = U u
 
 -- of a desk
-pub record OfDesk (K : Buffer → Type 0) (U : Unused → Type 0) (R : Carved → Type 0) (s : Seat) : Type 0 where
+pub record OfDesk (K : Buffer → Type 0) (U : Unused → Type 0) (R : Carved → Type 0) (s : AnyDesk) : Type 0 where
   pub home : All (IsHome K U) (home_of s)
   pub cached : All K (cached_of s)
   pub chunks : All R (chunks_of s)
@@ -42,7 +43,7 @@ pub record OfDesk (K : Buffer → Type 0) (U : Unused → Type 0) (R : Carved �
 pub record Everywhere (K : Buffer → Type 0) (U : Unused → Type 0) (R : Carved → Type 0) (v : FloorSeen) : Type 0 where
   pub desks : (a : ℕ) → a < desk_count v → OfDesk K U R (desk_at v a)
   pub lent : (i : ℕ) → IfSome (get_or v.lent i None) K
-  pub posted : (b : ℕ) → All (λ (p : Posted). All K p.buffers) (inbox_at v.inboxes b)
+  pub posted : (b : ℕ) → All (λ (p : BatchSeen). All K p.buffers) (inbox_at v.inboxes b)
 
 module _ (K : Buffer → Type 0) (U : Unused → Type 0) (R : Carved → Type 0) where
   -- ---- from all lists joined, and back
@@ -64,9 +65,9 @@ module _ (K : Buffer → Type 0) (U : Unused → Type 0) (R : Carved → Type 0)
   lent_from (Some b ∷ lent) h zero = All-head K b (buffers_lent lent) h
   lent_from (Some b ∷ lent) h (suc i) = lent_from lent (All-tail K b (buffers_lent lent) h) i
 
-  row_from : (rows : List (List Posted)) → All K (flat_map buffers_in rows) → (b : ℕ) → All (λ (p : Posted). All K p.buffers) (inbox_at rows b)
-  row_from [] h b = All-nil (λ (p : Posted). All K p.buffers)
-  row_from (ps ∷ rows) h zero = All-parts K (λ (p : Posted). p.buffers) ps (All-first K (buffers_in ps) (flat_map buffers_in rows) h)
+  row_from : (rows : List (List BatchSeen)) → All K (flat_map buffers_in rows) → (b : ℕ) → All (λ (p : BatchSeen). All K p.buffers) (inbox_at rows b)
+  row_from [] h b = All-nil (λ (p : BatchSeen). All K p.buffers)
+  row_from (ps ∷ rows) h zero = All-parts K (λ (p : BatchSeen). p.buffers) ps (All-first K (buffers_in ps) (flat_map buffers_in rows) h)
   row_from (ps ∷ rows) h (suc b) = row_from rows (All-second K (buffers_in ps) (flat_map buffers_in rows) h) b
 
   pub everywhere : (v : FloorSeen) → All K (buffers_of v) → All U (fresh_of v) → All R (flat_map chunks_of v.desks) → Everywhere K U R v
@@ -89,17 +90,17 @@ module _ (K : Buffer → Type 0) (U : Unused → Type 0) (R : Carved → Type 0)
     pub buffers_everywhere : All K (buffers_of v)
     buffers_everywhere =
         All-append K (flat_map buffers_with v.desks) _
-        (All-flat K buffers_with v.desks (seat_each (λ (s : Seat). All K (buffers_with s)) v
+        (All-flat K buffers_with v.desks (seat_each (λ (s : AnyDesk). All K (buffers_with s)) v
         (λ a l. All-append K (kept_in (home_of (desk_at v a))) _ (kept_back (IsHome K U) (home_of (desk_at v a)) (e.desks a l).home) (e.desks a l).cached)))
         (All-append K (buffers_lent v.lent) _ (lent_each K v.lent e.lent)
         (All-flat K buffers_in v.inboxes
-        (λ k d l. subst (λ ps. All K (buffers_in ps)) (get_or_same v.inboxes k [] d l) (All-flat K (λ (p : Posted). p.buffers) (inbox_at v.inboxes k) (e.posted k)))))
+        (λ k d l. subst (λ ps. All K (buffers_in ps)) (get_or_same v.inboxes k [] d l) (All-flat K (λ (p : BatchSeen). p.buffers) (inbox_at v.inboxes k) (e.posted k)))))
 
     pub fresh_everywhere : All U (fresh_of v)
-    fresh_everywhere = All-flat U (λ s. fresh_in (home_of s)) v.desks (seat_each (λ (s : Seat). All U (fresh_in (home_of s))) v (λ a l. fresh_back (home_of (desk_at v a)) (e.desks a l).home))
+    fresh_everywhere = All-flat U (λ s. fresh_in (home_of s)) v.desks (seat_each (λ (s : AnyDesk). All U (fresh_in (home_of s))) v (λ a l. fresh_back (home_of (desk_at v a)) (e.desks a l).home))
 
     pub chunks_everywhere : All R (flat_map chunks_of v.desks)
-    chunks_everywhere = All-flat R chunks_of v.desks (seat_each (λ (s : Seat). All R (chunks_of s)) v (λ a l. (e.desks a l).chunks))
+    chunks_everywhere = All-flat R chunks_of v.desks (seat_each (λ (s : AnyDesk). All R (chunks_of s)) v (λ a l. (e.desks a l).chunks))
 
     -- ---- requests
 
@@ -110,13 +111,13 @@ module _ (K : Buffer → Type 0) (U : Unused → Type 0) (R : Carved → Type 0)
     idle_here a d h = subst (OfDesk K U R) h.1 (e.desks a h.0)
 
     -- the floor with another desk, another table and other inboxes
-    changed : (a : ℕ) (s : Seat) (lent : List (Option Buffer)) (inboxes : List (List Posted)) → a < desk_count v → OfDesk K U R s
-        → ((i : ℕ) → IfSome (get_or lent i None) K) → ((b : ℕ) → All (λ (p : Posted). All K p.buffers) (inbox_at inboxes b))
+    changed : (a : ℕ) (s : AnyDesk) (lent : List (Option Buffer)) (inboxes : List (List BatchSeen)) → a < desk_count v → OfDesk K U R s
+        → ((i : ℕ) → IfSome (get_or lent i None) K) → ((b : ℕ) → All (λ (p : BatchSeen). All K p.buffers) (inbox_at inboxes b))
         → (w : FloorSeen) → w.desks ≡ set v.desks a s → w.lent ≡ lent → w.inboxes ≡ inboxes → Everywhere K U R w
     changed a s lent inboxes l here lends posts w d t i = record {
-      desks = subst (λ (ds : List Seat). (b : ℕ) → b < length ds → OfDesk K U R (get_or ds b no_desk)) (sym d) (λ b m. each_desk (λ n x. OfDesk K U R x) v.desks a s l here e.desks b m);
+      desks = subst (λ (ds : List AnyDesk). (b : ℕ) → b < length ds → OfDesk K U R (get_or ds b no_desk)) (sym d) (λ b m. each_desk (λ n x. OfDesk K U R x) v.desks a s l here e.desks b m);
       lent = subst (λ (ts : List (Option Buffer)). (i : ℕ) → IfSome (get_or ts i None) K) (sym t) lends;
-      posted = subst (λ (is : List (List Posted)). (b : ℕ) → All (λ (p : Posted). All K p.buffers) (inbox_at is b)) (sym i) posts;
+      posted = subst (λ (is : List (List BatchSeen)). (b : ℕ) → All (λ (p : BatchSeen). All K p.buffers) (inbox_at is b)) (sym i) posts;
     }
 
     pub adopt_everywhere : (w : FloorSeen) (a x : ℕ) (d : IdleState) → IsIdle v a d → w ≡ with_desk v a (adopted x d) → Everywhere K U R w
@@ -135,8 +136,8 @@ module _ (K : Buffer → Type 0) (U : Unused → Type 0) (R : Carved → Type 0)
     link_everywhere w number s = subst (Everywhere K U R) (sym s.same) (record {
       desks = e.desks;
       lent = e.lent;
-      posted = each_row (All (λ (p : Posted). All K p.buffers)) v.inboxes s.inbox _
-          (All-set (λ (p : Posted). All K p.buffers) (inbox_at v.inboxes s.inbox) s.place (as_linked (get_or (inbox_at v.inboxes s.inbox) s.place no_batch))
+      posted = each_row (All (λ (p : BatchSeen). All K p.buffers)) v.inboxes s.inbox _
+          (All-set (λ (p : BatchSeen). All K p.buffers) (inbox_at v.inboxes s.inbox) s.place (as_linked (get_or (inbox_at v.inboxes s.inbox) s.place no_batch))
           (e.posted s.inbox s.place no_batch s.half.1) (e.posted s.inbox)) e.posted;
     })
 
@@ -151,9 +152,9 @@ module _ (K : Buffer → Type 0) (U : Unused → Type 0) (R : Carved → Type 0)
           chunks = subst (λ cs. All R cs) (sym (ap (λ (x : DeskState). x.drawn) s.same_desk)) k.chunks;
         })
         e.lent
-        (each_row (All (λ (p : Posted). All K p.buffers)) v.inboxes t _
-        (All-append (λ (p : Posted). All K p.buffers) (inbox_at v.inboxes t) (sent_as number s.batch ∷ []) (e.posted t)
-        (All-cons (λ (p : Posted). All K p.buffers) (sent_as number s.batch) [] (All-first K s.batch.items s.after.cached all) (All-nil _)))
+        (each_row (All (λ (p : BatchSeen). All K p.buffers)) v.inboxes t _
+        (All-append (λ (p : BatchSeen). All K p.buffers) (inbox_at v.inboxes t) (sent_as number s.batch ∷ []) (e.posted t)
+        (All-cons (λ (p : BatchSeen). All K p.buffers) (sent_as number s.batch) [] (All-first K s.batch.items s.after.cached all) (All-nil _)))
         e.posted)
         w (ap (λ (f : FloorSeen). f.desks) s.same) (ap (λ (f : FloorSeen). f.lent) s.same) (ap (λ (f : FloorSeen). f.inboxes) s.same)
 
@@ -186,8 +187,8 @@ module _ (K : Buffer → Type 0) (U : Unused → Type 0) (R : Carved → Type 0)
       pub take_everywhere : (w : FloorSeen) (b home on : ℕ) → TakesFront v b home on w → Everywhere K U R w
       take_everywhere w b home on s =
           let k = held_here b s.before s.held in
-          let row = subst (λ ps. All (λ (p : Posted). All K p.buffers) ps) s.is_front (e.posted b) in
-          let all : All K s.front.buffers = All-head (λ (p : Posted). All K p.buffers) s.front s.rest row in
+          let row = subst (λ ps. All (λ (p : BatchSeen). All K p.buffers) ps) s.is_front (e.posted b) in
+          let all : All K s.front.buffers = All-head (λ (p : BatchSeen). All K p.buffers) s.front s.rest row in
           let number = s.before.number in
           changed b (Held s.after) v.lent (set v.inboxes b s.rest) s.held.0
           (record {
@@ -200,7 +201,7 @@ module _ (K : Buffer → Type 0) (U : Unused → Type 0) (R : Carved → Type 0)
             chunks = subst (λ cs. All R cs) (sym (ap (λ (x : DeskState). x.drawn) s.handles.same)) k.chunks;
           })
           e.lent
-          (each_row (All (λ (p : Posted). All K p.buffers)) v.inboxes b s.rest (All-tail (λ (p : Posted). All K p.buffers) s.front s.rest row) e.posted)
+          (each_row (All (λ (p : BatchSeen). All K p.buffers)) v.inboxes b s.rest (All-tail (λ (p : BatchSeen). All K p.buffers) s.front s.rest row) e.posted)
           w (ap (λ (f : FloorSeen). f.desks) s.same) (ap (λ (f : FloorSeen). f.lent) s.same) (ap (λ (f : FloorSeen). f.inboxes) s.same)
 
     -- a chunk is drawn
@@ -218,9 +219,9 @@ module _ (K : Buffer → Type 0) (U : Unused → Type 0) (R : Carved → Type 0)
         w (ap (λ (f : FloorSeen). f.desks) s.same) (ap (λ (f : FloorSeen). f.lent) s.same) (ap (λ (f : FloorSeen). f.inboxes) s.same)
 
     -- a slot is lent
-    module _ (give : (u : Unused) (b : Buffer) → Gives (Fresh u) b → U u → K b) (w : FloorSeen) (a n : ℕ) (slot : Slot) (s : LendsSlot v a n slot w)
+    module _ (give : (u : Unused) (b : Buffer) → GivenAs (Fresh u) b → U u → K b) (w : FloorSeen) (a n : ℕ) (slot : Slot) (s : LendsSlot v a n slot w)
         (next : (u : Unused) (t : TakesNext u s.buffer s.before.drawn s.after.drawn) → IsPermutation s.before.home (Fresh u ∷ s.after.home)
-        → Gives (Fresh u) s.buffer → R t.from → R (taken_next t.from s.buffer.bytes.ghost_name t.rest)) where
+        → GivenAs (Fresh u) s.buffer → R t.from → R (taken_next t.from s.buffer.bytes.ghost_name t.rest)) where
       lent_to : K s.buffer → All (IsHome K U) s.after.home → All R s.after.drawn → Everywhere K U R w
       lent_to b home chunks =
           let h = held_here a s.before s.held in
@@ -233,7 +234,7 @@ module _ (K : Buffer → Type 0) (U : Unused → Type 0) (R : Carved → Type 0)
           (each_place K v.lent (place_of slot) (Some s.buffer) b e.lent) e.posted
           w (ap (λ (f : FloorSeen). f.desks) s.same) (ap (λ (f : FloorSeen). f.lent) s.same) (ap (λ (f : FloorSeen). f.inboxes) s.same)
 
-      lent_from_home : (x : AtHome) → Gives x s.buffer → Names x s.buffer s.before.drawn s.after.drawn → IsPermutation s.before.home (x ∷ s.after.home) → Everywhere K U R w
+      lent_from_home : (x : AtHome) → GivenAs x s.buffer → Names x s.buffer s.before.drawn s.after.drawn → IsPermutation s.before.home (x ∷ s.after.home) → Everywhere K U R w
       lent_from_home (Kept c) g m p =
           let h = held_here a s.before s.held in
           let all = All-permutation (IsHome K U) _ _ p h.home in

@@ -15,10 +15,10 @@ use Rattle.slot_chain.specs.Buffer.{Buffer}
 use Rattle.pool_desk.specs.Homes.{AtHome, slot_at, kept_in}
 use Rattle.pool_desk.specs.Homes.AtHome.{Kept, Fresh}
 use Rattle.pool_machine.specs.declared.chunk.DrawnChunk.{DrawnChunk}
-use Rattle.event_floor.specs.declared.seat.Seat.{Seat}
-use Rattle.event_floor.specs.declared.seat.Seat.TheVariants.{Idle, Held}
+use Rattle.event_floor.specs.declared.any_desk.AnyDesk.{AnyDesk}
+use Rattle.event_floor.specs.declared.any_desk.AnyDesk.TheVariants.{Idle, Held}
 use Rattle.event_floor.specs.Lent.{buffers_lent}
-use Rattle.event_floor.specs.Posted.{Posted, inbox_at, buffers_in}
+use Rattle.event_floor.specs.Posted.{BatchSeen, inbox_at, buffers_in}
 use Rattle.event_floor.specs.Seats.{home_of, cached_of}
 use Rattle.event_floor.specs.Floors.{FloorSeen, desk_at, desk_count, no_desk}
 use Rattle.pool_machine.specs.Slots.{same_slot, has_index, times, one_if}
@@ -69,23 +69,23 @@ kept_slots (b ∷ bs) = ap (λ l. b.slot ∷ l) (kept_slots bs)
 kept_append : (xs ys : List Buffer) → map slot_at (map Kept (xs ++ ys)) ≡ map slot_at (map Kept xs) ++ map slot_at (map Kept ys)
 kept_append xs ys = ap (map slot_at) (map-append Kept xs ys) ∙ map-append slot_at (map Kept xs) (map Kept ys)
 
-home_part : (ds : List Seat) → flat_map (λ (d : DeskListing). slots_seen d.home) (map desk_of ds) ≡ map slot_at (flat_map home_of ds)
+home_part : (ds : List AnyDesk) → flat_map (λ (d : DeskListing). slots_seen d.home) (map desk_of ds) ≡ map slot_at (flat_map home_of ds)
 home_part [] = refl
 home_part (s ∷ ds) = ap₂ ◌++◌ (home_slots s) (home_part ds) ∙ sym (map-append slot_at (home_of s) (flat_map home_of ds))
 
-cache_slots : (s : Seat) → slots_seen (desk_of s).cache ≡ map slot_at (map Kept (cached_of s))
+cache_slots : (s : AnyDesk) → slots_seen (desk_of s).cache ≡ map slot_at (map Kept (cached_of s))
 cache_slots (Idle d) = refl
 cache_slots (Held d) = kept_slots d.cached
 
-cache_part : (ds : List Seat) → flat_map (λ (d : DeskListing). slots_seen d.cache) (map desk_of ds) ≡ map slot_at (map Kept (flat_map cached_of ds))
+cache_part : (ds : List AnyDesk) → flat_map (λ (d : DeskListing). slots_seen d.cache) (map desk_of ds) ≡ map slot_at (map Kept (flat_map cached_of ds))
 cache_part [] = refl
 cache_part (s ∷ ds) = ap₂ ◌++◌ (cache_slots s) (cache_part ds) ∙ sym (kept_append (cached_of s) (flat_map cached_of ds))
 
-box_slots : (ps : List Posted) → flat_map (λ (w : BatchListing). slots_seen w.buffers) (map batch_of ps) ≡ map slot_at (map Kept (buffers_in ps))
+box_slots : (ps : List BatchSeen) → flat_map (λ (w : BatchListing). slots_seen w.buffers) (map batch_of ps) ≡ map slot_at (map Kept (buffers_in ps))
 box_slots [] = refl
 box_slots (p ∷ ps) = ap₂ ◌++◌ (kept_slots p.buffers) (box_slots ps) ∙ sym (kept_append p.buffers (buffers_in ps))
 
-post_part : (is : List (List Posted))
+post_part : (is : List (List BatchSeen))
     → flat_map (λ ws. flat_map (λ (w : BatchListing). slots_seen w.buffers) ws) (map (map batch_of) is) ≡ map slot_at (map Kept (flat_map buffers_in is))
 post_part [] = refl
 post_part (ps ∷ is) = ap₂ ◌++◌ (box_slots ps) (post_part is) ∙ sym (kept_append (buffers_in ps) (flat_map buffers_in is))
@@ -125,11 +125,11 @@ placed_each K v h =
     let posts = flat_map buffers_in v.inboxes in
     let desks = All-parts K buffers_with v.desks (All-first K (flat_map buffers_with v.desks) (lent ++ posts) h) in
     let out = All-second K (flat_map buffers_with v.desks) (lent ++ posts) h in
-    let at_home : All (λ (s : Seat). All (KeptIs K) (home_of s)) v.desks =
-    All-to (λ (s : Seat). All K (buffers_with s)) (λ (s : Seat). All (KeptIs K) (home_of s)) v.desks (λ s g. kept_each K (home_of s)
+    let at_home : All (λ (s : AnyDesk). All (KeptIs K) (home_of s)) v.desks =
+    All-to (λ (s : AnyDesk). All K (buffers_with s)) (λ (s : AnyDesk). All (KeptIs K) (home_of s)) v.desks (λ s g. kept_each K (home_of s)
     (All-first K (kept_in (home_of s)) (cached_of s) g)) desks in
     let in_caches : All K caches =
-    All-flat K cached_of v.desks (All-to (λ (s : Seat). All K (buffers_with s)) (λ (s : Seat). All K (cached_of s)) v.desks (λ s g. All-second K (kept_in (home_of s))
+    All-flat K cached_of v.desks (All-to (λ (s : AnyDesk). All K (buffers_with s)) (λ (s : AnyDesk). All K (cached_of s)) v.desks (λ s g. All-second K (kept_in (home_of s))
     (cached_of s) g) desks) in
     All-append (KeptIs K) (flat_map home_of v.desks) (map Kept lent ++ (map Kept caches ++ map Kept posts)) (All-flat (KeptIs K) home_of v.desks at_home)
     (All-append (KeptIs K) (map Kept lent) (map Kept caches ++ map Kept posts) (All-map (KeptIs K) Kept lent (All-first K lent posts out))
@@ -143,22 +143,22 @@ lent_each P (o ∷ lent) h = All-append P (option_to_list o) (buffers_lent lent)
     one None p = All-nil P
     one (Some b) p = All-cons P b [] p (All-nil P)
 
-pub seat_each : (P : Seat → Type 0) (v : FloorSeen) → ((a : ℕ) → a < desk_count v → P (desk_at v a)) → All P v.desks
+pub seat_each : (P : AnyDesk → Type 0) (v : FloorSeen) → ((a : ℕ) → a < desk_count v → P (desk_at v a)) → All P v.desks
 seat_each P v f = λ k d l. subst P (get_or_same v.desks k no_desk d l) (f k l)
 
 module _ (v : FloorSeen) (names : List Carved) (n : AreNames names v) where
   cached_named : All (HasName names) (flat_map cached_of v.desks)
-  cached_named = All-flat (HasName names) cached_of v.desks (seat_each (λ (s : Seat). All (HasName names) (cached_of s)) v (λ a l. (n.desks a l).cached))
+  cached_named = All-flat (HasName names) cached_of v.desks (seat_each (λ (s : AnyDesk). All (HasName names) (cached_of s)) v (λ a l. (n.desks a l).cached))
 
-  home_named : All (λ (s : Seat). All (IsNamedHome names) (home_of s)) v.desks
-  home_named = seat_each (λ (s : Seat). All (IsNamedHome names) (home_of s)) v (λ a l. (n.desks a l).home)
+  home_named : All (λ (s : AnyDesk). All (IsNamedHome names) (home_of s)) v.desks
+  home_named = seat_each (λ (s : AnyDesk). All (IsNamedHome names) (home_of s)) v (λ a l. (n.desks a l).home)
 
   lent_named : All (HasName names) (buffers_lent v.lent)
   lent_named = lent_each (HasName names) v.lent n.lent
 
   posted_named : All (HasName names) (flat_map buffers_in v.inboxes)
   posted_named = All-flat (HasName names) buffers_in v.inboxes
-      (λ k d l. subst (λ ps. All (HasName names) (buffers_in ps)) (get_or_same v.inboxes k [] d l) (All-flat (HasName names) (λ (p : Posted). p.buffers) (inbox_at v.inboxes k) (n.posted k)))
+      (λ k d l. subst (λ ps. All (HasName names) (buffers_in ps)) (get_or_same v.inboxes k [] d l) (All-flat (HasName names) (λ (p : BatchSeen). p.buffers) (inbox_at v.inboxes k) (n.posted k)))
 
   places_named : All (IsNamedHome names) (places v)
   places_named =
@@ -171,7 +171,7 @@ module _ (v : FloorSeen) (names : List Carved) (n : AreNames names v) where
   buffers_named =
       All-append (HasName names) (flat_map buffers_with v.desks) _
       (All-flat (HasName names) buffers_with v.desks
-      (seat_each (λ (s : Seat). All (HasName names) (buffers_with s)) v
+      (seat_each (λ (s : AnyDesk). All (HasName names) (buffers_with s)) v
       (λ a l. All-append (HasName names) (kept_in (home_of (desk_at v a))) _ (kept_back (IsNamedHome names) (home_of (desk_at v a)) (n.desks a l).home) (n.desks a l).cached)))
       (All-append (HasName names) (buffers_lent v.lent) _ lent_named posted_named)
 

@@ -10,15 +10,16 @@ use Rattle.region_cut.specs.declared.TheConstants.{CHUNK}
 use Rattle.region_cut.specs.declared.slot.Slot.{Slot}
 use Rattle.region_cut.specs.Carved.{Carved}
 use Rattle.region_cut.specs.Classes.{size_of, slots_of}
-use Rattle.region_cut.specs.Endings.{StandsAt}
+use Rattle.region_cut.specs.Laws.{StandsAt}
 use Rattle.slot_chain.specs.Buffer.{Buffer}
-use Rattle.pool_desk.specs.Homes.{AtHome, Unused, slot_at, Gives, Names, TakesNext, taken_next}
+use Rattle.pool_desk.specs.Homes.{AtHome, Unused, slot_at, Names, TakesNext, taken_next}
+use Rattle.pool_desk.specs.Homes.{GivenAs}
 use Rattle.pool_desk.specs.Homes.AtHome.{Kept, Fresh}
 use Rattle.pool_desk.specs.Desks.{DeskState}
 use Rattle.pool_machine.specs.declared.chunk.DrawnChunk.{DrawnChunk}
-use Rattle.event_floor.specs.declared.seat.Seat.TheVariants.{Held}
+use Rattle.event_floor.specs.declared.any_desk.AnyDesk.TheVariants.{Held}
 use Rattle.event_floor.specs.Lent.{place_of}
-use Rattle.event_floor.specs.Posted.{Posted, inbox_at}
+use Rattle.event_floor.specs.Posted.{BatchSeen, inbox_at}
 use Rattle.event_floor.specs.Seats.{home_of, cached_of}
 use Rattle.event_floor.specs.Floors.{FloorSeen, desk_at, no_desk}
 use Rattle.event_floor.specs.Steps.{LendsSlot}
@@ -63,7 +64,7 @@ module _ (names : List Carved) (v w : FloorSeen) (a n : ℕ) (slot : Slot) (f : 
 
   -- ---- a slot is lent for the first time: its name is the next of its chunk
 
-  module _ (u : Unused) (g : Gives (Fresh u) buffer) (t : TakesNext u buffer s.before.drawn s.after.drawn) (p : IsPermutation s.before.home (Fresh u ∷ s.after.home))
+  module _ (u : Unused) (g : GivenAs (Fresh u) buffer) (t : TakesNext u buffer s.before.drawn s.after.drawn) (p : IsPermutation s.before.home (Fresh u ∷ s.after.home))
       (rest : All (λ y. slot_at y ≢ u.slot) s.after.home) (apart : (c : ℕ) → c ≢ a → All (λ y. slot_at y ≢ u.slot) (home_of (desk_at v c))) where
     abbrev chunk : ℕ
     chunk = u.slot.chunk
@@ -220,11 +221,11 @@ module _ (names : List Carved) (v w : FloorSeen) (a n : ℕ) (slot : Slot) (f : 
       chunks = lent_chunks;
       desks = each_lending;
       lent = each_place (HasName new_names) v.lent (place_of slot) (Some buffer) named_now (λ i. some_to (HasName names) (HasName new_names) (get_or v.lent i None) kept_name (f.lent i));
-      posted = λ b. All-to (λ (q : Posted). All (HasName names) q.buffers) (λ (q : Posted). All (HasName new_names) q.buffers) (inbox_at v.inboxes b)
+      posted = λ b. All-to (λ (q : BatchSeen). All (HasName names) q.buffers) (λ (q : BatchSeen). All (HasName new_names) q.buffers) (inbox_at v.inboxes b)
           (λ q h. All-to (HasName names) (HasName new_names) q.buffers kept_name h) (f.posted b);
     })
 
-  handed : (st : State) (count : Slot → ℕ) → Shown (listing_of v) st count → (x : AtHome) → Gives x buffer → Names x buffer s.before.drawn s.after.drawn
+  handed : (st : State) (count : Slot → ℕ) → Shown (listing_of v) st count → (x : AtHome) → GivenAs x buffer → Names x buffer s.before.drawn s.after.drawn
       → IsPermutation s.before.home (x ∷ s.after.home) → (new : List Carved) × AreNames new w
   handed st count h (Kept c) g m p = (names, kept_lent c g p m)
   handed st count h (Fresh u) g m p =

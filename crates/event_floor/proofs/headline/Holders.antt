@@ -2,8 +2,8 @@
 use Rattle.std.proofs.Common.{◌≡◌, ℕ, Bool, true, false, ◌||◌, [], ◌∷◌, map, set, Ok, is_some, refl, sym, ap, ◌∙◌, subst}
 use Rattle.std.specs.List.{list_any}
 use Rattle.pool_desk.specs.Desks.{IdleState, DeskState}
-use Rattle.event_floor.specs.declared.seat.Seat.{Seat}
-use Rattle.event_floor.specs.declared.seat.Seat.TheVariants.{Idle as IdleSeat, Held as HeldSeat}
+use Rattle.event_floor.specs.declared.any_desk.AnyDesk.{AnyDesk}
+use Rattle.event_floor.specs.declared.any_desk.AnyDesk.TheVariants.{Idle as IdleSeat, Held as HeldSeat}
 use Rattle.pool_machine.specs.declared.request.Request.TheVariants.{Adopt, Retire}
 use Rattle.pool_machine.specs.declared.reply.Reply.TheVariants.{Done}
 use Rattle.pool_machine.specs.declared.refusal.Refusal.TheVariants.{NoDesk, Held, Unsettled}
@@ -19,7 +19,7 @@ use Rattle.event_floor.proofs.headline.Views.{passes, held_seen, idle_seen, is_d
 use Rattle.event_floor.proofs.headline.Refused.{unsettled, half_of_none}
 
 -- the listing of a floor with another desk
-pub seat_listing : (v : FloorSeen) (a : ℕ) (s : Seat) → listing_of (with_seat v a s) ≡ record (listing_of v) { desks = set (listing_of v).desks a (desk_of s) }
+pub seat_listing : (v : FloorSeen) (a : ℕ) (s : AnyDesk) → listing_of (with_seat v a s) ≡ record (listing_of v) { desks = set (listing_of v).desks a (desk_of s) }
 seat_listing v a s = ap (λ xs. record (listing_of v) { desks = xs }) (with_seat_seen v a s)
 
 -- the desk has its number, and the floor's digits

@@ -12,9 +12,9 @@ use Rattle.pool_machine.specs.declared.request.Request.{Request}
 use Rattle.pool_machine.specs.declared.request.Request.TheVariants.{Adopt, Retire, Claim, Alloc, Free, Send, Link, Take}
 use Rattle.pool_machine.specs.declared.reply.Reply.{Reply}
 use Rattle.pool_machine.specs.declared.reply.Reply.TheVariants.{Done, Chunk, Slot as Lent, Home, Cached, Due, Batch, Counts}
-use Rattle.event_floor.specs.declared.seat.Seat.{Seat}
-use Rattle.event_floor.specs.Posted.{Posted}
-use Rattle.event_floor.specs.Seats.{idle_seats, home_of, cached_of}
+use Rattle.event_floor.specs.declared.any_desk.AnyDesk.{AnyDesk}
+use Rattle.event_floor.specs.Posted.{BatchSeen}
+use Rattle.event_floor.specs.Seats.{new_desks, home_of, cached_of}
 use Rattle.event_floor.specs.Floors.{FloorSeen, no_desk, opening}
 use Rattle.event_floor.specs.Steps.{Does}
 use Rattle.event_floor.specs.Steps.{Answers}
@@ -54,15 +54,15 @@ stays_named v w q (Err r) s n h = subst (λ (z : FloorSeen). (names : List Carve
 -- ---- a new floor
 
 -- desks with nothing
-abbrev pub IsBare : Seat → Type 0
+abbrev pub IsBare : AnyDesk → Type 0
 IsBare s = (home_of s ≡ []) × (cached_of s ≡ []) × (chunks_of s ≡ [])
 
-pub idle_bare : (digits : Scheme) (limit n : ℕ) → All IsBare (idle_seats digits limit n)
-unfolding idle_seats
+pub idle_bare : (digits : Scheme) (limit n : ℕ) → All IsBare (new_desks digits limit n)
+unfolding new_desks
 idle_bare digits limit zero = All-nil IsBare
-idle_bare digits limit (suc n) = All-append IsBare (idle_seats digits limit n) _ (idle_bare digits limit n) (All-cons IsBare _ [] (refl, refl, refl) (All-nil IsBare))
+idle_bare digits limit (suc n) = All-append IsBare (new_desks digits limit n) _ (idle_bare digits limit n) (All-cons IsBare _ [] (refl, refl, refl) (All-nil IsBare))
 
-bare_named : (a : ℕ) (s : Seat) → IsBare s → IsNamedDesk [] [] a s
+bare_named : (a : ℕ) (s : AnyDesk) → IsBare s → IsNamedDesk [] [] a s
 bare_named a s h = record {
   home = subst (λ xs. All (IsNamedHome []) xs) (sym h.0) (All-nil (IsNamedHome []));
   cached = subst (λ xs. All (HasName []) xs) (sym h.1) (All-nil (HasName []));
@@ -76,7 +76,7 @@ none_lent P zero (suc i) = tt
 none_lent P (suc n) zero = tt
 none_lent P (suc n) (suc i) = none_lent P n i
 
-pub none_posted : (P : Posted → Type 0) (n b : ℕ) → All P (get_or (replicate n (let ps : List Posted = [] in ps)) b [])
+pub none_posted : (P : BatchSeen → Type 0) (n b : ℕ) → All P (get_or (replicate n (let ps : List BatchSeen = [] in ps)) b [])
 none_posted P zero zero = All-nil P
 none_posted P zero (suc b) = All-nil P
 none_posted P (suc n) zero = All-nil P
@@ -89,8 +89,8 @@ opening_named desks parts digits limit = (
   record {
     count = refl;
     chunks = λ k c e. absurd (true≢false (sym (ap is_some e)));
-    desks = λ a l. bare_named a (get_or (idle_seats digits limit desks) a no_desk) (idle_bare digits limit desks a no_desk l);
+    desks = λ a l. bare_named a (get_or (new_desks digits limit desks) a no_desk) (idle_bare digits limit desks a no_desk l);
     lent = λ i. none_lent (HasName []) (256 * length parts) i;
-    posted = λ b. none_posted (λ (p : Posted). All (HasName []) p.buffers) desks b;
+    posted = λ b. none_posted (λ (p : BatchSeen). All (HasName []) p.buffers) desks b;
   },
 )

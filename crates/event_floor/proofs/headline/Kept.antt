@@ -11,11 +11,12 @@ use Rattle.region_cut.specs.declared.TheConstants.{CHUNK}
 use Rattle.region_cut.specs.declared.slot.Slot.{Slot}
 use Rattle.region_cut.specs.Carved.{Carved}
 use Rattle.region_cut.specs.Classes.{size_of, slots_of}
-use Rattle.region_cut.specs.Endings.{StandsAt}
+use Rattle.region_cut.specs.Laws.{StandsAt}
 use Rattle.region_cut.specs.Parts.{bytes_of}
 use Rattle.region_cut.specs.declared.part.Part.{Part}
 use Rattle.slot_chain.specs.Buffer.{Buffer}
-use Rattle.pool_desk.specs.Homes.{AtHome, Unused, Gives, TakesNext, taken_next, unused_from}
+use Rattle.pool_desk.specs.Homes.{AtHome, Unused, TakesNext, taken_next, unused_from}
+use Rattle.pool_desk.specs.Homes.{GivenAs}
 use Rattle.pool_desk.specs.Homes.AtHome.{Kept, Fresh}
 use Rattle.pool_machine.specs.declared.request.Request.{Request}
 use Rattle.pool_machine.specs.declared.request.Request.TheVariants.{Adopt, Retire, Claim, Alloc, Free, Send, Link, Take}
@@ -23,9 +24,9 @@ use Rattle.pool_machine.specs.declared.reply.Reply.{Reply}
 use Rattle.pool_machine.specs.declared.reply.Reply.TheVariants.{Done, Chunk, Slot as Lent, Home, Cached, Due, Batch, Counts}
 use Rattle.pool_machine.specs.Steps.{Answer}
 use Rattle.event_floor.specs.Floors.{FloorSeen, no_desk, opening}
-use Rattle.event_floor.specs.Posted.{Posted}
-use Rattle.event_floor.specs.Seats.{idle_seats}
-use Rattle.event_floor.specs.declared.seat.Seat.{Seat}
+use Rattle.event_floor.specs.Posted.{BatchSeen}
+use Rattle.event_floor.specs.Seats.{new_desks}
+use Rattle.event_floor.specs.declared.any_desk.AnyDesk.{AnyDesk}
 use Rattle.digit_route.specs.Digits.{Scheme}
 use Rattle.event_floor.specs.Steps.{Answers}
 use Rattle.event_floor.specs.Steps.{Does, DrawsChunk, LendsSlot}
@@ -43,10 +44,10 @@ use Rattle.event_floor.proofs.headline.Taken.{All-to, some_is}
 
 module _ (K : Buffer → Type 0) (U : Unused → Type 0) (R : Carved → Type 0)
     (changed : (b : Buffer) (n : ℕ) → K b → K (record b { forwards = n }))
-    (give : (u : Unused) (b : Buffer) → Gives (Fresh u) b → U u → K b)
+    (give : (u : Unused) (b : Buffer) → GivenAs (Fresh u) b → U u → K b)
     (next : (names : List Carved) (v w : FloorSeen) (a n : ℕ) (slot : Slot) → AreNames names v → (s : LendsSlot v a n slot w)
     (u : Unused) (t : TakesNext u s.buffer s.before.drawn s.after.drawn) → IsPermutation s.before.home (Fresh u ∷ s.after.home)
-    → Gives (Fresh u) s.buffer → R t.from → R (taken_next t.from s.buffer.bytes.ghost_name t.rest)) where
+    → GivenAs (Fresh u) s.buffer → R t.from → R (taken_next t.from s.buffer.bytes.ghost_name t.rest)) where
   pub does_everywhere : (names : List Carved) (v w : FloorSeen) (q : Request) (r : Reply) → AreNames names v → Everywhere K U R v
       → ((a class k : ℕ) (s : DrawsChunk v a class k w) → All (IsHome K U) (unused_from s.part.chunk class s.part.bytes.ghost_name (slots_of class) 0 s.part.bytes.now)
       × R s.claims.drawn.drawn)
@@ -110,14 +111,14 @@ module _ (region : List ℕ) where
   abbrev FreshLies : Unused → Type 0
   FreshLies u = LieAt region u.slot u.class u.bytes
 
-  given_lies : (u : Unused) (b : Buffer) → Gives (Fresh u) b → FreshLies u → BufferLies b
+  given_lies : (u : Unused) (b : Buffer) → GivenAs (Fresh u) b → FreshLies u → BufferLies b
   given_lies u b g h =
       subst (λ bs. LieAt region b.slot b.class bs) (sym g.3)
       (subst (λ c. LieAt region b.slot c u.bytes) (sym g.1) (subst (λ s. LieAt region s u.class u.bytes) (sym g.0) h))
 
   next_lies : (names : List Carved) (v w : FloorSeen) (a n : ℕ) (slot : Slot) → AreNames names v → (s : LendsSlot v a n slot w)
       (u : Unused) (t : TakesNext u s.buffer s.before.drawn s.after.drawn) → IsPermutation s.before.home (Fresh u ∷ s.after.home)
-      → Gives (Fresh u) s.buffer → RestLies region t.from → RestLies region (taken_next t.from s.buffer.bytes.ghost_name t.rest)
+      → GivenAs (Fresh u) s.buffer → RestLies region t.from → RestLies region (taken_next t.from s.buffer.bytes.ghost_name t.rest)
   next_lies names v w a n slot f s u t p g h =
       let z = size_of t.from.class in
       let at = CHUNK * t.from.chunk + length t.from.taken * z in
@@ -203,7 +204,7 @@ module _ (P : AtHome → Type 0) (chunk class : ℕ) (part : GName)
   any_unused (suc n) i bs = All-cons P _ _ (is i (take (size_of class) bs)) (any_unused n (i + 1) (drop (size_of class) bs))
 
 module _ (olds : List Buffer) where
-  given_kept : (u : Unused) (b : Buffer) → Gives (Fresh u) b → HasNone olds u → IsKept olds b
+  given_kept : (u : Unused) (b : Buffer) → GivenAs (Fresh u) b → HasNone olds u → IsKept olds b
   given_kept u b g h = inr (λ k d l e. h k d l (e ∙ g.0))
 
   -- no old buffer is of a chunk that was just drawn
@@ -297,7 +298,7 @@ step_keeps_bytes v w q y n d = keeps_bytes v w (stays_kept v v w q y n (start_ke
 -- ---- a new floor
 
 module _ (K : Buffer → Type 0) (U : Unused → Type 0) (R : Carved → Type 0) where
-  bare_desk : (s : Seat) → IsBare s → OfDesk K U R s
+  bare_desk : (s : AnyDesk) → IsBare s → OfDesk K U R s
   bare_desk s h = record {
     home = subst (λ hs. All (IsHome K U) hs) (sym h.0) (All-nil (IsHome K U));
     cached = subst (λ bs. All K bs) (sym h.1) (All-nil K);
@@ -306,9 +307,9 @@ module _ (K : Buffer → Type 0) (U : Unused → Type 0) (R : Carved → Type 0)
 
   opening_everywhere : (desks : ℕ) (parts : List Part) (digits : Scheme) (limit : ℕ) → Everywhere K U R (opening desks parts digits limit)
   opening_everywhere desks parts digits limit = record {
-    desks = λ a l. bare_desk (get_or (idle_seats digits limit desks) a no_desk) (idle_bare digits limit desks a no_desk l);
+    desks = λ a l. bare_desk (get_or (new_desks digits limit desks) a no_desk) (idle_bare digits limit desks a no_desk l);
     lent = λ i. none_lent K (256 * length parts) i;
-    posted = λ b. none_posted (λ (p : Posted). All K p.buffers) desks b;
+    posted = λ b. none_posted (λ (p : BatchSeen). All K p.buffers) desks b;
   }
 
 flat_of_map : (parts : List Part) → flat_map (λ (bs : List ℕ). bs) (map bytes_of parts) ≡ flat_map bytes_of parts

@@ -11,14 +11,15 @@ use Rattle.slot_chain.specs.Buffer.{Buffer}
 use Rattle.slot_chain.specs.Counts.{sizes, buffer_size}
 use Rattle.digit_route.specs.Digits.{Scheme}
 use Rattle.digit_route.specs.Profiles.{profile_of}
-use Rattle.pool_desk.specs.Homes.{AtHome, slot_at, class_at, Gives}
+use Rattle.pool_desk.specs.Homes.{AtHome, slot_at, class_at}
+use Rattle.pool_desk.specs.Homes.{GivenAs}
 use Rattle.pool_desk.specs.Homes.AtHome.{Kept, Fresh}
-use Rattle.pool_desk.specs.ByClass.{HasClass}
+use Rattle.pool_desk.specs.HomesState.{HasClass}
 use Rattle.pool_desk.specs.Desks.{DeskState}
 use Rattle.pool_desk.specs.Steps.{Frees, Caches}
 use Rattle.pool_desk.specs.declared.freed.Freed.{Freed}
 use Rattle.pool_desk.specs.declared.freed.Freed.TheVariants.{Home as FreedHome, Cached as FreedCached, Due as FreedDue}
-use Rattle.event_floor.specs.declared.seat.Seat.TheVariants.{Held as HeldSeat}
+use Rattle.event_floor.specs.declared.any_desk.AnyDesk.TheVariants.{Held as HeldSeat}
 use Rattle.pool_machine.specs.declared.request.Request.TheVariants.{Alloc, Free}
 use Rattle.pool_machine.specs.declared.reply.Reply.TheVariants.{Slot as Lent}
 use Rattle.event_floor.specs.Answers.{reply_of}
@@ -44,7 +45,7 @@ use Rattle.event_floor.proofs.headline.Holders.{numbered_held}
 -- ---- Alloc
 
 -- the entry of a slot at home is that of the buffer that it gives
-gives_seen : (a : ℕ) (s : AtHome) (b : Buffer) → Gives s b → b.owner ≡ a → entry_at a s ≡ entry_of b
+gives_seen : (a : ℕ) (s : AtHome) (b : Buffer) → GivenAs s b → b.owner ≡ a → entry_at a s ≡ entry_of b
 gives_seen a (Kept c) b g o = ap entry_of (sym g)
 gives_seen a (Fresh u) b g o = rw (g.0, g.1, g.2, o) refl
 
@@ -67,11 +68,11 @@ apart v st count a d s home b c h l p e m same =
     two_lists : Some Loans ≡ Some (HomeOf a) → ⊥
     two_lists q = true≢false (ap (λ (o : Option ListName). elim o as (λ _. Bool) [ None ↦ true | Some n ↦ same_list Loans n ]) q)
 
-gives_slot : (s : AtHome) (b : Buffer) → Gives s b → slot_at s ≡ b.slot
+gives_slot : (s : AtHome) (b : Buffer) → GivenAs s b → slot_at s ≡ b.slot
 gives_slot (Kept c) b g = ap (λ (x : Buffer). x.slot) (sym g)
 gives_slot (Fresh u) b g = sym g.0
 
-gives_class : (s : AtHome) (b : Buffer) → Gives s b → class_at s ≡ b.class
+gives_class : (s : AtHome) (b : Buffer) → GivenAs s b → class_at s ≡ b.class
 gives_class (Kept c) b g = ap (λ (x : Buffer). x.class) (sym g)
 gives_class (Fresh u) b g = sym g.1
 

@@ -8,7 +8,7 @@ use Rattle.std.proofs.lemmas.List.Sorted.{IsPermutation-refl, IsPermutation-appe
 use Rattle.std.proofs.lemmas.List.Sums.{sum_by-append, sum_by-cons}
 use Rattle.region_cut.specs.declared.slot.Slot.{Slot}
 use Rattle.slot_chain.specs.Buffer.{Buffer}
-use Rattle.digit_route.specs.Slots.{slot_of}
+use Rattle.slot_chain.specs.Slots.{slot_of}
 use Rattle.pool_desk.specs.Homes.{slot_at}
 use Rattle.pool_machine.specs.declared.chunk.DrawnChunk.{DrawnChunk}
 use Rattle.pool_machine.specs.Headline.{joined}
@@ -16,10 +16,10 @@ use Rattle.pool_machine.specs.Listing.{ListName, HomeOf, Loans, CacheOf, BatchOf
 use Rattle.pool_machine.specs.Slots.{same_slot, times, one_if}
 use Rattle.pool_machine.specs.State.{State, Waiting, owner_of, is_slot, slots, is_lent, is_posted, cached_by, slots_of_batch}
 use Rattle.pool_machine.specs.Told.{at_home_with, home_slots, cached_slots, queued_slots, lent_slots}
-use Rattle.event_floor.specs.declared.seat.Seat.{Seat}
-use Rattle.event_floor.specs.declared.seat.Seat.TheVariants.{Idle, Held}
+use Rattle.event_floor.specs.declared.any_desk.AnyDesk.{AnyDesk}
+use Rattle.event_floor.specs.declared.any_desk.AnyDesk.TheVariants.{Idle, Held}
 use Rattle.event_floor.specs.Lent.{buffers_lent}
-use Rattle.event_floor.specs.Posted.{Posted, buffers_in, inbox_at}
+use Rattle.event_floor.specs.Posted.{BatchSeen, buffers_in, inbox_at}
 use Rattle.event_floor.specs.Seats.{home_of, cached_of}
 use Rattle.event_floor.specs.Floors.{FloorSeen, desk_count, desk_at, no_desk}
 use Rattle.event_floor.specs.headline.Listing.{entry_of, desk_of, batch_of, listing_of}
@@ -39,11 +39,11 @@ seen_buffers : (bs : List Buffer) → slots_seen (map entry_of bs) ≡ map slot_
 seen_buffers [] = refl
 seen_buffers (b ∷ bs) = ap (λ ss. b.slot ∷ ss) (seen_buffers bs)
 
-seat_cache : (x : Seat) → slots_seen (desk_of x).cache ≡ map slot_of (cached_of x)
+seat_cache : (x : AnyDesk) → slots_seen (desk_of x).cache ≡ map slot_of (cached_of x)
 seat_cache (Idle d) = refl
 seat_cache (Held d) = seen_buffers d.cached
 
-seen_batches : (ps : List Posted) → flat_map (λ (w : BatchListing). slots_seen w.buffers) (map batch_of ps) ≡ map slot_of (buffers_in ps)
+seen_batches : (ps : List BatchSeen) → flat_map (λ (w : BatchListing). slots_seen w.buffers) (map batch_of ps) ≡ map slot_of (buffers_in ps)
 seen_batches [] = refl
 seen_batches (p ∷ ps) = ap₂ (λ xs ys. xs ++ ys) (seen_buffers p.buffers) (seen_batches ps) ∙ sym (map-append slot_of p.buffers (buffers_in ps))
 

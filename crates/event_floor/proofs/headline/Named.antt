@@ -13,10 +13,10 @@ use Rattle.pool_desk.specs.Desks.{IdleState, DeskState}
 use Rattle.pool_desk.specs.Steps.{freed, passed_on, own, others, Caches, Frees}
 use Rattle.pool_desk.specs.declared.freed.Freed.{Freed}
 use Rattle.pool_desk.specs.declared.freed.Freed.TheVariants.{Home as FreedHome, Cached as FreedCached, Due as FreedDue}
-use Rattle.event_floor.specs.declared.seat.Seat.{Seat}
-use Rattle.event_floor.specs.declared.seat.Seat.TheVariants.{Idle, Held}
+use Rattle.event_floor.specs.declared.any_desk.AnyDesk.{AnyDesk}
+use Rattle.event_floor.specs.declared.any_desk.AnyDesk.TheVariants.{Idle, Held}
 use Rattle.event_floor.specs.Lent.{place_of}
-use Rattle.event_floor.specs.Posted.{Posted, inbox_at, sent_as, as_linked, no_batch}
+use Rattle.event_floor.specs.Posted.{BatchSeen, inbox_at, sent_as, as_linked, no_batch}
 use Rattle.event_floor.specs.Seats.{adopted, retired}
 use Rattle.event_floor.specs.Floors.{FloorSeen, desk_count, no_desk, with_seat, with_desk, IsIdle, IsHeld}
 use Rattle.event_floor.specs.Steps.{SendsBatch, LinksBatch, TakesFront, TakesBack}
@@ -25,7 +25,7 @@ use Rattle.event_floor.proofs.headline.Tables.{lent_place}
 
 -- ---- lists
 
-pub each_desk : (P : ℕ → Seat → Type 0) (desks : List Seat) (a : ℕ) (s : Seat) → a < length desks → P a s
+pub each_desk : (P : ℕ → AnyDesk → Type 0) (desks : List AnyDesk) (a : ℕ) (s : AnyDesk) → a < length desks → P a s
     → ((b : ℕ) → b < length desks → P b (get_or desks b no_desk)) → (b : ℕ) → b < length (set desks a s) → P b (get_or (set desks a s) b no_desk)
 each_desk P desks a s l p each b m =
     ⊎_elim (λ (same : _ × (b ≡ a)). rw same.1 (rw (get_or-set_same desks a s no_desk l) p))
@@ -83,8 +83,8 @@ module _ (names : List Carved) (v : FloorSeen) (n : AreNames names v) where
   idle_named a d h = subst (IsNamedDesk names v.drawn a) h.1 (n.desks a h.0)
 
   -- the floor with another desk, another table and other inboxes
-  pub changed_named : (a : ℕ) (s : Seat) (lent : List (Option Buffer)) (inboxes : List (List Posted)) (next : ℕ) → a < desk_count v → IsNamedDesk names v.drawn a s
-      → ((i : ℕ) → IfSome (get_or lent i None) (HasName names)) → ((b : ℕ) → All (λ (p : Posted). All (HasName names) p.buffers) (inbox_at inboxes b))
+  pub changed_named : (a : ℕ) (s : AnyDesk) (lent : List (Option Buffer)) (inboxes : List (List BatchSeen)) (next : ℕ) → a < desk_count v → IsNamedDesk names v.drawn a s
+      → ((i : ℕ) → IfSome (get_or lent i None) (HasName names)) → ((b : ℕ) → All (λ (p : BatchSeen). All (HasName names) p.buffers) (inbox_at inboxes b))
       → AreNames names (record v { desks = set v.desks a s; lent = lent; inboxes = inboxes; next = next })
   changed_named a s lent inboxes next l p lends posts = record {
     count = n.count;
@@ -149,9 +149,9 @@ module _ (names : List Carved) (v : FloorSeen) (n : AreNames names v) where
       (subst (λ hs. All (IsNamedHome names) hs) (sym (ap (λ (x : DeskState). x.home) s.same_desk)) k.home)
       (All-second (HasName names) s.batch.items s.after.cached all))
       n.lent
-      (each_row (All (λ (p : Posted). All (HasName names) p.buffers)) v.inboxes t _
-      (All-append (λ (p : Posted). All (HasName names) p.buffers) (inbox_at v.inboxes t) (sent_as number s.batch ∷ []) (n.posted t)
-      (All-cons (λ (p : Posted). All (HasName names) p.buffers) (sent_as number s.batch) [] (All-first (HasName names) s.batch.items s.after.cached all) (All-nil _)))
+      (each_row (All (λ (p : BatchSeen). All (HasName names) p.buffers)) v.inboxes t _
+      (All-append (λ (p : BatchSeen). All (HasName names) p.buffers) (inbox_at v.inboxes t) (sent_as number s.batch ∷ []) (n.posted t)
+      (All-cons (λ (p : BatchSeen). All (HasName names) p.buffers) (sent_as number s.batch) [] (All-first (HasName names) s.batch.items s.after.cached all) (All-nil _)))
       n.posted))
 
   pub link_named : (w : FloorSeen) (number : ℕ) → LinksBatch v number w → AreNames names w
@@ -161,16 +161,16 @@ module _ (names : List Carved) (v : FloorSeen) (n : AreNames names v) where
         chunks = n.chunks;
         desks = n.desks;
         lent = n.lent;
-        posted = each_row (All (λ (p : Posted). All (HasName names) p.buffers)) v.inboxes s.inbox _
-            (All-set (λ (p : Posted). All (HasName names) p.buffers) (inbox_at v.inboxes s.inbox) s.place (as_linked (get_or (inbox_at v.inboxes s.inbox) s.place no_batch))
+        posted = each_row (All (λ (p : BatchSeen). All (HasName names) p.buffers)) v.inboxes s.inbox _
+            (All-set (λ (p : BatchSeen). All (HasName names) p.buffers) (inbox_at v.inboxes s.inbox) s.place (as_linked (get_or (inbox_at v.inboxes s.inbox) s.place no_batch))
             (n.posted s.inbox s.place no_batch s.half.1) (n.posted s.inbox)) n.posted;
       })
 
   pub take_named : (w : FloorSeen) (b home on : ℕ) → TakesFront v b home on w → AreNames names w
   take_named w b home on s =
       let k = held_named b s.before s.held in
-      let row = subst (λ ps. All (λ (p : Posted). All (HasName names) p.buffers) ps) s.is_front (n.posted b) in
-      let all : All (HasName names) s.front.buffers = All-head (λ (p : Posted). All (HasName names) p.buffers) s.front s.rest row in
+      let row = subst (λ ps. All (λ (p : BatchSeen). All (HasName names) p.buffers) ps) s.is_front (n.posted b) in
+      let all : All (HasName names) s.front.buffers = All-head (λ (p : BatchSeen). All (HasName names) p.buffers) s.front s.rest row in
       let number = s.before.number in
       subst (AreNames names) (sym s.same)
       (changed_named b (Held s.after) v.lent (set v.inboxes b s.rest) v.next s.held.0
@@ -182,4 +182,4 @@ module _ (names : List Carved) (v : FloorSeen) (n : AreNames names v) where
       (All-append (HasName names) (map passed_on (others number s.front.buffers)) s.before.cached
       (All-map-to (HasName names) (HasName names) passed_on (others number s.front.buffers) (passed_named names) (All-filtered (HasName names) (λ (x : Buffer). not (x.owner == number)) s.front.buffers all)) k.cached)))
       n.lent
-      (each_row (All (λ (p : Posted). All (HasName names) p.buffers)) v.inboxes b s.rest (All-tail (λ (p : Posted). All (HasName names) p.buffers) s.front s.rest row) n.posted))
+      (each_row (All (λ (p : BatchSeen). All (HasName names) p.buffers)) v.inboxes b s.rest (All-tail (λ (p : BatchSeen). All (HasName names) p.buffers) s.front s.rest row) n.posted))

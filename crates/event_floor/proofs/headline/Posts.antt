@@ -9,11 +9,11 @@ use Rattle.digit_route.specs.Route.{TakesBucket}
 use Rattle.pool_desk.specs.Homes.AtHome.{Kept}
 use Rattle.pool_desk.specs.Desks.{DeskState}
 use Rattle.pool_desk.specs.Steps.{passed_on as buffer_passed_on, own, others}
-use Rattle.event_floor.specs.declared.seat.Seat.TheVariants.{Held as HeldSeat}
+use Rattle.event_floor.specs.declared.any_desk.AnyDesk.TheVariants.{Held as HeldSeat}
 use Rattle.pool_machine.specs.declared.request.Request.TheVariants.{Send, Link, Take}
 use Rattle.pool_machine.specs.declared.reply.Reply.{Reply}
 use Rattle.pool_machine.specs.declared.reply.Reply.TheVariants.{Done, Batch, Counts}
-use Rattle.event_floor.specs.Posted.{Posted, inbox_at, sent_as, as_linked, no_batch, IsHalf, SomePosted}
+use Rattle.event_floor.specs.Posted.{BatchSeen, inbox_at, sent_as, as_linked, no_batch, IsHalf, SomePosted}
 use Rattle.event_floor.specs.Floors.{FloorSeen}
 use Rattle.event_floor.specs.Steps.{SendsBatch, LinksBatch, TakesFront}
 use Rattle.pool_machine.specs.State.{State, bucket, in_bucket, slots, slots_of_batch, is_posted, owner_of}
@@ -35,7 +35,7 @@ use Rattle.event_floor.proofs.headline.Refused.{send_accepted, link_accepted, ta
 use Rattle.event_floor.proofs.headline.Holders.{numbered_held}
 
 -- the listing's inboxes, with another one
-inboxes_seen : (v : FloorSeen) (b : ℕ) (ps : List Posted) → map (map batch_of) (set v.inboxes b ps) ≡ set (listing_of v).inboxes b (map batch_of ps)
+inboxes_seen : (v : FloorSeen) (b : ℕ) (ps : List BatchSeen) → map (map batch_of) (set v.inboxes b ps) ≡ set (listing_of v).inboxes b (map batch_of ps)
 inboxes_seen v b ps = set-map (map batch_of) v.inboxes b ps
 
 -- a state of the floor has few chunks

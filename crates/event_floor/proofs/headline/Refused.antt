@@ -9,13 +9,13 @@ use Rattle.digit_route.specs.Profiles.{profile_of}
 use Rattle.digit_route.specs.Route.{IsInBucket}
 use Rattle.pool_desk.specs.Homes.{AtHome, class_at}
 use Rattle.pool_desk.specs.Desks.{DeskState}
-use Rattle.pool_desk.specs.ByClass.{HasClass, LacksClass}
+use Rattle.pool_desk.specs.HomesState.{HasClass, LacksClass}
 use Rattle.pool_machine.specs.declared.request.Request.{Request}
 use Rattle.pool_machine.specs.declared.request.Request.TheVariants.{Adopt, Retire, Claim, Alloc, Free, Send, Link, Take}
 use Rattle.pool_machine.specs.declared.refusal.Refusal.{Refusal}
 use Rattle.pool_machine.specs.declared.refusal.Refusal.TheVariants.{NoDesk, Idle, TooLarge, NeedChunk, NotNeeded, NoChunk, NotLent, NothingFor, NotAnOwner, ToSelf, NoBatch, Nothing, Unsettled, Held, NoMemory, BadClass, Spent}
 use Rattle.event_floor.specs.Lent.{buffers_lent, lent_at, AreInPlace}
-use Rattle.event_floor.specs.Posted.{Posted, inbox_at, IsHalf, IsHalfOf, SomePosted, NonePosted, HasNoFront}
+use Rattle.event_floor.specs.Posted.{BatchSeen, inbox_at, IsHalf, IsHalfOf, SomePosted, NonePosted, HasNoFront}
 use Rattle.event_floor.specs.Floors.{FloorSeen, desk_count, last_number, IsHeld}
 use Rattle.event_floor.specs.Steps.{Refuses, Routes, class_limit, size_limit}
 use Rattle.pool_machine.specs.State.{Waiting, least_class}
@@ -43,18 +43,18 @@ adopt_refused v a x _ h = elim h [ ]
 
 -- ---- batches
 
-half_seen : (n : ℕ) (p : Posted) → is_half n (as_waiting (batch_of p)) ≡ ((n == p.number) && not p.linked)
+half_seen : (n : ℕ) (p : BatchSeen) → is_half n (as_waiting (batch_of p)) ≡ ((n == p.number) && not p.linked)
 half_seen n p = refl
 
 -- some batch passes, and none does
-pub posted_some : (v : FloorSeen) (P : Posted → Type 0) (p : Waiting → Bool) → ((x : Posted) → P x → p (as_waiting (batch_of x)) ≡ true)
+pub posted_some : (v : FloorSeen) (P : BatchSeen → Type 0) (p : Waiting → Bool) → ((x : BatchSeen) → P x → p (as_waiting (batch_of x)) ≡ true)
     → SomePosted P v.inboxes → any_posted p (listing_of v).inboxes ≡ true
 posted_some v P p f h =
     any_of_row (λ ws. list_any (λ w. p (as_waiting w)) ws) (listing_of v).inboxes h.0 refl
     (ap (λ ws. list_any (λ w. p (as_waiting w)) ws) (inbox_seen v h.0)
     ∙ (any-map batch_of (λ w. p (as_waiting w)) (inbox_at v.inboxes h.0) ∙ any_of P (λ x. p (as_waiting (batch_of x))) (inbox_at v.inboxes h.0) f h.2))
 
-none_in_rows : (P : Posted → Type 0) (p : Waiting → Bool) (rows : List (List Posted)) → ((x : Posted) → P x → p (as_waiting (batch_of x)) ≡ false)
+none_in_rows : (P : BatchSeen → Type 0) (p : Waiting → Bool) (rows : List (List BatchSeen)) → ((x : BatchSeen) → P x → p (as_waiting (batch_of x)) ≡ false)
     → ((b : ℕ) → b < length rows → All P (inbox_at rows b)) → any_posted p (map (map batch_of) rows) ≡ false
 none_in_rows P p [] f h = refl
 none_in_rows P p (ps ∷ rows) f h =
@@ -62,7 +62,7 @@ none_in_rows P p (ps ∷ rows) f h =
     (any-map batch_of (λ w. p (as_waiting w)) ps ∙ none_of P (λ x. p (as_waiting (batch_of x))) ps f (h 0 (omega arith)))
     ∙ none_in_rows P p rows f (λ b l. h (suc b) (omega (arith, l)))
 
-pub posted_none : (v : FloorSeen) (P : Posted → Type 0) (p : Waiting → Bool) → ((x : Posted) → (P x → ⊥) → p (as_waiting (batch_of x)) ≡ false)
+pub posted_none : (v : FloorSeen) (P : BatchSeen → Type 0) (p : Waiting → Bool) → ((x : BatchSeen) → (P x → ⊥) → p (as_waiting (batch_of x)) ≡ false)
     → NonePosted P v.inboxes → any_posted p (listing_of v).inboxes ≡ false
 posted_none v P p f h = none_in_rows (λ x. P x → ⊥) p v.inboxes f h
 
@@ -341,7 +341,7 @@ link_accepted v n h = passes (not (any_posted (is_half n) (listing_of v).inboxes
 abbrev pub no_front : FloorSeen → ℕ → Bool
 no_front v b = not (front_ready (map as_waiting (inbox_listing (listing_of v) b)))
 
-no_front_seen : (ps : List Posted) → HasNoFront ps → not (front_ready (map as_waiting (map batch_of ps))) ≡ true
+no_front_seen : (ps : List BatchSeen) → HasNoFront ps → not (front_ready (map as_waiting (map batch_of ps))) ≡ true
 no_front_seen [] h = refl
 no_front_seen (p ∷ ps) h = ap not h
 
@@ -353,7 +353,7 @@ take_refused v b Nothing h =
     ∙ hits (no_front v b) Nothing [] (ap (λ ws. not (front_ready (map as_waiting ws))) (inbox_seen v b) ∙ no_front_seen (inbox_at v.inboxes b) h.1)
 take_refused v b _ h = elim h [ ]
 
-pub take_accepted : (v : FloorSeen) (b : ℕ) (d : DeskState) (p : Posted) (rest : List Posted) → IsHeld v b d → inbox_at v.inboxes b ≡ p ∷ rest → p.linked ≡ true
+pub take_accepted : (v : FloorSeen) (b : ℕ) (d : DeskState) (p : BatchSeen) (rest : List BatchSeen) → IsHeld v b d → inbox_at v.inboxes b ≡ p ∷ rest → p.linked ≡ true
     → refusal_seen (listing_of v) (Take b) ≡ None
 take_accepted v b d p rest l e t =
     held_first v b ((no_front v b, Nothing) ∷ []) d l

@@ -12,15 +12,15 @@ use Rattle.region_cut.specs.declared.TheConstants.{CHUNK}
 use Rattle.std.proofs.lemmas.List.Sorted.{All-permutation, sum_by-IsPermutation}
 use Rattle.region_cut.specs.Carved.{Carved}
 use Rattle.region_cut.specs.Classes.{slots_of, size_of}
-use Rattle.region_cut.specs.Endings.{StandsAt}
+use Rattle.region_cut.specs.Laws.{StandsAt}
 use Rattle.slot_chain.specs.Buffer.{Buffer}
 use Rattle.pool_desk.specs.Homes.{AtHome, unused_from}
 use Rattle.pool_desk.specs.Homes.AtHome.{Kept, Fresh}
 use Rattle.pool_desk.specs.Desks.{DeskState}
 use Rattle.pool_machine.specs.declared.chunk.DrawnChunk.{DrawnChunk}
-use Rattle.event_floor.specs.declared.seat.Seat.{Seat}
-use Rattle.event_floor.specs.declared.seat.Seat.TheVariants.{Held}
-use Rattle.event_floor.specs.Posted.{Posted, inbox_at}
+use Rattle.event_floor.specs.declared.any_desk.AnyDesk.{AnyDesk}
+use Rattle.event_floor.specs.declared.any_desk.AnyDesk.TheVariants.{Held}
+use Rattle.event_floor.specs.Posted.{BatchSeen, inbox_at}
 use Rattle.event_floor.specs.Seats.{home_of, cached_of}
 use Rattle.event_floor.specs.Floors.{FloorSeen, desk_at, no_desk}
 use Rattle.event_floor.specs.Steps.{DrawsChunk}
@@ -178,7 +178,7 @@ module _ (names : List Carved) (v w : FloorSeen) (a class k : ℕ) (n : AreNames
   kept_same : (c : Carved) → slice_get names c.chunk ≡ Some c → slice_get new_names c.chunk ≡ Some c
   kept_same c e = get_pushed names new_chunk c c.chunk e
 
-  other_desk : (b : ℕ) (x : Seat) → b ≢ a → IsNamedDesk names v.drawn b x → IsNamedDesk new_names new_drawn b x
+  other_desk : (b : ℕ) (x : AnyDesk) → b ≢ a → IsNamedDesk names v.drawn b x → IsNamedDesk new_names new_drawn b x
   other_desk b x ne h = record {
     home = All-to (IsNamedHome names) (IsNamedHome new_names) (home_of x) kept_home h.home;
     cached = All-to (HasName names) (HasName new_names) (cached_of x) kept_name h.cached;
@@ -255,6 +255,6 @@ module _ (names : List Carved) (v w : FloorSeen) (a class k : ℕ) (n : AreNames
     chunks = claimed_chunks;
     desks = each_claimed;
     lent = λ i. some_to (HasName names) (HasName new_names) (get_or v.lent i None) kept_name (n.lent i);
-    posted = λ b. All-to (λ (p : Posted). All (HasName names) p.buffers) (λ (p : Posted). All (HasName new_names) p.buffers) (inbox_at v.inboxes b)
+    posted = λ b. All-to (λ (p : BatchSeen). All (HasName names) p.buffers) (λ (p : BatchSeen). All (HasName new_names) p.buffers) (inbox_at v.inboxes b)
         (λ p h. All-to (HasName names) (HasName new_names) p.buffers kept_name h) (n.posted b);
   })

@@ -7,10 +7,10 @@ use Rattle.std.proofs.lemmas.List.{length-map}
 use Rattle.std.proofs.lemmas.List.Folds.{list_any_at, list_any_none}
 use Rattle.pool_desk.specs.Homes.{AtHome, slot_at, class_at}
 use Rattle.pool_desk.specs.Homes.AtHome.{Kept, Fresh}
-use Rattle.pool_desk.specs.ByClass.{HasClass, LacksClass}
+use Rattle.pool_desk.specs.HomesState.{HasClass, LacksClass}
 use Rattle.pool_desk.specs.Desks.{IdleState, DeskState}
-use Rattle.event_floor.specs.declared.seat.Seat.{Seat}
-use Rattle.event_floor.specs.declared.seat.Seat.TheVariants.{Idle as IdleSeat, Held as HeldSeat}
+use Rattle.event_floor.specs.declared.any_desk.AnyDesk.{AnyDesk}
+use Rattle.event_floor.specs.declared.any_desk.AnyDesk.TheVariants.{Idle as IdleSeat, Held as HeldSeat}
 use Rattle.pool_machine.specs.declared.refusal.Refusal.{Refusal}
 use Rattle.pool_machine.specs.declared.refusal.Refusal.TheVariants.{NoDesk, Idle}
 use Rattle.event_floor.specs.Posted.{inbox_at}
@@ -89,7 +89,7 @@ held_first v a cs d h =
     ∙ passes (is_none (desk_listing (listing_of v) a).worker) Idle cs (ap (λ (x : DeskListing). is_none x.worker) (held_seen v a d h))
 
 -- another desk a
-pub with_seat_seen : (v : FloorSeen) (a : ℕ) (s : Seat) → (listing_of (with_seat v a s)).desks ≡ set (listing_of v).desks a (desk_of s)
+pub with_seat_seen : (v : FloorSeen) (a : ℕ) (s : AnyDesk) → (listing_of (with_seat v a s)).desks ≡ set (listing_of v).desks a (desk_of s)
 with_seat_seen v a s = set-map desk_of v.desks a s
 
 -- ---- slots at home

@@ -13,7 +13,7 @@ use Rattle.pool_machine.specs.declared.request.Request.TheVariants.{Adopt, Retir
 use Rattle.pool_machine.specs.declared.reply.Reply.{Reply}
 use Rattle.pool_machine.specs.declared.reply.Reply.TheVariants.{Done, Chunk, Slot as Lent, Home, Cached, Due, Batch, Counts}
 use Rattle.event_floor.specs.Lent.{place_of, AreInPlace}
-use Rattle.event_floor.specs.Seats.{idle_seats}
+use Rattle.event_floor.specs.Seats.{new_desks}
 use Rattle.region_cut.specs.declared.TheConstants.{CHUNK}
 use Rattle.region_cut.specs.Parts.{name_of, bytes_of}
 use Rattle.region_cut.specs.declared.part.Part.{Part}
@@ -126,11 +126,11 @@ replicate_push : {X : Type 0} (n : ℕ) (x : X) → replicate n x ++ x ∷ [] �
 replicate_push zero x = refl
 replicate_push (suc n) x = ap (λ l. x ∷ l) (replicate_push n x)
 
-idle_listed : (digits : Scheme) (limit n : ℕ) → map desk_of (idle_seats digits limit n) ≡ replicate n empty_desk
-unfolding idle_seats
+idle_listed : (digits : Scheme) (limit n : ℕ) → map desk_of (new_desks digits limit n) ≡ replicate n empty_desk
+unfolding new_desks
 idle_listed digits limit zero = refl
 idle_listed digits limit (suc n) =
-    map-append desk_of (idle_seats digits limit n) _ ∙ (ap (λ l. l ++ empty_desk ∷ []) (idle_listed digits limit n) ∙ replicate_push n empty_desk)
+    map-append desk_of (new_desks digits limit n) _ ∙ (ap (λ l. l ++ empty_desk ∷ []) (idle_listed digits limit n) ∙ replicate_push n empty_desk)
 
 empty_listed : (n : ℕ) → map (map batch_of) (replicate n []) ≡ replicate n []
 empty_listed zero = refl

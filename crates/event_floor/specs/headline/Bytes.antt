@@ -4,8 +4,8 @@ use Rattle.region_cut.specs.declared.TheConstants.{CHUNK}
 use Rattle.region_cut.specs.declared.slot.Slot.{Slot}
 use Rattle.region_cut.specs.Carved.{Carved}
 use Rattle.region_cut.specs.Classes.{size_of}
-use Rattle.region_cut.specs.Ended.{Ended, end_in}
-use Rattle.region_cut.specs.Endings.{StandsAt}
+use Rattle.region_cut.specs.Endings.{Ended, end_in}
+use Rattle.region_cut.specs.Laws.{StandsAt}
 use Rattle.region_cut.specs.Ranges.{start_of}
 use Rattle.slot_chain.specs.Buffer.{Buffer}
 use Rattle.pool_desk.specs.Homes.{Unused}

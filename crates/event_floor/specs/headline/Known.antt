@@ -3,13 +3,13 @@ use Rattle.std.specs.Prelude.{ℕ, ◌≡◌, List, [], ◌∷◌, ◌++◌, len
 use Rattle.std.specs.Borrow.{GName}
 use Rattle.region_cut.specs.declared.TheConstants.{CHUNK}
 use Rattle.region_cut.specs.Carved.{Carved}
-use Rattle.region_cut.specs.Ended.{Ended, IsKnown, end_in}
-use Rattle.region_cut.specs.Endings.{StandsAt}
+use Rattle.region_cut.specs.Endings.{Ended, IsKnown, end_in}
+use Rattle.region_cut.specs.Laws.{StandsAt}
 use Rattle.region_cut.specs.Ranges.{start_of}
 use Rattle.slot_chain.specs.Buffer.{Buffer}
 use Rattle.pool_desk.specs.Homes.{AtHome, Unused, kept_in}
 use Rattle.pool_desk.specs.Homes.AtHome.{Kept, Fresh}
-use Rattle.event_floor.specs.declared.seat.Seat.{Seat}
+use Rattle.event_floor.specs.declared.any_desk.AnyDesk.{AnyDesk}
 use Rattle.event_floor.specs.Lent.{buffers_lent}
 use Rattle.event_floor.specs.Posted.{buffers_in}
 use Rattle.event_floor.specs.Seats.{home_of, cached_of}
@@ -17,7 +17,7 @@ use Rattle.event_floor.specs.Floors.{FloorSeen}
 use Rattle.event_floor.specs.headline.Names.{chunks_of}
 
 -- the buffers at home with a desk, and those in its cache
-abbrev pub buffers_with : Seat → List Buffer
+abbrev pub buffers_with : AnyDesk → List Buffer
 buffers_with s = kept_in (home_of s) ++ cached_of s
 
 -- all buffers of a floor: with its desks, lent, and in batches

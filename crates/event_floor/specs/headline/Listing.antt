@@ -3,10 +3,10 @@ use Rattle.std.specs.Prelude.{ℕ, [], map, Some, None}
 use Rattle.slot_chain.specs.Buffer.{Buffer}
 use Rattle.pool_desk.specs.Homes.{AtHome}
 use Rattle.pool_desk.specs.Homes.AtHome.{Kept, Fresh}
-use Rattle.event_floor.specs.declared.seat.Seat.{Seat}
-use Rattle.event_floor.specs.declared.seat.Seat.TheVariants.{Idle, Held}
+use Rattle.event_floor.specs.declared.any_desk.AnyDesk.{AnyDesk}
+use Rattle.event_floor.specs.declared.any_desk.AnyDesk.TheVariants.{Idle, Held}
 use Rattle.event_floor.specs.Lent.{buffers_lent}
-use Rattle.event_floor.specs.Posted.{Posted}
+use Rattle.event_floor.specs.Posted.{BatchSeen}
 use Rattle.event_floor.specs.Floors.{FloorSeen}
 use Rattle.pool_machine.specs.Listing.{Entry, DeskListing, BatchListing, Listing}
 
@@ -19,11 +19,11 @@ abbrev pub entry_at : ℕ → AtHome → Entry
 entry_at owner (Kept b) = entry_of b
 entry_at owner (Fresh u) = record { slot = u.slot; class = u.class; owner = owner; forwards = 0 }
 
-abbrev pub desk_of : Seat → DeskListing
+abbrev pub desk_of : AnyDesk → DeskListing
 desk_of (Idle d) = record { worker = None; home = map (entry_at d.number) d.home; cache = [] }
 desk_of (Held d) = record { worker = Some d.worker; home = map (entry_at d.number) d.home; cache = map entry_of d.cached }
 
-abbrev pub batch_of : Posted → BatchListing
+abbrev pub batch_of : BatchSeen → BatchListing
 batch_of p = record { number = p.number; sender = p.sender; address = p.address; linked = p.linked; buffers = map entry_of p.buffers }
 
 abbrev pub listing_of : FloorSeen → Listing

@@ -3,7 +3,7 @@ use Rattle.std.specs.Prelude.{◌≡◌, ◌≢◌, ℕ, List, ◌++◌, length,
 use Rattle.region_cut.specs.declared.TheConstants.{CHUNK}
 use Rattle.region_cut.specs.Carved.{Carved}
 use Rattle.region_cut.specs.Classes.{size_of}
-use Rattle.region_cut.specs.Endings.{Ending, StandsAt, BeginsWith}
+use Rattle.region_cut.specs.Laws.{Ending, StandsAt, BeginsWith}
 use Rattle.region_cut.specs.Ranges.{start_of, Covers}
 use Rattle.slot_chain.specs.Buffer.{Buffer}
 use Rattle.pool_desk.specs.Homes.{AtHome, Unused, slot_at, class_at}

@@ -4,15 +4,15 @@ use Rattle.std.specs.Borrow.{GName}
 use Rattle.region_cut.specs.declared.TheConstants.{CHUNK}
 use Rattle.region_cut.specs.Carved.{Carved}
 use Rattle.region_cut.specs.Classes.{size_of, slots_of}
-use Rattle.region_cut.specs.Endings.{StandsAt}
+use Rattle.region_cut.specs.Laws.{StandsAt}
 use Rattle.slot_chain.specs.Buffer.{Buffer}
 use Rattle.pool_desk.specs.Homes.{AtHome, Unused}
 use Rattle.pool_desk.specs.Homes.AtHome.{Kept, Fresh}
 use Rattle.pool_machine.specs.declared.chunk.DrawnChunk.{DrawnChunk}
-use Rattle.event_floor.specs.declared.seat.Seat.{Seat}
-use Rattle.event_floor.specs.declared.seat.Seat.TheVariants.{Idle, Held}
+use Rattle.event_floor.specs.declared.any_desk.AnyDesk.{AnyDesk}
+use Rattle.event_floor.specs.declared.any_desk.AnyDesk.TheVariants.{Idle, Held}
 use Rattle.event_floor.specs.Chunks.{class_drawn}
-use Rattle.event_floor.specs.Posted.{Posted, inbox_at}
+use Rattle.event_floor.specs.Posted.{BatchSeen, inbox_at}
 use Rattle.event_floor.specs.Seats.{home_of, cached_of}
 use Rattle.event_floor.specs.Floors.{FloorSeen, desk_at, desk_count}
 use Rattle.pool_machine.specs.Slots.{one_if}
@@ -42,7 +42,7 @@ IsNamedHome names (Kept b) = HasName names b
 IsNamedHome names (Fresh u) = HasNoName names u
 
 -- the chunks that a desk ever claimed
-abbrev pub chunks_of : Seat → List Carved
+abbrev pub chunks_of : AnyDesk → List Carved
 chunks_of (Idle d) = d.drawn
 chunks_of (Held d) = d.drawn
 
@@ -55,7 +55,7 @@ abbrev pub drew : List DrawnChunk → ℕ → ℕ → Bool
 drew drawn a k = is_drawn_for a (slice_get drawn k)
 
 -- desk a: all its buffers have their names, and it knows each chunk that was drawn for it once, and no other
-pub record IsNamedDesk (names : List Carved) (drawn : List DrawnChunk) (a : ℕ) (s : Seat) : Type 0 where
+pub record IsNamedDesk (names : List Carved) (drawn : List DrawnChunk) (a : ℕ) (s : AnyDesk) : Type 0 where
   pub home : All (IsNamedHome names) (home_of s)
   pub cached : All (HasName names) (cached_of s)
   pub same : All (λ (c : Carved). slice_get names c.chunk ≡ Some c) (chunks_of s)
@@ -76,7 +76,7 @@ pub record AreNames (names : List Carved) (v : FloorSeen) : Type 0 where
   pub chunks : (k : ℕ) (c : Carved) → slice_get names k ≡ Some c → IsNamedChunk v.parts v.drawn k c
   pub desks : (a : ℕ) → a < desk_count v → IsNamedDesk names v.drawn a (desk_at v a)
   pub lent : (i : ℕ) → IfSome (slice_index_or v.lent i None) (HasName names)
-  pub posted : (b : ℕ) → All (λ (p : Posted). All (HasName names) p.buffers) (inbox_at v.inboxes b)
+  pub posted : (b : ℕ) → All (λ (p : BatchSeen). All (HasName names) p.buffers) (inbox_at v.inboxes b)
 
 -- no two buffers have one name of a chunk: each has that of its place
 unfoldable pub IsNamed : FloorSeen → Type 0

@@ -2,7 +2,7 @@
 use Rattle.std.specs.Prelude.{ℕ, ◌≡◌, List, ◌++◌, map, flat_map, option_map, IsPermutation}
 use Rattle.std.specs.List.{range_with_len}
 use Rattle.region_cut.specs.declared.slot.Slot.{Slot}
-use Rattle.digit_route.specs.Slots.{slot_of}
+use Rattle.slot_chain.specs.Slots.{slot_of}
 use Rattle.pool_desk.specs.Homes.{slot_at}
 use Rattle.pool_machine.specs.declared.chunk.DrawnChunk.{DrawnChunk}
 use Rattle.pool_machine.specs.Slots.{ExactlyOnce}

@@ -2,7 +2,7 @@ use Rattle.std.proofs.Common.{◌≡◌, List, ◌∷◌, ◌++◌, ◌*◌, All
 use Rattle.std.specs.Borrow.{GName}
 use Rattle.region_cut.specs.declared.TheConstants.{CHUNK}
 use Rattle.region_cut.specs.Cuts.{names_in, IsCut}
-use Rattle.region_cut.specs.Ended.{Ended, EndingsState, IsKnown}
+use Rattle.region_cut.specs.Endings.{Ended, EndingsState, IsKnown}
 use Rattle.region_cut.specs.Fronts.{lent_of, rest_of}
 use Rattle.region_cut.specs.Parts.{bytes_of}
 use Rattle.event_floor.specs.Floors.{FloorSeen}

@@ -1,5 +1,5 @@
 use Rattle.std.proofs.Common.{ap, subst}
-use Rattle.region_cut.specs.Ended.{EndingsState}
+use Rattle.region_cut.specs.Endings.{EndingsState}
 use Rattle.event_floor.specs.Floors.{FloorSeen}
 use Rattle.event_floor.specs.headline.Bytes.{EndsAsHeld}
 use Rattle.event_floor.specs.headline.Known.{EndsKnown}

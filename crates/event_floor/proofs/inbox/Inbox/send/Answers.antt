@@ -1,5 +1,5 @@
 use Rattle.std.proofs.Common.{◌≡◌, ◌<◌, ◌∙◌, ◌++◌, ◌∷◌, [], All, ap, sym, subst}
-use Rattle.event_floor.specs.Posted.{Posted, NumbersRise, sent_as}
+use Rattle.event_floor.specs.Posted.{BatchSeen, NumbersRise, sent_as}
 use Rattle.event_floor.proofs.HeldLaws.{on_err}
 use Rattle.event_floor.proofs.RiseLaws.{rises_sent}
 use Rattle.event_floor.proofs.inbox.Inbox.send.Goals as goal
@@ -14,9 +14,9 @@ pub invariant_of-self-in-Ok : goal.invariant_of-self-in-Ok
 invariant_of-self-in-Ok c =
     let p = sent_as c.args.number c.in-Ok.batch in
     let posted : c.push_back_reserved.new.self.items ≡ c.self.inside.batches.items ++ p ∷ [] =
-    c.push_back_reserved.ensures.items ∙ (ap (λ z. z ++ c.new.result ∷ []) c.in_ok-try_reserve.ensures.items ∙ ap (λ (z : Posted). c.self.inside.batches.items ++ z ∷ []) c.new.ensures) in
+    c.push_back_reserved.ensures.items ∙ (ap (λ z. z ++ c.new.result ∷ []) c.in_ok-try_reserve.ensures.items ∙ ap (λ (z : BatchSeen). c.self.inside.batches.items ++ z ∷ []) c.new.ensures) in
     subst (λ z. NumbersRise z) (sym posted)
-    (rises_sent c.self.inside.batches.items p c.self.invariant (subst (λ z. All (λ (q : Posted). q.number < c.args.number) z) (sym c.self.view_is) c.requires.later))
+    (rises_sent c.self.inside.batches.items p c.self.invariant (subst (λ z. All (λ (q : BatchSeen). q.number < c.args.number) z) (sym c.self.view_is) c.requires.later))
 
 pub returns-clause-sends : goal.returns-clause-sends
 returns-clause-sends c =
@@ -28,5 +28,5 @@ returns-clause-sends c =
       same_desk = batch.same;
       counted = c.len-count.ensures;
       posted = c.push_back_reserved.ensures.items
-          ∙ (ap (λ z. z ++ c.new.result ∷ []) (c.in_ok-try_reserve.ensures.items ∙ c.self.view_is) ∙ ap (λ (z : Posted). c.args.self.now ++ z ∷ []) c.new.ensures);
+          ∙ (ap (λ z. z ++ c.new.result ∷ []) (c.in_ok-try_reserve.ensures.items ∙ c.self.view_is) ∙ ap (λ (z : BatchSeen). c.args.self.now ++ z ∷ []) c.new.ensures);
     }

@@ -1,5 +1,5 @@
 use Rattle.std.proofs.Common.{take, map, IsPermutation}
-use Rattle.digit_route.specs.Slots.{slot_of}
+use Rattle.slot_chain.specs.Slots.{slot_of}
 use Rattle.event_floor.specs.Posted.{buffers_in}
 use Rattle.event_floor.proofs.inbox.Inbox.slots.Given as goal
 

@@ -1,5 +1,5 @@
 use Rattle.std.proofs.Common.{◌≡◌, take, map}
-use Rattle.digit_route.specs.Slots.{slot_of}
+use Rattle.slot_chain.specs.Slots.{slot_of}
 use Rattle.event_floor.specs.Lent.{buffers_lent}
 use Rattle.event_floor.proofs.lent.Lent.slots.Given as goal
 

@@ -1,7 +1,7 @@
 use Rattle.std.proofs.Common.{◌≡◌, ◌<◌, ◌∙◌, refl, ap, sym, subst, length, get_or}
 use Rattle.std.proofs.lemmas.List.{length-set}
 use Rattle.pool_desk.specs.Desks.{DeskState}
-use Rattle.event_floor.specs.declared.seat.Seat.TheVariants.{Held}
+use Rattle.event_floor.specs.declared.any_desk.AnyDesk.TheVariants.{Held}
 use Rattle.event_floor.specs.Floors.{AreOwned, no_desk}
 use Rattle.event_floor.proofs.SeatLaws.{alloc_seated, alloc_placed}
 use Rattle.event_floor.proofs.FloorLaws.{floor_settled, floor_seat, floor_lent, owned_set, place_within, desk_read, seated_at}

@@ -1,7 +1,7 @@
 use Rattle.std.proofs.Common.{◌≡◌, ◌<◌, refl, ap, sym, subst, get_or}
 use Rattle.pool_machine.specs.declared.refusal.Refusal.TheVariants.{BadClass, NotNeeded, NoChunk}
 use Rattle.pool_machine.specs.declared.request.Request.TheVariants.{Claim}
-use Rattle.event_floor.specs.declared.seat.Seat.TheVariants.{Held}
+use Rattle.event_floor.specs.declared.any_desk.AnyDesk.TheVariants.{Held}
 use Rattle.event_floor.specs.Floors.{FloorSeen, no_desk}
 use Rattle.event_floor.specs.Chunks.{ChunksSeen}
 use Rattle.event_floor.specs.Steps.{Refuses, HasHome}

@@ -1,6 +1,6 @@
 use Rattle.std.proofs.Common.{◌≡◌, ◌++◌, List, length, drop, map, flat_map, IsPermutation, ap, ◌∙◌, subst}
 use Rattle.std.proofs.lemmas.List.{append-nil}
-use Rattle.region_cut.specs.Ended.{Ended, EndingsState}
+use Rattle.region_cut.specs.Endings.{Ended, EndingsState}
 use Rattle.slot_chain.specs.Buffer.{Buffer, ended_of}
 use Rattle.event_floor.specs.Chunks.{ended_parts}
 use Rattle.event_floor.specs.Floors.{FloorSeen}
@@ -20,6 +20,6 @@ returns-clause-known c =
     let same : c.end-2.new.endings.known ≡ map ended_of (buffers_lent l.lent) ++ (map ended_of (flat_map buffers_in l.inboxes) ++ parts) =
     ap known c.end-2.ensures ∙ ap (λ es. map ended_of (buffers_lent l.lent) ++ es) (ap known c.end_inboxes.ensures
     ∙ ap (λ es. map ended_of (flat_map buffers_in l.inboxes) ++ es) (ap known c.end.ensures ∙ ap (λ es. parts ++ es) (ap known c.new-endings.ensures) ∙ append-nil parts)) in
-    subst (λ (v : FloorSeen). IsPermutation (map ended_of (buffers_of v) ++ ended_parts (undrawn_parts v) v.undrawn) c.end_seats.new.endings.known) c.self.view_is
-    (subst (λ es. IsPermutation es c.end_seats.new.endings.known)
-    (ap (λ es. map ended_of seats ++ es) same ∙ three_joined seats (buffers_lent l.lent) (flat_map buffers_in l.inboxes) parts) c.end_seats.ensures.known)
+    subst (λ (v : FloorSeen). IsPermutation (map ended_of (buffers_of v) ++ ended_parts (undrawn_parts v) v.undrawn) c.end_desks.new.endings.known) c.self.view_is
+    (subst (λ es. IsPermutation es c.end_desks.new.endings.known)
+    (ap (λ es. map ended_of seats ++ es) same ∙ three_joined seats (buffers_lent l.lent) (flat_map buffers_in l.inboxes) parts) c.end_desks.ensures.known)

@@ -3,7 +3,7 @@ use Rattle.std.proofs.lemmas.List.{length-set}
 use Rattle.region_cut.specs.declared.slot.Slot.{Slot}
 use Rattle.pool_machine.specs.declared.refusal.Refusal.TheVariants.{NotLent}
 use Rattle.pool_machine.specs.declared.request.Request.TheVariants.{Free}
-use Rattle.event_floor.specs.declared.seat.Seat.TheVariants.{Held}
+use Rattle.event_floor.specs.declared.any_desk.AnyDesk.TheVariants.{Held}
 use Rattle.event_floor.specs.Floors.{FloorSeen, AreOwned, IsKnown, no_desk}
 use Rattle.event_floor.specs.Steps.{Refuses}
 use Rattle.event_floor.proofs.SeatLaws.{free_seated}

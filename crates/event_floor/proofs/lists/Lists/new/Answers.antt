@@ -8,8 +8,8 @@ use Rattle.event_floor.proofs.lists.Lists.new.Goals as goal
 pub new-requires : goal.new-requires
 new-requires c = let few = numbered_few c.args.parts.items c.requires.parts in search (rules, few, c.len.ensures)
 
-pub empty_seats-requires-clause-few : goal.empty_seats-requires-clause-few
-empty_seats-requires-clause-few c = few_numbers c.profile-profile.result c.args.digits.bits c.args.desks c.profile-profile.ensures.bits c.requires.few
+pub idle_desks-requires-clause-few : goal.idle_desks-requires-clause-few
+idle_desks-requires-clause-few c = few_numbers c.profile-profile.result c.args.digits.bits c.args.desks c.profile-profile.ensures.bits c.requires.few
 
 pub invariant_of-result : goal.invariant_of-result
 invariant_of-result c =

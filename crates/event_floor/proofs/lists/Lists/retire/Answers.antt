@@ -32,7 +32,7 @@ invariant_of-self c =
     let there = within _ _ _ _ c.if-place-len.false c.len.ensures c.self.inside.desks.ok.0 in
     let f = c.self.invariant in
     floor_settled (floor_seat c.args.a _ f there
-    (release_seated _ _ _ _ _ c.index_mut.result.now c.release.new.seat c.release.result (seated_read c.args.a _ f there c.index_mut.ensures.value) c.release.ensures))
+    (release_seated _ _ _ _ _ c.index_mut.result.now c.release.new.any c.release.result (seated_read c.args.a _ f there c.index_mut.ensures.value) c.release.ensures))
 
 pub returns-clause-desks : goal.returns-clause-desks
-returns-clause-desks c = count_kept _ _ c.args.a c.release.new.seat c.self.view_is
+returns-clause-desks c = count_kept _ _ c.args.a c.release.new.any c.self.view_is

@@ -1,7 +1,7 @@
 use Rattle.std.proofs.Common.{◌≡◌, ◌<◌, ◌≤◌, ◌∙◌, refl, length, get_or, ap, sym, subst, arith}
 use Rattle.std.specs.Prelude.{Some, None}
 use Rattle.pool_desk.specs.Desks.{DeskState}
-use Rattle.event_floor.specs.declared.seat.Seat.TheVariants.{Held}
+use Rattle.event_floor.specs.declared.any_desk.AnyDesk.TheVariants.{Held}
 use Rattle.event_floor.specs.Floors.{FloorSeen, desk_count, last_number, no_desk}
 use Rattle.event_floor.specs.Steps.{MeetsFault}
 use Rattle.event_floor.proofs.SeatLaws.{send_seated}

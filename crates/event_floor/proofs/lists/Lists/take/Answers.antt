@@ -1,7 +1,7 @@
 use Rattle.std.proofs.Common.{◌≡◌, ◌<◌, refl, get_or, sym, subst}
 use Rattle.pool_machine.specs.declared.refusal.Refusal.TheVariants.{Nothing}
 use Rattle.pool_machine.specs.declared.request.Request.TheVariants.{Take}
-use Rattle.event_floor.specs.declared.seat.Seat.TheVariants.{Held}
+use Rattle.event_floor.specs.declared.any_desk.AnyDesk.TheVariants.{Held}
 use Rattle.event_floor.specs.Floors.{FloorSeen, no_desk}
 use Rattle.event_floor.specs.Steps.{Refuses}
 use Rattle.event_floor.proofs.SeatLaws.{handle_seated}

@@ -2,13 +2,13 @@ use Rattle.std.proofs.Common.{◌≡◌, ◌++◌, length, map, flat_map, IsPerm
 use Rattle.slot_chain.specs.Buffer.{ended_of}
 use Rattle.event_floor.specs.headline.Known.{buffers_with}
 use Rattle.event_floor.specs.headline.Names.{chunks_of}
-use Rattle.event_floor.proofs.ending.end_seats.Given as goal
+use Rattle.event_floor.proofs.ending.end_desks.Given as goal
 
-abbrev pub invariant-loop-seat : goal.invariant-loop-seat
-invariant-loop-seat l = record {
+abbrev pub invariant-loop-any : goal.invariant-loop-any
+invariant-loop-any l = record {
   chunks : flat_map chunks_of l.desks.items ++ l.endings.chunks ≡ flat_map chunks_of l.initial.desks.items ++ l.initial.endings.chunks;
   known : IsPermutation (map ended_of (flat_map buffers_with l.initial.desks.items) ++ l.initial.endings.known) (map ended_of (flat_map buffers_with l.desks.items) ++ l.endings.known);
 }
 
-abbrev pub decreases-loop-seat : goal.decreases-loop-seat
-decreases-loop-seat l = length l.desks.items
+abbrev pub decreases-loop-any : goal.decreases-loop-any
+decreases-loop-any l = length l.desks.items

@@ -1,7 +1,7 @@
-//! A batch that waits in an inbox.
-ghost use Rattle.std.specs.Prelude.{◌≡◌, ◌↔◌, IsTrue, OnOk, length};
+//! A batch in an inbox.
+ghost use Rattle.std.specs.Prelude.{◌≡◌, ◌↔◌, IsTrue, OnOk, length, map};
 ghost use Rattle.slot_chain.specs.Counts.{capped};
-ghost use Rattle.digit_route.specs.Slots.{AddsSlots};
+ghost use Rattle.slot_chain.specs.Slots.{slot_of, AddsSlots};
 ghost use Rattle.event_floor.specs.Posted.{sent_as, as_linked, IsHalf};
 
 use digit_route::Batch;
@@ -11,16 +11,16 @@ use std::marker::Model;
 
 /// A batch with its number, attached or linked.
 #[derive(Drop)]
-pub(crate) struct Waiting<'r> {
+pub(crate) struct QueuedBatch<'r> {
     number: u32,
     linked: bool,
     batch: Batch<'r>,
 }
 
-impl<'r> Model for Waiting<'r> {
-    ghost use Rattle.event_floor.specs.Posted.{Posted};
+impl<'r> Model for QueuedBatch<'r> {
+    ghost use Rattle.event_floor.specs.Posted.{BatchSeen};
 
-    ghost Value = { Posted };
+    ghost Value = { BatchSeen };
 
     ghost view = { λ w. record {
       number = w.number;
@@ -32,12 +32,12 @@ impl<'r> Model for Waiting<'r> {
     } };
 }
 
-impl<'r> Waiting<'r> {
+impl<'r> QueuedBatch<'r> {
     /// The batch as it is sent: it still has to be linked.
-    pub(crate) fn new(number: u32, batch: Batch<'r>) -> Waiting<'r>
+    pub(crate) fn new(number: u32, batch: Batch<'r>) -> QueuedBatch<'r>
         ensures { result ≡ sent_as number batch.entry }
     {
-        Waiting {
+        QueuedBatch {
             number,
             linked: false,
             batch,
@@ -81,7 +81,7 @@ impl<'r> Waiting<'r> {
 
     /// Adds the slot of each buffer to the end of `slots`.
     pub(crate) fn list_slots(&self, slots: &mut Vec<Slot>) -> Result<(), NoMemory>
-        ensures { OnOk result (AddsSlots self.now.buffers slots.old.items slots.new.items) }
+        ensures { OnOk result (AddsSlots (map slot_of self.now.buffers) slots.old.items slots.new.items) }
     {
         self.batch.list_slots(slots)
     }

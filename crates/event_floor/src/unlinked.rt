@@ -1,7 +1,7 @@
 //! An index of the batches that still have to be linked.
 ghost use Rattle.std.specs.Prelude.{◌≡◌, ◌≢◌, ◌<◌, ℕ, [], Some, None, nat_eq, OnOk, IfOk, OnErr, MatchBool, if◌then◌else◌};
-ghost use Rattle.event_floor.specs.declared.halves.Half.{Half as HalfSeen};
-ghost use Rattle.event_floor.specs.Halves.{half_of};
+ghost use Rattle.event_floor.specs.declared.unlinked.Unlinked.{Unlinked as EntrySeen};
+ghost use Rattle.event_floor.specs.Unlinked.{half_of};
 
 use slot_chain::NoMemory;
 use std::alloc::Global;
@@ -10,46 +10,46 @@ use std::marker::Model;
 
 /// Who sent a batch, and in whose inbox it waits.
 #[derive(Clone, Copy, Drop)]
-pub(crate) struct Half {
+pub(crate) struct Unlinked {
     pub(crate) sender: u32,
     pub(crate) inbox: u32,
 }
 
 /// The batches that still have to be linked, by number, and how many of them each desk sent. All its calls take constant time.
 #[derive(Drop)]
-pub(crate) struct Halves {
-    by_number: HashMap<u32, Half>,
+pub(crate) struct UnlinkedIndex {
+    by_number: HashMap<u32, Unlinked>,
     by_sender: Vec<u64>,
 }
 
-impl Model for Halves {
+impl Model for UnlinkedIndex {
     ghost use Rattle.std.specs.Prelude.{length};
-    ghost use Rattle.event_floor.specs.Halves.{HalvesSeen, AreCounted};
+    ghost use Rattle.event_floor.specs.Unlinked.{UnlinkedSeen, AreCounted};
 
-    ghost Value = { HalvesSeen };
+    ghost Value = { UnlinkedSeen };
 
     ghost view = { λ h. record { desks = length h.by_sender.items; entries = h.by_number.entries } };
 
     ghost invariant = { λ h. AreCounted h.by_sender.items h.by_number.entries };
 }
 
-impl Halves {
+impl UnlinkedIndex {
     /// No batch, for so many desks.
-    pub(crate) fn new(alloc: Global, desks: u32) -> Result<Halves, NoMemory>
+    pub(crate) fn new(alloc: Global, desks: u32) -> Result<UnlinkedIndex, NoMemory>
         ensures { IfOk result (λ h. h ≡ record { desks = desks; entries = [] }) }
     {
         let mut by_sender = Vec::with_capacity(alloc, desks as usize)?;
         for _desk in 0..desks {
             by_sender.push_reserved(0);
         }
-        Ok(Halves {
+        Ok(UnlinkedIndex {
             by_number: HashMap::new(alloc),
             by_sender,
         })
     }
 
     /// Adds a batch. A refusal changes nothing.
-    pub(crate) fn add(&mut self, number: u32, half: Half) -> Result<(), NoMemory>
+    pub(crate) fn add(&mut self, number: u32, half: Unlinked) -> Result<(), NoMemory>
         requires sender { half.sender < self.old.desks }
         requires absent { half_of self.old number ≡ None }
         ensures desks { self.new.desks ≡ self.old.desks }
@@ -64,7 +64,7 @@ impl Halves {
     }
 
     /// Takes the batch of this number out, where it has one. Takes no memory.
-    pub(crate) fn remove(&mut self, number: u32) -> Option<Half>
+    pub(crate) fn remove(&mut self, number: u32) -> Option<Unlinked>
         ensures value { result ≡ half_of self.old number }
         ensures desks { self.new.desks ≡ self.old.desks }
         ensures removes { (n : ℕ) → half_of self.new n ≡ (if nat_eq number n then None else half_of self.old n) }
@@ -78,8 +78,8 @@ impl Halves {
     pub(crate) fn has_sender(&self, sender: u32) -> bool
         requires { sender < self.now.desks }
         ensures { MatchBool result
-            ((n : ℕ) × (h : HalfSeen) × (half_of self.now n ≡ Some h) × (h.sender ≡ sender))
-            ((n : ℕ) (h : HalfSeen) → half_of self.now n ≡ Some h → h.sender ≢ sender) }
+            ((n : ℕ) × (h : EntrySeen) × (half_of self.now n ≡ Some h) × (h.sender ≡ sender))
+            ((n : ℕ) (h : EntrySeen) → half_of self.now n ≡ Some h → h.sender ≢ sender) }
     {
         self.by_sender[sender as usize] != 0
     }

@@ -1,8 +1,8 @@
 use Rattle.std.proofs.Common.{◌≡◌, arith, sym}
 use Rattle.std.specs.Prelude.{Some, nat_eq}
 use Rattle.std.specs.Map.{lookup}
-use Rattle.event_floor.proofs.HalfLaws.{removed_counted, sent_some_of, sender_within, counted_read}
-use Rattle.event_floor.proofs.halves.Halves.remove.Goals as goal
+use Rattle.event_floor.proofs.UnlinkedLaws.{removed_counted, sent_some_of, sender_within, counted_read}
+use Rattle.event_floor.proofs.unlinked.UnlinkedIndex.remove.Goals as goal
 
 pub overflow_sub-index_mut : goal.overflow_sub-index_mut
 overflow_sub-index_mut c =

@@ -1,7 +1,7 @@
 use Rattle.std.proofs.Common.{◌≡◌, ◌++◌, ◌∷◌, [], ◌∙◌, ℕ, List, ap, arith}
 use Rattle.std.proofs.lemmas.List.{replicate_more}
-use Rattle.event_floor.proofs.HalfLaws.{none_counted, none_seen}
-use Rattle.event_floor.proofs.halves.Halves.new.Goals as goal
+use Rattle.event_floor.proofs.UnlinkedLaws.{none_counted, none_seen}
+use Rattle.event_floor.proofs.unlinked.UnlinkedIndex.new.Goals as goal
 
 pub loop-desk-init : goal.loop-desk-init
 loop-desk-init c = c.in_ok-by_sender.ensures.items
