@@ -2,7 +2,7 @@
 use Rattle.std.proofs.Common.{◌≡◌, ℕ, ◌+◌, ◌<◌, ◌≤◌, List, [], ◌∷◌, ◌++◌, length, take, drop, remove, slice_set, slice_index_or, sym, ap, ◌∙◌, append_assoc, arith}
 use Rattle.std.specs.List.{flat_map}
 use Rattle.std.proofs.lemmas.List.{set-append_left, set-append_right, length-take-le, take-append-drop, length-append}
-use Rattle.region_cut.specs.declared.TheConstants.{CHUNK}
+use Rattle.region_cut.specs.Limits.{chunk_size}
 use Rattle.region_cut.specs.declared.part.Part.{Part}
 use Rattle.region_cut.specs.Parts.{bytes_of}
 
@@ -27,22 +27,22 @@ write_second p f h s t x whole rest first second =
     ∙ ap (λ z. slice_set z 64 x) (sym whole)
 
 -- the byte is written in the first chunk
-pub write_front : (bytes : List ℕ) (at x : ℕ) → at < CHUNK → CHUNK ≤ length bytes
-    → slice_set (take CHUNK bytes) at x ++ drop CHUNK bytes ≡ slice_set bytes at x
+pub write_front : (bytes : List ℕ) (at x : ℕ) → at < chunk_size → chunk_size ≤ length bytes
+    → slice_set (take chunk_size bytes) at x ++ drop chunk_size bytes ≡ slice_set bytes at x
 write_front bytes at x within long =
-    let size : length (take CHUNK bytes) ≡ CHUNK = length-take-le CHUNK bytes long in
-    let inside : at < length (take CHUNK bytes) = omega (arith, size) in
-    sym (set-append_left (take CHUNK bytes) (drop CHUNK bytes) at x inside) ∙ ap (λ z. slice_set z at x) (take-append-drop CHUNK bytes)
+    let size : length (take chunk_size bytes) ≡ chunk_size = length-take-le chunk_size bytes long in
+    let inside : at < length (take chunk_size bytes) = omega (arith, size) in
+    sym (set-append_left (take chunk_size bytes) (drop chunk_size bytes) at x inside) ∙ ap (λ z. slice_set z at x) (take-append-drop chunk_size bytes)
 
 pub removed_first : (ps qs : List Part) (p : Part) → 0 < length ps → p ≡ slice_index_or ps 0 p → qs ≡ remove ps 0 → ps ≡ p ∷ qs
 removed_first [] qs p some value items = absurd (omega (arith, some))
 removed_first (y ∷ ys) qs p some value items = ap (λ z. z ∷ ys) (sym value) ∙ ap (λ zs. p ∷ zs) (sym items)
 
-pub write_part : (bytes : List ℕ) (ps qs : List Part) (p : Part) (s r t : List ℕ) (at x : ℕ) → at < CHUNK → ps ≡ p ∷ qs → flat_map bytes_of ps ++ t ≡ bytes
+pub write_part : (bytes : List ℕ) (ps qs : List Part) (p : Part) (s r t : List ℕ) (at x : ℕ) → at < chunk_size → ps ≡ p ∷ qs → flat_map bytes_of ps ++ t ≡ bytes
     → s ≡ slice_set (bytes_of p) at x ++ flat_map bytes_of qs → r ≡ t → s ++ r ≡ slice_set bytes at x
 write_part bytes ps qs p s r t at x low first whole settled rest =
     let f : List ℕ = bytes_of p in let g : List ℕ = flat_map bytes_of qs in
-    let size : length f ≡ CHUNK = p.is_whole in
+    let size : length f ≡ chunk_size = p.is_whole in
     let inside : at < length f = omega (arith, size, low) in
     let long : length (f ++ g) ≡ length f + length g = length-append f g in
     let within : at < length (f ++ g) = omega (arith, size, long) in

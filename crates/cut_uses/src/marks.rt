@@ -3,6 +3,7 @@ ghost use Rattle.std.specs.Prelude.{◌≡◌, ◌≤◌, ◌++◌, [], length, 
 ghost use Rattle.std.specs.List.{flat_map};
 ghost use Rattle.std.specs.Borrow.{sem, LendsBothIf, Array, u8};
 ghost use Rattle.region_cut.specs.Fronts.{whole_of, settled_of, lent_of, rest_of, end_of};
+ghost use Rattle.region_cut.specs.Limits.{chunk_size};
 ghost use Rattle.region_cut.specs.Parts.{name_of, bytes_of};
 
 use region_cut::endings::{Front, cut_with_front};
@@ -51,7 +52,7 @@ pub fn settle_all<'r>(mut front: Front<'r>, parts: Vec<Part<'r>>) -> Front<'r>
 // Cuts the region, marks its first chunk and gives back all parts. Where there is no memory for the
 // list of the parts, the region is whole, and the byte is written there.
 fn marked<'r>(region: &'r mut [u8], alloc: Global, x: u8) -> Front<'r>
-    requires { CHUNK ≤ length region.old }
+    requires { chunk_size ≤ length region.old }
     ensures whole { whole_of result ≡ region.entry.ghost_name }
     ensures lent { lent_of result ≡ [] }
     ensures end { end_of result ≡ slice_set region.old 64 x }
@@ -70,7 +71,7 @@ fn marked<'r>(region: &'r mut [u8], alloc: Global, x: u8) -> Front<'r>
 }
 
 fn ended<'r>(region: &'r mut [u8], alloc: Global, x: u8) -> Option<(&'r mut [u8], &'r mut [u8])>
-    requires { CHUNK ≤ length region.old }
+    requires { chunk_size ≤ length region.old }
     ensures* writes_back { sem 𝓛
         (LendsBothIf (Array u8 0) (Array u8 0) (Array u8 0) region.entry result ◌++◌ (slice_set region.old 64 x)) }
     ensures none { result ≡ None }
@@ -82,7 +83,7 @@ fn ended<'r>(region: &'r mut [u8], alloc: Global, x: u8) -> Option<(&'r mut [u8]
 /// Cuts a region of at least one chunk, cuts the first chunk into slots of 64 bytes and writes `x`
 /// into the first byte of slot 0.1. The region then holds `x` at 64, and what it held elsewhere.
 pub fn mark(alloc: Global, region: &mut [u8], x: u8)
-    requires { CHUNK ≤ length region.old }
+    requires { chunk_size ≤ length region.old }
     ensures { region.new ≡ slice_set region.old 64 x }
 {
     match ended(region, alloc, x) {
