@@ -4,7 +4,6 @@ ghost use Rattle.region_cut.specs.Classes.{slots_of};
 ghost use Rattle.region_cut.specs.Limits.{chunk_size};
 ghost use Rattle.slot_chain.specs.Buffer.{owner_limit};
 
-use crate::writing::mark;
 use region_cut::{Class, CutError, Part, cut};
 use slot_chain::{Chain, NoMemory, Room};
 use std::alloc::Global;
@@ -50,18 +49,4 @@ pub fn fill_region<'r>(
         };
     }
     Ok(chain)
-}
-
-/// Writes the first byte of each slot of a region, through its buffers, which are dropped before the
-/// region's borrow ends.
-pub fn mark_region(alloc: Global, region: &mut [u8], class: Class, byte: u8) -> Result<(), CutError>
-    ensures { length region.new ≡ length region.old }
-{
-    let mut chain = fill_region(alloc, region, class, 0)?;
-    while let Some(mut buf) = chain.pop() {
-        mark(&mut buf, byte);
-        drop(buf);
-    }
-    drop(chain);
-    Ok(())
 }

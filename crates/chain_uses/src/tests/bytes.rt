@@ -1,8 +1,7 @@
 //! What is written through buffers is what the region holds when its borrow ends.
-use crate::filling::mark_region;
 use crate::knowing::mark_first;
 use crate::tests::{filled, same};
-use crate::writing::{clear, copy_in, mark_top, stamped};
+use crate::writing::{clear, copy_in, mark, mark_top, stamped};
 use region_cut::{CHUNK, class_for};
 use slot_chain::{Buf, Chain, NoMemory};
 use std::alloc::Global;
@@ -113,12 +112,18 @@ fn writes_are_read_back(rt: HostRuntime) {
     }
 }
 
+// Writes the first byte of each buffer, and drops it before the next is taken.
+fn mark_each(mut chain: Chain<'_>, byte: u8) {
+    while let Some(mut buf) = chain.pop() {
+        mark(&mut buf, byte);
+        drop(buf);
+    }
+}
+
 fn mark_all(rt: &impl Abort, alloc: Global) -> Result<(), NoMemory> {
     let class = class_for(512).expect(rt, "a class of 512 bytes");
     let mut region = Vec::from_elem(alloc, 1u8, 2 * CHUNK + 1)?;
-    let Ok(()) = mark_region(alloc, &mut region, class, 9) else {
-        return Err(NoMemory);
-    };
+    mark_each(filled(alloc, &mut region, class, 0)?, 9);
     let want = [(0, 9), (1, 1), (511, 1), (512, 9), (7680, 9), (8192, 1)];
     check_bytes(rt, &region, &want);
     Ok(())
