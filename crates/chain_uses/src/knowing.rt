@@ -87,7 +87,9 @@ fn ended<'r>(region: &'r mut [u8], alloc: Global, byte: u8) -> Option<(&'r mut [
 }
 
 /// Cuts a region of at least one chunk, makes a buffer of its first slot, and writes `byte` into the
-/// buffer's first byte. The region then begins with `byte`, and holds elsewhere what it held.
+/// buffer's first byte. The region then begins with `byte`, and holds elsewhere what it held. Where
+/// memory is refused, the byte is written into the region itself: the clause is the same in both
+/// cases, and does not tell them apart.
 pub fn mark_first(alloc: Global, region: &mut [u8], byte: u8)
     requires { chunk_size ≤ length region.old }
     ensures { region.new ≡ slice_set region.old 0 byte }
