@@ -1,0 +1,4 @@
+pub mod KeepsRule
+pub mod Drained
+pub mod NewSeats
+pub mod Keys

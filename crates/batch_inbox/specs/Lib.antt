@@ -1,0 +1,4 @@
+pub mod Refusals
+pub mod Views
+pub mod Order
+pub mod States

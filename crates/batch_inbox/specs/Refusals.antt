@@ -1,0 +1,8 @@
+-- The numbers of a queue's refusals.
+use Rattle.std.specs.Prelude.{ℕ}
+use Rattle.batch_inbox.specs.declared.error.PostError.{PostError}
+use Rattle.batch_inbox.specs.declared.error.PostError.TheVariants.{NoRoom}
+
+-- they are told apart by these numbers
+abbrev pub number_of : PostError → ℕ
+number_of NoRoom = 1

@@ -1,0 +1,24 @@
+//! Why a batch is not posted.
+ghost use Rattle.std.specs.Prelude.{◌≡◌};
+ghost use Rattle.batch_inbox.specs.Refusals.{number_of};
+
+use thiserror::Error;
+
+/// Why a queue refuses a batch. The batch is handed back, and the seat is as before.
+#[derive(Clone, Copy, Debug, PartialEq, Eq, Drop, Error)]
+pub enum PostError {
+    /// The queue has no room: a growth was refused.
+    #[error("no room")]
+    NoRoom,
+}
+
+impl PostError {
+    /// Its number, from 1.
+    pub fn number(self) -> u32
+        ensures { result ≡ number_of self }
+    {
+        match self {
+            PostError::NoRoom => 1,
+        }
+    }
+}

@@ -1,0 +1,172 @@
+//! The inbox.
+ghost use Rattle.std.specs.Prelude.{◌≡◌, ℕ, ◌≤◌, [], ◌∷◌, ◌++◌, length, Some, slice_get, IfOk, IfNone, MatchResult, MatchOption};
+ghost use Rattle.crossbeam_queue.specs.Fifo.{Learns};
+ghost use Rattle.batch_inbox.specs.Order.{IsInOrder};
+ghost use Rattle.batch_inbox.specs.States.{SendState, AreSeatsOf, AreNew, left, view_of};
+ghost use Rattle.batch_inbox.specs.Views.{batches_of, place_of};
+
+use crate::opening::{opened, seated};
+use crate::rule::{Line, View};
+use crate::steps::{Nothing, Posts, Rests, Seats, Takes};
+use crate::{PostError, Rest, SendSeat, TakeSeat};
+use crossbeam_queue::protocol::Lesson;
+use digit_route::{Batch, Digits};
+use slot_chain::NoMemory;
+use std::alloc::Global;
+use std::marker::{Brand, Model};
+use std::sync::Wait;
+
+/// The message queue of one desk, with a seat for each sender and one for the receiver.
+///
+/// Threads share it by `&`. Contracts see which inbox it is; what it holds they see in the seats.
+/// It may be dropped at any time, with what it holds, and so may its seats.
+pub struct Inbox<'r> {
+    queue: Line<'r>,
+    address: u16,
+    digits: Digits,
+}
+
+impl<'r> Model for Inbox<'r> {
+    ghost use Rattle.batch_inbox.specs.States.{InboxId, inbox_of};
+
+    ghost Value = { InboxId };
+
+    ghost view = { λ i. inbox_of i.queue.web (record { address = i.address; digits = i.digits }) };
+}
+
+impl<'r> Drop for Inbox<'r> {
+    fn drop(self) {
+        let Self {
+            queue,
+            address: _,
+            digits: _,
+        } = self;
+        queue.destroy();
+    }
+}
+
+impl<'r> Inbox<'r> {
+    /// An empty inbox of the desk `address`, with the seats of its senders, numbered from 0.
+    ///
+    /// Owner numbers are read as `digits` says: in its profile, and with digits of its width.
+    pub fn new(
+        alloc: Global,
+        address: u16,
+        digits: Digits,
+        senders: u16,
+    ) -> Result<(Inbox<'r>, TakeSeat<'r>, Vec<SendSeat<'r>>), NoMemory>
+        requires senders { (1 ≤ senders) × (senders ≤ 64) }
+        ensures inbox { IfOk result (λ r. r.0.place ≡ record { address = address; digits = digits }) }
+        ensures receiver { IfOk result (λ r. r.1 ≡ record { inbox = r.0; senders = senders; taken = [] }) }
+        ensures senders { IfOk result (λ r.
+            AreSeatsOf r.0 r.2.items × (length r.2.items ≡ senders) × AreNew r.2.items) }
+    {
+        let (queue, mut pass) = Line::with_rule(alloc)?;
+        opened::<Brand>(&queue, &mut pass, address, digits);
+        let inbox = Inbox {
+            queue,
+            address,
+            digits,
+        };
+        let seats = seated(alloc, &inbox.queue, &mut pass, senders)?;
+        Ok((inbox, TakeSeat { pass }, seats))
+    }
+
+    /// The desk that takes from it, to which each batch in it is addressed.
+    pub fn address(&self) -> u16
+        ensures { result ≡ self.now.place.address }
+    {
+        self.address
+    }
+
+    /// How the numbers of the owners in its batches are read.
+    pub fn digits(&self) -> Digits
+        ensures { result ≡ self.now.place.digits }
+    {
+        self.digits
+    }
+
+    /// Posts a batch, which goes last.
+    ///
+    /// It is refused where the queue needs memory and gets none. The batch then comes back.
+    pub fn post<R: Wait>(
+        &self,
+        rt: &R,
+        seat: &mut SendSeat<'r>,
+        batch: Batch<'r>,
+    ) -> Result<(), (Batch<'r>, PostError)>
+        requires seat { seat.old.inbox ≡ self.now }
+        requires batch { (place_of batch ≡ self.now.place) × (batch.sender ≡ seat.old.sender) }
+        ensures seat { (seat.new.inbox ≡ seat.old.inbox) × (seat.new.sender ≡ seat.old.sender) }
+        ensures batch { MatchResult result
+            (λ _. seat.new.sent ≡ seat.old.sent ++ batch.entry ∷ [])
+            (λ e. (e.0 ≡ batch.entry) × (seat.new ≡ seat.old)) }
+    {
+        match self.queue.push_as::<Posts, R>(rt, &mut seat.pass, batch) {
+            Ok(()) => Ok(()),
+            Err(batch) => Err((batch, PostError::NoRoom)),
+        }
+    }
+
+    /// Takes the first batch. `None` is answered only where the inbox was empty at some moment of
+    /// the call ([`Inbox::take_and`] has that as a clause).
+    pub fn take<R: Wait>(&self, rt: &R, seat: &mut TakeSeat<'r>) -> Option<Batch<'r>>
+        requires { seat.old.inbox ≡ self.now }
+        ensures seat { (seat.new.inbox ≡ seat.old.inbox) × (seat.new.senders ≡ seat.old.senders) }
+        ensures batch { MatchOption result
+            (seat.new.taken ≡ seat.old.taken)
+            (λ x. (seat.new.taken ≡ seat.old.taken ++ x ∷ []) × (place_of x ≡ self.now.place)) }
+    {
+        self.take_and::<Nothing, R>(rt, seat)
+    }
+
+    /// Takes the first batch, and knows more at `None`: that the inbox was empty at some moment of
+    /// the call.
+    ///
+    /// No clause can name what a shared queue holds. So the caller brings a lesson `L`: a fact that
+    /// the rule of the inbox teaches the receiver, whatever the queue holds. At `None` the fact is
+    /// told of the empty queue. This call knows nothing of the lesson, so it can't be told where
+    /// the queue was never empty.
+    pub fn take_and<L: Lesson<Batch<'r>, View<'r>>, R: Wait>(
+        &self,
+        rt: &R,
+        seat: &mut TakeSeat<'r>,
+    ) -> Option<Batch<'r>>
+        requires seat { seat.old.inbox ≡ self.now }
+        requires lesson { (pass : ℕ) → Learns IsInOrder pass (view_of seat.old) (L.fact (view_of seat.old)) }
+        ensures seat { (seat.new.inbox ≡ seat.old.inbox) × (seat.new.senders ≡ seat.old.senders) }
+        ensures batch { MatchOption result
+            (seat.new.taken ≡ seat.old.taken)
+            (λ x. (seat.new.taken ≡ seat.old.taken ++ x ∷ []) × (place_of x ≡ self.now.place)) }
+        ensures empty { IfNone result (L.fact (view_of seat.old) []) }
+    {
+        self.queue.pop_as::<Takes<L>, R>(rt, &mut seat.pass)
+    }
+
+    /// Ends the inbox, given all its seats. What was sent and not taken is left, of each sender in
+    /// its order.
+    pub fn drain<R: Wait>(self, rt: &R, seat: TakeSeat<'r>, seats: Vec<SendSeat<'r>>) -> Rest<'r>
+        requires seat { seat.inbox ≡ self }
+        requires seats { AreSeatsOf self seats.items × (length seats.items ≡ seat.senders) }
+        ensures all { (k : ℕ) (s : SendState) → slice_get seats.entry.items k ≡ Some s
+            → s.sent ≡ batches_of k seat.entry.taken ++ left result k }
+        ensures only { (k : ℕ) → length seats.entry.items ≤ k
+            → (batches_of k seat.entry.taken ≡ []) × (left result k ≡ []) }
+    {
+        let Self {
+            queue,
+            address: _,
+            digits: _,
+        } = self;
+        let TakeSeat { mut pass } = seat;
+        for seat in seats {
+            let SendSeat {
+                pass: other,
+                sender: _,
+            } = seat;
+            queue.absorb::<Seats>(&mut pass, other);
+        }
+        queue.len_as::<Rests, R>(rt, &mut pass);
+        Rest { queue, pass }
+    }
+}
