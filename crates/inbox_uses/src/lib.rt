@@ -1,0 +1,24 @@
+//! Callers of `batch_inbox`: what they learn from its contracts, and its tests, with real threads.
+//!
+//! The pool itself calls nothing of this crate.
+#![tactic(auto)]
+
+mod counting;
+mod crossing;
+mod handling;
+mod posting;
+mod seating;
+mod taking;
+#[cfg(test)]
+mod tests;
+mod workers;
+
+pub use counting::Counting;
+pub use crossing::{
+    batch_crosses, inbox_is_shared, rest_crosses, send_seat_crosses, take_seat_crosses,
+};
+pub use handling::take_and_handle;
+pub use posting::{Posting, add_sender, deliver, post_all};
+pub use seating::{put_seat, take_last_seat};
+pub use taking::{Taking, Tally, mark, mark_of};
+pub use workers::{Worker, run_all, run_beside, run_both};
