@@ -21,6 +21,9 @@ const BATCHES: u16 = 10_000;
 
 const SENDERS: u16 = 8;
 
+// How often the storm is run.
+const RUNS: u32 = 10;
+
 // Chunks for all of them.
 const CHUNKS: usize = 313;
 
@@ -231,7 +234,9 @@ fn storm<'r, R: Abort + Wait + Threads + Sync>(rt: &R, alloc: Global, parts: Vec
 
 #[test]
 fn what_eight_threads_post_is_taken_while_they_post(rt: HostRuntime) {
-    let mut region = region(&rt, rt.alloc(), CHUNKS);
-    let parts = parts(&rt, rt.alloc(), &mut region);
-    storm(&rt, rt.alloc(), parts);
+    for _ in 0..RUNS {
+        let mut region = region(&rt, rt.alloc(), CHUNKS);
+        let parts = parts(&rt, rt.alloc(), &mut region);
+        storm(&rt, rt.alloc(), parts);
+    }
 }
