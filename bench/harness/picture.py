@@ -1,0 +1,30 @@
+"""Bars as SVG: a group for each workload, a bar for each allocator, shorter is better."""
+
+HEIGHT, GAP, LEFT, WIDTH = 16, 14, 150, 520
+COLORS = {"desk": "#b5472a"}
+OTHER = "#8a97a8"
+
+
+def bars(groups, names):
+    """The picture of nanoseconds by group and name."""
+    most = max(values[name] for values in groups.values() for name in names)
+    parts, y = [], 30
+    for group, values in groups.items():
+        parts.append(text(LEFT - 60, y + HEIGHT * len(names) / 2, group, "end", "bold"))
+        for name in names:
+            parts.append(bar(y, name, values[name], values[name] / most * WIDTH))
+            y += HEIGHT
+        y += GAP
+    head = text(10, 18, "Nanoseconds for one buffer lent and freed, without the loop; shorter is better", "start", "normal")
+    size = f'width="{LEFT + WIDTH + 60}" height="{y}"'
+    return f'<svg xmlns="http://www.w3.org/2000/svg" {size} font-family="sans-serif" font-size="12">\n' + "\n".join([head, *parts]) + "\n</svg>\n"
+
+
+def bar(y, name, value, width):
+    color = COLORS.get(name, OTHER)
+    rectangle = f'<rect x="{LEFT}" y="{y + 2}" width="{max(width, 1):.1f}" height="{HEIGHT - 4}" fill="{color}"/>'
+    return "\n".join([text(LEFT - 6, y + HEIGHT - 4, name, "end", "normal"), rectangle, text(LEFT + width + 5, y + HEIGHT - 4, f"{value:.1f}", "start", "normal")])
+
+
+def text(x, y, words, anchor, weight):
+    return f'<text x="{x:.1f}" y="{y:.1f}" text-anchor="{anchor}" font-weight="{weight}" fill="#333">{words}</text>'

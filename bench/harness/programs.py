@@ -1,0 +1,110 @@
+"""Builds what is measured.
+
+A Rattle program of this folder is no crate of the repository, so that `rt ci` doesn't prove it: its files end in `.in`. It is built in a work folder
+outside, together with copies of the crates that it stands on. Proofs that a check of those crates has kept are copied too, and nothing is written
+back."""
+import contextlib
+import fcntl
+import os
+import shutil
+import subprocess
+import sys
+from pathlib import Path
+
+HERE = Path(__file__).resolve().parent.parent
+TOP = HERE.parent
+OUT = HERE / "out"
+WORK = Path(os.environ.get("XDG_CACHE_HOME") or Path.home() / ".cache") / "fustrevol-bench"
+
+
+@contextlib.contextmanager
+def only_one():
+    """Waits until no other measurement runs: two would disturb one another, and they share the work folder."""
+    WORK.mkdir(parents=True, exist_ok=True)
+    OUT.mkdir(exist_ok=True)
+    with open(WORK / "lock", "w") as lock:
+        fcntl.flock(lock, fcntl.LOCK_EX)
+        yield
+
+
+def compiled(name, sources, command):
+    """A program in out/, made anew where a source is newer."""
+    OUT.mkdir(exist_ok=True)
+    program = OUT / name
+    newest = max(source.stat().st_mtime for source in sources)
+    if not program.exists() or program.stat().st_mtime < newest:
+        subprocess.run([*command, "-o", program], check=True)
+    return program
+
+
+def cpp_bench():
+    folder = HERE / "cpp"
+    flags = ["-std=c++17", "-O2", "-Wall", "-Wextra", "-fno-builtin-malloc"]
+    return compiled("cpp_bench", [*folder.iterdir()], ["g++", *flags, folder / "cpp_bench.cpp"])
+
+
+def parse():
+    source = HERE / "replay" / "parse.c"
+    return compiled("parse", [source], ["gcc", "-O2", "-Wall", "-Wextra", source])
+
+
+def crates():
+    """The lines of both lists, by the crate's name."""
+    lines = [*(TOP / "crates.txt").read_text().splitlines(), *(HERE / "crates.txt.in").read_text().splitlines()]
+    return {line.partition(":")[0].split()[0]: line for line in lines if line.strip() and not line.startswith("#")}
+
+
+def needed(name, lines):
+    """The crate and all of ours that it stands on."""
+    found = [name]
+    for crate in found:
+        found += [it for it in lines[crate].partition(":")[2].split() if it in lines and it not in found]
+    return found
+
+
+def renew(folder, at):
+    """Makes `at` a copy of the folder, with no `.in` behind the names of its files."""
+    shutil.rmtree(at, ignore_errors=True)
+    for source in folder.rglob("*"):
+        if source.is_file():
+            to = at / source.relative_to(folder)
+            to.parent.mkdir(parents=True, exist_ok=True)
+            shutil.copyfile(source, to.with_name(to.name.removesuffix(".in")))
+
+
+def take_proofs(crate, to):
+    """Copies the proofs that the crate has kept, unless they were taken before."""
+    stamp, taken = crate / "out/rlib/stamp", to / "taken"
+    if stamp.exists() and (not taken.exists() or taken.read_text() != stamp.read_text()):
+        shutil.rmtree(to / "out/rlib", ignore_errors=True)
+        shutil.copytree(crate / "out/rlib", to / "out/rlib")
+        shutil.copyfile(stamp, taken)
+
+
+def rattle_program(name, words):
+    """Proves and builds a Rattle program, and runs it once with these words."""
+    lines = crates()
+    names = needed(name, lines)
+    for it in names:
+        is_ours = (HERE / it).is_dir()
+        crate, to = HERE / it if is_ours else TOP / "crates" / it, WORK / "crates" / it
+        for part in ("src", "specs", "proofs"):
+            renew(crate / part, to / part)
+        if not is_ours:
+            take_proofs(crate, to)
+    (WORK / "crates.txt").write_text("".join(f"{lines[it]}\n" for it in names))
+    shutil.copyfile(TOP / "HANDLES", WORK / "HANDLES")
+    print(f"bench: building {name} in {WORK}; the first time proves it, which takes minutes", file=sys.stderr)
+    with open(OUT / f"{name}.log", "w") as log:
+        ran = subprocess.run(["rt", "run", "--jobs", "1", "--", *words], cwd=WORK / "crates" / name, stdin=subprocess.DEVNULL, stdout=log, stderr=log)
+    if ran.returncode:
+        sys.exit(f"bench: {name} was not built: {log.name} says why")
+    return WORK / "crates" / name / "out" / name
+
+
+def desk_bench():
+    return rattle_program("desk_bench", ["pair", "1000", "1"])
+
+
+def poolctl():
+    return rattle_program("poolctl", ["classes"])
