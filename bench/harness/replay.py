@@ -9,6 +9,9 @@ from .text import aligned, number
 LINES = 1_000_000
 KINDS = ["pairs", "replace", "remote", "mesh", "nothing"]
 
+# The kind whose requests are refused. A trace of another kind knows in which order slots come home, so where that changes its requests are refused.
+REFUSED = "nothing"
+
 
 def trace(kind):
     """A trace of this kind, made once."""
@@ -17,6 +20,14 @@ def trace(kind):
         with open(path, "w") as file:
             subprocess.run([programs.HERE / "replay" / "traces.py", kind, str(LINES)], stdout=file, check=True)
     return path
+
+
+def check(poolctl, path):
+    """Stops where a request of the trace is refused."""
+    with open(path, "rb") as file:
+        report = subprocess.run([poolctl, "replay"], stdin=file, stdout=subprocess.PIPE, check=True).stdout
+    if b"\nR" in report:
+        raise SystemExit(f"bench: the pool refuses a request of {path.name}")
 
 
 def seconds(command, path, core):
@@ -32,9 +43,12 @@ def seconds(command, path, core):
 
 
 def measure(given):
-    programs.OUT.mkdir(exist_ok=True)
-    commands = {"parse": [programs.parse()], "poolctl": [programs.poolctl(), "replay"]}
+    poolctl = programs.poolctl()
+    commands = {"parse": [programs.parse()], "poolctl": [poolctl, "replay"]}
     traces = {kind: trace(kind) for kind in KINDS}
+    for kind in KINDS:
+        if kind != REFUSED:
+            check(poolctl, traces[kind])
     rounds = max(3, given.rounds // 4)
     least = {}
     for _round in range(rounds):

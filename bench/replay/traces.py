@@ -39,7 +39,7 @@ class Pool:
         self.lines = [f"pool {desks} {CHUNKS} {width}", *(f"adopt {desk} {desk}" for desk in range(desks))]
         self.kinds = []  # the owner and the class of each chunk
         self.homes = defaultdict(list)  # slots at home, by owner and class, the last on top
-        self.caches = defaultdict(list)  # others' slots, by desk, as they came
+        self.caches = defaultdict(lambda: defaultdict(list))  # others' slots, by desk and lowest digit of the owner, as they came
         self.cached_bytes = defaultdict(int)
         self.batches = 0
 
@@ -73,7 +73,7 @@ class Pool:
         if self.owner(slot) == desk:
             self.homes[self.kinds[slot[0]]].append(slot)
         else:
-            self.caches[desk].append(slot)
+            self.caches[desk][self.owner(slot) % (1 << self.width)].append(slot)
             self.cached_bytes[desk] += self.size(slot)
 
     def is_due(self, desk):
@@ -84,21 +84,20 @@ class Pool:
         due = [desk]
         while due:
             sender = due.pop()
-            while self.caches[sender]:
+            while any(self.caches[sender].values()):
                 address = self.send(sender)
                 if self.is_due(address):
                     due.append(address)
 
     def send(self, sender):
-        """Sends what goes to the owner of some cached slot: all whose owners share more digits with it than the sender does."""
-        address = self.owner(self.caches[sender][-1])
+        """Sends what goes to the owner of some cached slot: all whose owners share more digits with it than the sender does. The others' order turns."""
+        digit, cached = next((digit, cached) for digit, cached in self.caches[sender].items() if cached)
+        address = self.owner(cached[-1])
         near = digits_in_common(sender, address, self.width)
-        goes, stays = [], []
-        for slot in self.caches[sender]:
-            is_nearer = digits_in_common(self.owner(slot), address, self.width) > near
-            (goes if is_nearer else stays).append(slot)
-        self.caches[sender] = stays
-        self.cached_bytes[sender] = sum(map(self.size, stays))
+        is_nearer = lambda slot: digits_in_common(self.owner(slot), address, self.width) > near
+        goes = [slot for slot in cached if is_nearer(slot)]
+        self.caches[sender][digit] = [slot for slot in reversed(cached) if not is_nearer(slot)]
+        self.cached_bytes[sender] -= sum(map(self.size, goes))
         self.batches += 1
         self.lines += [f"send {sender} {address}", f"link {self.batches}", f"take {address}"]
         for slot in goes:
