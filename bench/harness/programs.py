@@ -48,10 +48,15 @@ def parse():
     return compiled("parse", [source], ["gcc", "-O2", "-Wall", "-Wextra", source])
 
 
-def crates():
-    """The lines of both lists, by the crate's name."""
-    lines = [*(TOP / "crates.txt").read_text().splitlines(), *(HERE / "crates.txt.in").read_text().splitlines()]
+def listed(file):
+    """The lines of a list of crates, by the crate's name."""
+    lines = file.read_text().splitlines()
     return {line.partition(":")[0].split()[0]: line for line in lines if line.strip() and not line.startswith("#")}
+
+
+def further():
+    """The programs of crates.txt.in beside the one that the tables are of: each prints a table of its own."""
+    return [name for name in listed(HERE / "crates.txt.in") if name != "desk_bench"]
 
 
 def needed(name, lines):
@@ -83,7 +88,7 @@ def take_proofs(crate, to):
 
 def rattle_program(name, words):
     """Proves and builds a Rattle program, and runs it once with these words."""
-    lines = crates()
+    lines = listed(TOP / "crates.txt") | listed(HERE / "crates.txt.in")
     names = needed(name, lines)
     for it in names:
         is_ours = (HERE / it).is_dir()
