@@ -1,9 +1,10 @@
-// What malloc and free cost in the loops of ../desk_bench: nanoseconds for one buffer of the best turn. Start it with LD_PRELOAD for another malloc.
+// What malloc and free cost in the loops of ../desk_bench: nanoseconds for one buffer of the best turn. Start it with
+// LD_PRELOAD for another malloc.
 //
 //   cpp_bench LENDER WORKLOAD COUNT TURNS
 //
-// LENDER is malloc, or nothing for the loop alone, or a pool of shapes.hpp. TURNS turns of COUNT buffers are run, and the workload, the nanoseconds and
-// the sum of the sizes are printed.
+// LENDER is malloc, or nothing for the loop alone, or a pool of shapes.hpp. TURNS turns of COUNT buffers are run, and
+// the workload, the nanoseconds and the sum of the sizes are printed.
 #include "lenders.hpp"
 #include "loops.hpp"
 #include "shapes.hpp"

@@ -21,6 +21,7 @@ def commit():
 def described(given):
     load = os.getloadavg()[0]
     return (
-        f"{datetime.date.today()}, {commit()}, {processor()}, {os.cpu_count()} cores, load {load:.1f}, pinned to core {given.core}\n"
+        f"{datetime.date.today()}, {commit()}, {processor()}, {os.cpu_count()} cores, load {load:.1f}, "
+        f"pinned to core {given.core}\n"
         f"least of {given.rounds} runs of 3 turns of {given.count} buffers, in turn"
     )

@@ -9,7 +9,8 @@ TURNS = 3
 
 @dataclass(frozen=True)
 class Column:
-    """A program with the words that stand before and behind the workload, the count and the turns; and the allocator that it is started with."""
+    """A program with the words that stand before and behind the workload, the count and the turns; and the allocator
+    that it is started with."""
 
     name: str
     program: str

@@ -35,8 +35,9 @@ def has(command):
 
 
 def missing():
-    """Lines that say what is missing and which packages have it. Without a compiler or rt nothing can be measured, so it stops."""
-    lines = [f"bench: no {peer.name}: it stands in the Debian package {peer.package}" for peer in PEERS if peer.path() is None]
+    """Lines that say what is missing and which packages have it. Without a compiler or rt it stops."""
+    absent = [peer for peer in PEERS if peer.path() is None]
+    lines = [f"bench: no {peer.name}: it stands in the Debian package {peer.package}" for peer in absent]
     if not has("valgrind"):
         lines.append("bench: no instruction counts: valgrind stands in the Debian package valgrind")
     if not has("g++"):

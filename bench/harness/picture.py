@@ -15,15 +15,20 @@ def bars(groups, names):
             parts.append(bar(y, name, values[name], values[name] / most * WIDTH))
             y += HEIGHT
         y += GAP
-    head = text(10, 18, "Nanoseconds for one buffer lent and freed, without the loop; shorter is better", "start", "normal")
+    words = "Nanoseconds for one buffer lent and freed, without the loop; shorter is better"
+    head = text(10, 18, words, "start", "normal")
     size = f'width="{LEFT + WIDTH + 60}" height="{y}"'
-    return f'<svg xmlns="http://www.w3.org/2000/svg" {size} font-family="sans-serif" font-size="12">\n' + "\n".join([head, *parts]) + "\n</svg>\n"
+    opening = f'<svg xmlns="http://www.w3.org/2000/svg" {size} font-family="sans-serif" font-size="12">'
+    return "\n".join([opening, head, *parts, "</svg>\n"])
 
 
 def bar(y, name, value, width):
     color = COLORS.get(name, OTHER)
+    line = y + HEIGHT - 4
+    before = text(LEFT - 6, line, name, "end", "normal")
     rectangle = f'<rect x="{LEFT}" y="{y + 2}" width="{max(width, 1):.1f}" height="{HEIGHT - 4}" fill="{color}"/>'
-    return "\n".join([text(LEFT - 6, y + HEIGHT - 4, name, "end", "normal"), rectangle, text(LEFT + width + 5, y + HEIGHT - 4, f"{value:.1f}", "start", "normal")])
+    behind = text(LEFT + width + 5, line, f"{value:.1f}", "start", "normal")
+    return "\n".join([before, rectangle, behind])
 
 
 def text(x, y, words, anchor, weight):

@@ -1,8 +1,8 @@
 """Builds what is measured.
 
-A Rattle program of this folder is no crate of the repository, so that `rt ci` doesn't prove it: its files end in `.in`. It is built in a work folder
-outside, together with copies of the crates that it stands on. Proofs that a check of those crates has kept are copied too, and nothing is written
-back."""
+A Rattle program of this folder is no crate of the repository, so that `rt ci` doesn't prove it: its files end in `.in`.
+It is built in a work folder outside, together with copies of the crates that it stands on. Proofs that a check of those
+crates has kept are copied too, and nothing is written back."""
 import contextlib
 import fcntl
 import os
@@ -101,7 +101,8 @@ def rattle_program(name, words):
     shutil.copyfile(TOP / "HANDLES", WORK / "HANDLES")
     print(f"bench: building {name} in {WORK}; the first time proves it, which takes minutes", file=sys.stderr)
     with open(OUT / f"{name}.log", "w") as log:
-        ran = subprocess.run(["rt", "run", "--jobs", "1", "--", *words], cwd=WORK / "crates" / name, stdin=subprocess.DEVNULL, stdout=log, stderr=log)
+        command = ["rt", "run", "--jobs", "1", "--", *words]
+        ran = subprocess.run(command, cwd=WORK / "crates" / name, stdin=subprocess.DEVNULL, stdout=log, stderr=log)
     if ran.returncode:
         sys.exit(f"bench: {name} was not built: {log.name} says why")
     return WORK / "crates" / name / "out" / name

@@ -1,4 +1,5 @@
-"""Traces of a million lines: `poolctl replay` beside a C program that reads the same lines, parses them and writes as many answers."""
+"""Traces of a million lines: `poolctl replay` beside a C program that reads the same lines, parses them and writes as
+many answers."""
 import resource
 import subprocess
 
@@ -9,7 +10,8 @@ from .text import aligned, number
 LINES = 1_000_000
 KINDS = ["pairs", "replace", "remote", "mesh", "nothing"]
 
-# The kind whose requests are refused. A trace of another kind knows in which order slots come home, so where that changes its requests are refused.
+# The kind whose requests are refused. A trace of another kind knows in which order slots come home, so where that
+# changes its requests are refused.
 REFUSED = "nothing"
 
 
@@ -37,8 +39,9 @@ def seconds(command, path, core):
         return usage.ru_utime + usage.ru_stime
 
     before = used()
+    quiet = {"stdout": subprocess.DEVNULL, "stderr": subprocess.DEVNULL}
     with open(path, "rb") as file:
-        subprocess.run(command, stdin=file, stdout=subprocess.DEVNULL, stderr=subprocess.DEVNULL, check=True, preexec_fn=pinned(core))
+        subprocess.run(command, stdin=file, check=True, preexec_fn=pinned(core), **quiet)
     return used() - before
 
 

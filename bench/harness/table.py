@@ -22,7 +22,8 @@ COUNTED_COLD = 7_000
 def columns():
     cpp = programs.cpp_bench()
     desk = programs.desk_bench()
-    peers = [Column(peer.name, cpp, before=("malloc",), preload=peer.path()) for peer in PEERS if peer.path() is not None]
+    installed = [peer for peer in PEERS if peer.path() is not None]
+    peers = [Column(peer.name, cpp, before=("malloc",), preload=peer.path()) for peer in installed]
     shapes = [Column(shape, cpp, before=(shape,)) for shape in SHAPES]
     loops = Column("loop", cpp, before=("nothing",)), Column("desk's loop", desk, behind=("loop",))
     return peers, shapes, loops, Column("desk", desk)
@@ -52,7 +53,8 @@ def without_loop(times, workload, column, loop):
 
 def net_rows(nets, peers, shapes, counts):
     names = [it.name for it in peers]
-    rows = [["ns without the loop", *names, "desk", "to the best", *(f"({it.name})" for it in shapes), "instructions", "with the loop"]]
+    shape_names = [f"({it.name})" for it in shapes]
+    rows = [["ns without the loop", *names, "desk", "to the best", *shape_names, "instructions", "with the loop"]]
     for workload, net in nets.items():
         best = min((net[name] for name in names if net[name] is not None), default=None)
         ratio = "-" if best is None else f"{net['desk'] / best:.2f}"
@@ -73,7 +75,9 @@ def measure(given):
     for workload in SHARED + OWN:
         nets[workload] = {it.name: without_loop(times, workload, it, cpp_loop) for it in [*peers, *shapes]}
         nets[workload]["desk"] = without_loop(times, workload, desk, desk_loop)
-    text = measured_rows(times, [cpp_loop, *peers, *shapes, desk_loop, desk]) + "\n\n" + net_rows(nets, peers, shapes, counts) + "\n"
+    measured = measured_rows(times, [cpp_loop, *peers, *shapes, desk_loop, desk])
+    text = f"{measured}\n\n{net_rows(nets, peers, shapes, counts)}\n"
     (programs.OUT / "table.txt").write_text(text)
-    (programs.OUT / "table.svg").write_text(picture.bars({it: nets[it] for it in SHARED}, [it.name for it in peers] + ["desk"]))
+    bars = picture.bars({it: nets[it] for it in SHARED}, [*(it.name for it in peers), "desk"])
+    (programs.OUT / "table.svg").write_text(bars)
     return f"{text}\nbars: {programs.OUT / 'table.svg'}\n"

@@ -6,7 +6,10 @@ from .measure import Column, least
 from .text import aligned, number
 
 LENGTHS = [100, 1_000, 10_000, 100_000]
-WALKS = {"append": "Chain::append, of the buffers that are put on top", "send": "Desk::batch_for a desk that owns none of its bucket"}
+WALKS = {
+    "append": "Chain::append, of the buffers that are put on top",
+    "send": "Desk::batch_for a desk that owns none of its bucket",
+}
 
 
 def measure(given):

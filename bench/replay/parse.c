@@ -1,5 +1,6 @@
-// What the lines of a trace cost with no pool behind them: reads each, parses it as `poolctl replay` does (a verb, and numbers of at most 32 bits behind
-// one space each), and writes an answer of the usual length. Its buffers are of 8,192 bytes, as poolctl's.
+// What the lines of a trace cost with no pool behind them: reads each, parses it as `poolctl replay` does (a verb, and
+// numbers of at most 32 bits behind one space each), and writes an answer of the usual length. Its buffers are of
+// 8,192 bytes, as poolctl's.
 #include <stdbool.h>
 #include <stdint.h>
 #include <stdio.h>
@@ -45,7 +46,9 @@ static bool number(const char **text, uint64_t *value) {
   return true;
 }
 
-static bool is_verb(const char *line, size_t length, const char *verb) { return length == strlen(verb) && !memcmp(line, verb, length); }
+static bool is_verb(const char *line, size_t length, const char *verb) {
+  return length == strlen(verb) && !memcmp(line, verb, length);
+}
 
 // the numbers behind the verb
 static bool parsed(const char *line, uint64_t numbers[3]) {

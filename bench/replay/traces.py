@@ -1,5 +1,6 @@
 #!/usr/bin/env python3
-"""traces.py KIND LINES: a trace for `poolctl replay`, whose requests all succeed, of so many lines with the header. Each kind is always the same.
+"""traces.py KIND LINES: a trace for `poolctl replay`, whose requests all succeed, of so many lines with the header.
+Each kind is always the same.
 
   pairs     one desk: from 1 to 512 bytes are lent and freed at once
   replace   one desk: 1,024 buffers are lent; the oldest is freed, and another is lent
@@ -39,7 +40,8 @@ class Pool:
         self.lines = [f"pool {desks} {CHUNKS} {width}", *(f"adopt {desk} {desk}" for desk in range(desks))]
         self.kinds = []  # the owner and the class of each chunk
         self.homes = defaultdict(list)  # slots at home, by owner and class, the last on top
-        self.caches = defaultdict(lambda: defaultdict(list))  # others' slots, by desk and lowest digit of the owner, as they came
+        # others' slots, by desk and lowest digit of the owner, as they came
+        self.caches = defaultdict(lambda: defaultdict(list))
         self.cached_bytes = defaultdict(int)
         self.batches = 0
 
@@ -90,7 +92,8 @@ class Pool:
                     due.append(address)
 
     def send(self, sender):
-        """Sends what goes to the owner of some cached slot: all whose owners share more digits with it than the sender does. The others' order turns."""
+        """Sends what goes to the owner of some cached slot: all whose owners share more digits with it than the sender
+        does. The others' order turns."""
         digit, cached = next((digit, cached) for digit, cached in self.caches[sender].items() if cached)
         address = self.owner(cached[-1])
         near = digits_in_common(sender, address, self.width)
