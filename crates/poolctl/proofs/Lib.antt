@@ -1,2 +1,3 @@
 mod Lines
+mod Spelled
 mod Written

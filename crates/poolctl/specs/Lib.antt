@@ -1,3 +1,5 @@
+pub mod CommandLine
+pub mod Asked
 pub mod Outcomes
 pub mod Classes
 pub mod Commands

@@ -1,16 +1,38 @@
--- How the subcommand `replay` ends.
-use Rattle.std.specs.Prelude.{ℕ, List, Option, Some, None, Result, Ok, Err}
-use Rattle.std.specs.Io.KnownBytes.{Appends}
-use Rattle.trace_audit.specs.Replay.{Reports, with_audit}
+-- The exit status of each outcome, its words, and how a replay ends.
+use Rattle.std.specs.Prelude.{ℕ, List, [], ◌∷◌, ◌++◌, Option, Some, None, Result, Ok, Err, codes, string_bytes}
 use Rattle.trace_audit.specs.Report.{Verdict}
-use Rattle.trace_audit.specs.declared.auditing.fault.Fault.TheVariants.{NoMemory}
 use Rattle.trace_audit.specs.declared.replaying.ending.End.{End}
 use Rattle.trace_audit.specs.declared.replaying.ending.End.TheVariants.{Whole, BadLine, NoRoom}
 use Rattle.trace_audit.specs.declared.replaying.ending.ReplayError.{ReplayError}
 use Rattle.trace_audit.specs.declared.replaying.ending.ReplayError.TheVariants.{Read, Write}
 use Rattle.poolctl.specs.declared.outcome.Outcome.{Outcome}
-use Rattle.poolctl.specs.declared.outcome.Outcome.TheVariants.{Done, Stopped, AuditFailed, ReadFailed, WriteFailed}
+use Rattle.poolctl.specs.declared.outcome.Outcome.TheVariants.{Done, Stopped, AuditFailed, NoMemory, Refused, ReadFailed, WriteFailed}
 
+-- the exit status
+abbrev pub status_of : Outcome → ℕ
+status_of Done = 0
+status_of Stopped = 1
+status_of AuditFailed = 1
+status_of NoMemory = 1
+status_of (Refused text) = 2
+status_of ReadFailed = 3
+status_of WriteFailed = 3
+
+-- a line; 10 is the line feed
+abbrev pub line_of : List ℕ → List ℕ
+line_of text = text ++ 10 ∷ []
+
+-- what goes to standard error
+abbrev pub words_of : Outcome → List ℕ
+words_of Done = []
+words_of Stopped = []
+words_of AuditFailed = []
+words_of NoMemory = line_of (codes "poolctl: no memory")
+words_of (Refused text) = string_bytes text
+words_of ReadFailed = line_of (codes "poolctl: read failed")
+words_of WriteFailed = line_of (codes "poolctl: write failed")
+
+-- how `replay` ends
 abbrev pub outcome_of : Result End ReplayError → Outcome
 outcome_of (Ok Whole) = Done
 outcome_of (Ok (BadLine k)) = Stopped
@@ -24,7 +46,3 @@ audited_outcome_of (Ok (end, None)) = outcome_of (Ok end)
 audited_outcome_of (Ok (end, Some (Ok u))) = outcome_of (Ok end)
 audited_outcome_of (Ok (end, Some (Err fault))) = AuditFailed
 audited_outcome_of (Err e) = outcome_of (Err e)
-
--- a report was written, and behind it that there was no memory for its audit
-abbrev pub TellsNoMemory : Option (List ℕ) → Option (List ℕ) → Option (List ℕ) → Option (List ℕ) → Type 0
-TellsNoMemory left0 left out0 out = (end : End) × Reports left0 left (with_audit (Some (Err NoMemory)) (Appends out0 out)) end

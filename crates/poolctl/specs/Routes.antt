@@ -1,12 +1,6 @@
 -- What the subcommand `route` prints. 32 is a space, 10 the line feed.
 use Rattle.std.specs.Prelude.{ℕ, zero, suc, List, [], ◌∷◌, ◌++◌, codes, decimal}
-use Rattle.region_cut.specs.Classes.{bits_of}
-use Rattle.region_cut.specs.declared.profile.Profile.{Profile}
 use Rattle.digit_route.specs.Digits.{Scheme, digit, count, common}
-
--- digits of this width for the numbers of the profile
-abbrev pub scheme_of : Profile → ℕ → Scheme
-scheme_of p width = record { width = width; bits = bits_of p }
 
 -- the first n digits of a number, the least first, each behind a space
 abbrev pub digit_words : Scheme → ℕ → ℕ → List ℕ

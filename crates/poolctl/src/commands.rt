@@ -1,12 +1,14 @@
 //! What each subcommand does.
-ghost use Rattle.std.specs.Prelude.{◌≡◌, ◌↔◌, false, true};
-ghost use Rattle.poolctl.specs.Commands.{WritesAll, WritesUpTo};
-ghost use Rattle.poolctl.specs.Outcomes.{TellsNoMemory};
+ghost use Rattle.std.specs.Prelude.{◌≡◌, ◌≢◌, ◌↔◌, false, true, map, string_bytes};
+ghost use Rattle.clap.specs.Words.{takes};
+ghost use Rattle.poolctl.specs.CommandLine.{command_line};
+ghost use Rattle.poolctl.specs.Commands.{AsksFor, TellsNoMemory, WritesAll, WritesUpTo};
 
+use crate::asked::Asked;
 use crate::classes::write_classes;
 use crate::outcome::{Outcome, audited, replayed};
 use crate::route::write_route;
-use crate::words::{self, Asked, Unread};
+use crate::words::{self, Unread};
 use std::alloc::Global;
 use trace_audit::{Sink, Source, replay, replay_audited};
 
@@ -25,13 +27,19 @@ pub fn command<R: Source, W: Sink>(
     requires sink_down { W.has_failed sink.old ≡ false }
     ensures read { (R.has_failed source.new ≡ true) ↔ (result ≡ Outcome.ReadFailed) }
     ensures write { (W.has_failed sink.new ≡ true) ↔ (result ≡ Outcome.WriteFailed) }
+    // Where the command is done, all that the words ask for was written, and nothing else.
     ensures done { result ≡ Outcome.Done →
-        WritesAll (R.remaining source.old) (R.remaining source.new) (W.contents sink.old) (W.contents sink.new) }
+        AsksFor (map string_bytes words.now) (λ asked.
+        WritesAll asked (R.remaining source.old) (R.remaining source.new) (W.contents sink.old) (W.contents sink.new)) }
     ensures stopped { result ≡ Outcome.Stopped →
-        WritesUpTo (R.remaining source.old) (R.remaining source.new) (W.contents sink.old) (W.contents sink.new) }
-    ensures refused { (text : _) → result ≡ Outcome.Refused text → (source.new ≡ source.old) × (sink.new ≡ sink.old) }
+        AsksFor (map string_bytes words.now) (λ asked.
+        WritesUpTo asked (R.remaining source.old) (R.remaining source.new) (W.contents sink.old) (W.contents sink.new)) }
     ensures audit { result ≡ Outcome.AuditFailed →
-        TellsNoMemory (R.remaining source.old) (R.remaining source.new) (W.contents sink.old) (W.contents sink.new) }
+        AsksFor (map string_bytes words.now) (λ asked.
+        TellsNoMemory asked (R.remaining source.old) (R.remaining source.new) (W.contents sink.old) (W.contents sink.new)) }
+    // Words are refused only where `clap` doesn't take them, and then nothing is read or written.
+    ensures refused { (text : _) → result ≡ Outcome.Refused text →
+        (takes command_line (map string_bytes words.now) ≢ true) × (source.new ≡ source.old) × (sink.new ≡ sink.old) }
 {
     match words::read(alloc, words) {
         Ok(Asked::Classes(profile)) => write_classes(alloc, profile, sink),

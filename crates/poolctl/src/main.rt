@@ -1,6 +1,7 @@
 //! The command line over the buffer pool: traces replayed, the size classes, and routes.
 #![tactic(auto)]
 
+mod asked;
 mod classes;
 mod commands;
 mod outcome;
@@ -10,6 +11,7 @@ mod streams;
 mod tests;
 mod words;
 
+pub use asked::{Asked, Route};
 pub use commands::command;
 pub use outcome::Outcome;
 use std::process::ExitCode;

@@ -1,6 +1,6 @@
 //! How a command ends.
 ghost use Rattle.std.specs.Prelude.{◌≡◌};
-ghost use Rattle.poolctl.specs.Outcomes.{audited_outcome_of, outcome_of};
+ghost use Rattle.poolctl.specs.Outcomes.{audited_outcome_of, outcome_of, status_of, words_of};
 
 use trace_audit::{End, Fault, ReplayError};
 
@@ -27,7 +27,9 @@ pub enum Outcome {
 
 impl Outcome {
     /// The exit status.
-    pub fn status(&self) -> u8 {
+    pub fn status(&self) -> u8
+        ensures { result ≡ status_of self.now }
+    {
         match self {
             Outcome::Done => 0,
             Outcome::Stopped | Outcome::AuditFailed | Outcome::NoMemory => 1,
@@ -37,7 +39,9 @@ impl Outcome {
     }
 
     /// What goes to standard error, with its line feed; empty where there is nothing to say.
-    pub fn words(&self) -> &str {
+    pub fn words(&self) -> &str
+        ensures { result.now ≡ words_of self.now }
+    {
         match self {
             Outcome::Done | Outcome::Stopped | Outcome::AuditFailed => "",
             Outcome::NoMemory => "poolctl: no memory\n",

@@ -1,44 +1,13 @@
 //! The subcommands `route` and `route2`.
 ghost use Rattle.std.specs.Prelude.{◌≡◌, ◌≤◌, ◌++◌, ◌↔◌, ◌⊎◌, false, true, IfOk, string_bytes};
 ghost use Rattle.std.specs.Io.KnownBytes.{Appends};
-ghost use Rattle.poolctl.specs.Routes.{digits_line, number_line, route_text, scheme_of};
+ghost use Rattle.poolctl.specs.Routes.{digits_line, number_line, route_text};
 
+use crate::asked::Route;
 use crate::outcome::Outcome;
 use digit_route::Digits;
-use region_cut::Profile;
 use std::alloc::{AllocError, Global};
 use trace_audit::{Sink, write_all};
-
-/// Two desks of a pool: one that has a buffer, and its owner.
-#[derive(Clone, Copy, Debug, PartialEq, Eq, Drop)]
-pub struct Route {
-    /// How many bits a desk's number has.
-    pub profile: Profile,
-    /// How many bits a digit has.
-    pub width: u32,
-    /// The number of the desk that has the buffer.
-    pub from: u16,
-    /// The number of the desk that owns it.
-    pub owner: u16,
-    ghost width_low: { 1 ≤ width },
-    ghost width_high: { width ≤ 6 },
-}
-
-impl Route {
-    /// How the two numbers are read.
-    fn digits(self) -> Digits
-        ensures { result ≡ scheme_of self.profile self.width }
-    {
-        let digits = match self.profile {
-            Profile::Pool => Digits::new(self.width),
-            Profile::Pool2 => Digits::new2(self.width),
-        };
-        match digits {
-            Some(digits) => digits,
-            None => unreachable!(),
-        }
-    }
-}
 
 /// Adds the digits of a number, the least first, behind a word.
 fn push_digits(text: &mut String, word: &str, digits: Digits, number: u16) -> Result<(), AllocError>
@@ -79,11 +48,11 @@ pub fn write_route<W: Sink>(alloc: Global, route: Route, sink: &mut W) -> Outcom
     requires { W.has_failed sink.old ≡ false }
     ensures done { result ≡ Outcome.Done →
         Appends (W.contents sink.old) (W.contents sink.new)
-        (route_text (scheme_of route.profile route.width) route.from route.owner) }
+        (route_text route.digits route.from route.owner) }
     ensures known { (result ≡ Outcome.Done) ⊎ (result ≡ Outcome.NoMemory) ⊎ (result ≡ Outcome.WriteFailed) }
     ensures write { (W.has_failed sink.new ≡ true) ↔ (result ≡ Outcome.WriteFailed) }
 {
-    let Ok(text) = route_text(alloc, route.digits(), route.from, route.owner) else {
+    let Ok(text) = route_text(alloc, route.digits, route.from, route.owner) else {
         return Outcome::NoMemory;
     };
     match write_all(sink, text.as_str().as_bytes()) {

@@ -1,8 +1,31 @@
-use Rattle.poolctl.proofs.Written.{all_written, written_up_to}
+use Rattle.poolctl.proofs.Written.{all_written, no_memory_told, plain_up_to, written_up_to}
+use Rattle.poolctl.specs.declared.asked.Asked.TheVariants.{Replay, AuditedReplay}
 use Rattle.poolctl.proofs.commands.command.Goals as goal
 
+pub returns-in-Ok-Replay-clause-stopped : goal.returns-in-Ok-Replay-clause-stopped
+returns-in-Ok-Replay-clause-stopped g c = λ stopped. (
+  Replay,
+  (rw c.in-Ok-Replay.field-0-is at c.in-Ok-Replay.ensures.asked),
+  plain_up_to _ _ _ _ _ _ c.replayed.ensures c.replay.ensures.ended stopped,
+)
+
 pub returns-in-Ok-AuditedReplay-clause-done : goal.returns-in-Ok-AuditedReplay-clause-done
-returns-in-Ok-AuditedReplay-clause-done g c = all_written _ _ _ _ _ _ c.audited.ensures c.replay_audited.ensures.audit c.replay_audited.ensures.ended
+returns-in-Ok-AuditedReplay-clause-done g c = λ done. (
+  AuditedReplay,
+  (rw c.in-Ok-AuditedReplay.field-0-is at c.in-Ok-AuditedReplay.ensures.asked),
+  all_written _ _ _ _ _ _ c.audited.ensures c.replay_audited.ensures.audit c.replay_audited.ensures.ended done,
+)
 
 pub returns-in-Ok-AuditedReplay-clause-stopped : goal.returns-in-Ok-AuditedReplay-clause-stopped
-returns-in-Ok-AuditedReplay-clause-stopped g c = written_up_to _ _ _ _ _ _ c.audited.ensures c.replay_audited.ensures.audit c.replay_audited.ensures.ended
+returns-in-Ok-AuditedReplay-clause-stopped g c = λ stopped. (
+  AuditedReplay,
+  (rw c.in-Ok-AuditedReplay.field-0-is at c.in-Ok-AuditedReplay.ensures.asked),
+  written_up_to _ _ _ _ _ _ c.audited.ensures c.replay_audited.ensures.audit c.replay_audited.ensures.ended stopped,
+)
+
+pub returns-in-Ok-AuditedReplay-clause-audit : goal.returns-in-Ok-AuditedReplay-clause-audit
+returns-in-Ok-AuditedReplay-clause-audit g c = λ failed. (
+  AuditedReplay,
+  (rw c.in-Ok-AuditedReplay.field-0-is at c.in-Ok-AuditedReplay.ensures.asked),
+  no_memory_told _ _ _ _ _ _ c.audited.ensures c.replay_audited.ensures.audit c.replay_audited.ensures.ended failed,
+)
