@@ -1,0 +1,175 @@
+#!/usr/bin/env python3
+"""Runs tests with each of their allocations refused in turn, until a run meets no refusal.
+
+    python3 .ci/refused_memory.py [--most N] [CRATE..]
+
+takes the tests of these crates, or of all crates of callers (`NAME_uses`). A test has to hold whichever one of its
+allocations is refused: it ends by itself, and what it compares is as it has to be. With `--most N` at most N
+allocations of a test are refused, spread evenly over all that it makes.
+
+The tests are the built ones, `crates/NAME/out/NAME_tests`, which `rt ci` and `rt test` leave; where a crate has none,
+or one that is older than its sources, `rt test` makes it first. A small library that stands before the C library's
+refuses the allocation; `cc`, or the kit's clang, compiles it.
+
+Prints a line for each crate, and one for each refusal that a test doesn't bear. The exit status is 1 where there is
+one, and 2 where a test can't be run.
+"""
+import argparse
+import concurrent.futures
+import os
+import pathlib
+import shutil
+import subprocess
+import sys
+import tempfile
+import time
+
+TOP = pathlib.Path(__file__).resolve().parent.parent
+SECONDS = 60
+
+# Counts the allocations, and answers none for the one whose number is in REFUSE. At the end it tells the count.
+LIBRARY = r"""
+#define _GNU_SOURCE
+#include <dlfcn.h>
+#include <stdio.h>
+#include <stdlib.h>
+#include <fcntl.h>
+#include <unistd.h>
+
+static unsigned long count, refused;
+
+__attribute__((constructor)) static void start(void) {
+    const char *text = getenv("REFUSE");
+    refused = text ? strtoul(text, 0, 10) : 0;
+    count = 0;
+}
+
+static int is_refused(void) { return ++count == refused; }
+
+void *malloc(size_t size) {
+    static void *(*next)(size_t);
+    if (!next) next = dlsym(RTLD_NEXT, "malloc");
+    return is_refused() ? 0 : next(size);
+}
+
+void *realloc(void *old, size_t size) {
+    static void *(*next)(void *, size_t);
+    if (!next) next = dlsym(RTLD_NEXT, "realloc");
+    return is_refused() ? 0 : next(old, size);
+}
+
+__attribute__((destructor)) static void tell(void) {
+    const char *path = getenv("COUNTED");
+    int file = path ? open(path, O_WRONLY | O_CREAT | O_TRUNC, 0600) : -1;
+    if (file >= 0) {
+        dprintf(file, "%lu", count);
+        close(file);
+    }
+}
+"""
+
+
+def compiled(folder):
+    """The library, compiled into the folder."""
+    source, library = folder / "refuse.c", folder / "refuse.so"
+    source.write_text(LIBRARY)
+    kit = pathlib.Path(os.path.realpath(shutil.which("rt") or "rt")).parent.parent
+    for compiler in ["cc", "gcc", "clang", str(kit / "toolchain" / "bin" / "clang")]:
+        if shutil.which(compiler):
+            words = [compiler, "-O1", "-shared", "-fPIC", "-o", str(library), str(source), "-ldl"]
+            if subprocess.run(words, capture_output=True).returncode == 0:
+                return library
+    sys.exit("no compiler of C makes the library that refuses an allocation")
+
+
+def is_fresh(program, crate):
+    """Whether the program is younger than the crate's sources."""
+    sources = [path for kind in ("src", "specs", "proofs") for path in (crate / kind).rglob("*") if path.is_file()]
+    return program.exists() and all(path.stat().st_mtime <= program.stat().st_mtime for path in sources)
+
+
+def tests_of(crate):
+    """The built tests of the crate, and their names."""
+    program = crate / "out" / f"{crate.name}_tests"
+    if not is_fresh(program, crate):
+        run = subprocess.run(["rt", "test"], cwd=crate, capture_output=True, text=True)
+        if run.returncode != 0:
+            print(run.stdout + run.stderr)
+            sys.exit(2)
+    listed = subprocess.run([program, "--list"], capture_output=True, text=True, check=True).stdout
+    return program, [line[: -len(": test")] for line in listed.splitlines() if line.endswith(": test")]
+
+
+def ran(library, program, test, refused, counted):
+    """Why the test doesn't bear this refusal, None where it does, and how many allocations it asked for."""
+    environment = {**os.environ, "LD_PRELOAD": str(library), "REFUSE": str(refused), "COUNTED": str(counted)}
+    try:
+        run = subprocess.run([program, test], env=environment, capture_output=True, timeout=SECONDS)
+    except subprocess.TimeoutExpired:
+        return f"it had not ended after {SECONDS} seconds", refused
+    asked = int(counted.read_text()) if counted.exists() else refused
+    counted.unlink(missing_ok=True)
+    if run.returncode != 0:
+        said = (run.stdout + run.stderr).decode(errors="replace").strip()
+        return f"status {run.returncode}: {said[-600:]}", asked
+    return None, asked
+
+
+def spread(count, most):
+    """The numbers from 1 to count, or `most` of them."""
+    if most is None or count <= most:
+        return range(1, count + 1)
+    return sorted({1 + turn * (count - 1) // max(1, most - 1) for turn in range(most)})
+
+
+def tried(library, program, test, most, counted):
+    """How many refusals were tried, and those that the test doesn't bear."""
+    why, count = ran(library, program, test, 0, counted)
+    if why:
+        return 0, [f"{test}, with no refusal: {why}"]
+    failed, last = [], 0
+    for number in spread(count, most):
+        last = number
+        why, asked = ran(library, program, test, number, counted)
+        if why:
+            failed.append(f"{test}, allocation {number} refused: {why}")
+        count = max(count, asked)
+    # behind a refusal a test may ask for more than it does without one
+    while most is None and last < count:
+        last += 1
+        why, asked = ran(library, program, test, last, counted)
+        if why:
+            failed.append(f"{test}, allocation {last} refused: {why}")
+        count = max(count, asked)
+    return last if most is None else len(spread(count, most)), failed
+
+
+def main():
+    parser = argparse.ArgumentParser(description="Runs tests with each of their allocations refused in turn.")
+    parser.add_argument("--most", type=int, help="refuse at most so many allocations of a test")
+    parser.add_argument("crates", nargs="*", help="names of crates; none: all crates of callers")
+    asked = parser.parse_args()
+    names = asked.crates or sorted(path.name for path in (TOP / "crates").glob("*_uses"))
+    bad = False
+    with tempfile.TemporaryDirectory() as work:
+        library = compiled(pathlib.Path(work))
+        for name in names:
+            start = time.monotonic()
+            program, tests = tests_of(TOP / "crates" / name)
+            with concurrent.futures.ThreadPoolExecutor(len(os.sched_getaffinity(0))) as pool:
+                jobs = [
+                    pool.submit(tried, library, program, test, asked.most, pathlib.Path(work) / f"{name}-{place}")
+                    for place, test in enumerate(tests)
+                ]
+                ended = [job.result() for job in jobs]
+            failed = [line for _, lines in ended for line in lines]
+            for line in failed:
+                print(f"NOT BORNE: {name}: {line}")
+            count, seconds = sum(count for count, _ in ended), time.monotonic() - start
+            verdict = f"{len(failed)} not borne" if failed else "all borne"
+            print(f"{name}: {len(tests)} tests, {count} refusals, {verdict}, {seconds:.0f} s", flush=True)
+            bad = bad or bool(failed)
+    sys.exit(1 if bad else 0)
+
+
+main()
