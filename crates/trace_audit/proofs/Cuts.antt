@@ -6,8 +6,8 @@ use Rattle.region_cut.specs.declared.profile.Profile.TheVariants.{Pool, Pool2}
 use Rattle.trace_audit.specs.declared.grammar.header.Header.{Header}
 use Rattle.std.proofs.lemmas.Fmt.{decimal_injective}
 use Rattle.trace_audit.proofs.Numbers.{decimal_lacks}
-use Rattle.event_floor.specs.declared.request.Request.{Request}
-use Rattle.event_floor.specs.declared.request.Request.TheVariants.{Adopt, Retire, Claim, Alloc, Free, Send, Link, Take}
+use Rattle.pool_machine.specs.declared.request.Request.{Request}
+use Rattle.pool_machine.specs.declared.request.Request.TheVariants.{Adopt, Retire, Claim, Alloc, Free, Send, Link, Take}
 use Rattle.trace_audit.specs.declared.grammar.request.Verb.{Verb}
 use Rattle.trace_audit.specs.declared.grammar.request.Verb.TheVariants.{Adopts, Retires, Claims, Allocs, Frees, Sends, Links, Takes}
 

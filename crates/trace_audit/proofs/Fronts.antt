@@ -4,15 +4,15 @@ use Rattle.std.proofs.Math.ListN.{get_or-append}
 use Rattle.std.proofs.lemmas.Fmt.{length-decimal-le}
 use Rattle.trace_audit.specs.Grammar.{IsWord, Lacks, pair, verb_text, verb_of, words_of, spelling, IsRequest, profile_text, header_text, header_words, IsHeader}
 use Rattle.trace_audit.specs.Trace.{request_line}
-use Rattle.trace_audit.specs.Replay.{IsBadFront}
+use Rattle.trace_audit.specs.Steps.{IsBadFront}
 use Rattle.trace_audit.specs.Wire.{Begins}
 use Rattle.trace_audit.proofs.Numbers.{decimal_lacks}
 use Rattle.trace_audit.proofs.Cuts.{cut_once, marked, lacks_tested, header_words_fit}
 use Rattle.region_cut.specs.declared.profile.Profile.{Profile}
 use Rattle.region_cut.specs.declared.profile.Profile.TheVariants.{Pool, Pool2}
 use Rattle.trace_audit.specs.declared.grammar.header.Header.{Header}
-use Rattle.event_floor.specs.declared.request.Request.{Request}
-use Rattle.event_floor.specs.declared.request.Request.TheVariants.{Adopt, Retire, Claim, Alloc, Free, Send, Link, Take}
+use Rattle.pool_machine.specs.declared.request.Request.{Request}
+use Rattle.pool_machine.specs.declared.request.Request.TheVariants.{Adopt, Retire, Claim, Alloc, Free, Send, Link, Take}
 use Rattle.trace_audit.specs.declared.grammar.request.Verb.{Verb}
 use Rattle.trace_audit.specs.declared.grammar.request.Verb.TheVariants.{Adopts, Retires, Claims, Allocs, Frees, Sends, Links, Takes}
 

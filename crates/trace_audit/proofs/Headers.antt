@@ -1,24 +1,14 @@
--- The header line, and what follows it.
-use Rattle.std.proofs.Common.{◌≡◌, ◌⊎◌, inl, inr, ℕ, ◌≤◌, ◌<◌, List, [], ◌∷◌, ◌++◌, length, get_or, Option, None, Result, Ok, Err, IfOk, IfErr, Bool, true, false, refl, sym, ◌∙◌, ap, subst, arith, append_assoc, append-nil, codes}
+-- The header line.
+use Rattle.std.proofs.Common.{◌≡◌, ◌⊎◌, inl, inr, ℕ, ◌≤◌, ◌<◌, List, [], ◌∷◌, ◌++◌, length, get_or, None, Bool, true, false, refl, sym, ◌∙◌, ap, subst, arith, append_assoc, codes}
 use Rattle.std.proofs.Math.Seq.{get_or-append_seam}
 use Rattle.std.proofs.Math.ListN.{get_or-append}
-use Rattle.std.specs.Io.KnownBytes.{Appends, Consumes}
 use Rattle.std.proofs.lemmas.Fmt.{decimal_digit}
-use Rattle.std.proofs.KnownBytes.{Consumes-trans}
-use Rattle.event_floor.specs.Floors.{FloorSeen}
 use Rattle.trace_audit.specs.Grammar.{Lacks, header_text, IsHeader}
-use Rattle.trace_audit.specs.Machine.{Tally, Opens, opening_of, told}
-use Rattle.trace_audit.proofs.Tallies.{MachineLaws, reached, told_is}
-use Rattle.trace_audit.specs.Report.{Verdict, bad_line, no_memory_line}
+use Rattle.trace_audit.specs.Report.{bad_line}
 use Rattle.trace_audit.specs.Trace.{header_line}
-use Rattle.trace_audit.specs.Replay.{Traced, EndsEarly, Reports, FailsWith, tail_text, with_audit, IsBadHeader}
-use Rattle.trace_audit.specs.Steps.{Played, Stopped, IsAsked, Houses, FailsHousing}
-use Rattle.trace_audit.specs.Wire.{Begins}
+use Rattle.trace_audit.specs.Steps.{IsAsked, IsBadHeader}
 use Rattle.trace_audit.specs.declared.grammar.header.Header.{Header}
-use Rattle.trace_audit.specs.declared.replaying.ending.End.{End}
 use Rattle.trace_audit.specs.declared.replaying.ending.End.TheVariants.{BadLine, NoRoom}
-use Rattle.trace_audit.specs.declared.replaying.ending.ReplayError.{ReplayError}
-use Rattle.trace_audit.specs.declared.replaying.ending.ReplayError.TheVariants.{Read, Write}
 use Rattle.trace_audit.proofs.Cuts.{cut_once, marked}
 use Rattle.trace_audit.proofs.Fronts.{header_lacks, header_short}
 
@@ -52,92 +42,14 @@ first_is held0 given x e k = sym (ap (λ w. w ++ given) e) ∙ k
 pub bad_line_one : codes "R17 BadLine 1" ++ 10 ∷ [] ≡ bad_line 1
 bad_line_one = rw (decimal_digit 1 (omega arith)) refl
 
-pub if_err_weaker : {X Y : Type 0} (r : Result X Y) (P Q : Y → Type 0) → ((y : Y) → P y → Q y) → IfErr r P → IfErr r Q
-if_err_weaker (Ok x) P Q f h = tt
-if_err_weaker (Err y) P Q f h = f y h
-
-pub if_ok_weaker : {X Y : Type 0} (r : Result X Y) (P Q : X → Type 0) → ((x : X) → P x → Q x) → IfOk r P → IfOk r Q
-if_ok_weaker (Ok x) P Q f h = f x h
-if_ok_weaker (Err y) P Q f h = tt
-
--- the header, and what was played behind it
-traced : (left0 left left' : Option (List ℕ)) (h : Header) (held rest : List ℕ) (start now : FloorSeen) (n : ℕ) (tail : List ℕ) (P : List ℕ → Type 0)
-    → IsHeader h → (opens : Opens h start) → (first : List ℕ) → Consumes left0 left first → first ≡ header_line h ++ held → (p : Played left left' held rest start now n tail P)
-    → Traced left0 left' h rest (reached h start now p.requests p.answers opens p.run) n tail P
-traced left0 left left' h held rest start now n tail P fits opens first read is p = record {
-  given = first ++ p.given;
-  requests = p.requests;
-  answers = p.answers;
-  header = fits;
-  read = Consumes-trans left0 left left' first p.given read p.read;
-  lines = ap (λ w. w ++ p.given) is ∙ append_assoc (header_line h) held p.given ∙ ap (λ w. header_line h ++ w) p.lines;
-  good = p.good;
-  number = p.number;
-  run = (p.run (opening_of h) (λ s. 0) opens).2;
-  wrote = p.wrote;
-}
-
-no_room : (left0 left left' : Option (List ℕ)) (h : Header) (held : List ℕ) (P : List ℕ → Type 0) → IsHeader h → (first : List ℕ) → Consumes left0 left first → first ≡ header_line h ++ held → left' ≡ left → P no_memory_line
-    → EndsEarly left0 left' P NoRoom
-no_room left0 left left' h held P fits first read is same p = (h, first, held, fits, subst (λ (w : Option (List ℕ)). Consumes left0 w first) (sym same) read, is, p)
-
--- a floor was driven behind the header, or there was no room for one
-pub reports_housed : MachineLaws → (left0 left left' : Option (List ℕ)) (P : List ℕ → Type 0) (h : Header) (held : List ℕ) (end : End)
-    → IsHeader h → (first : List ℕ) → Consumes left0 left first → first ≡ header_line h ++ held → Houses left left' held h P end → Reports left0 left' P end
-reports_housed laws left0 left left' P h held end fits first read is (inl (start, now, n, rest, opens, p, ends)) =
-    inl (
-      h,
-      reached h start now p.requests p.answers opens p.run,
-      n,
-      rest,
-      subst (λ (t : Tally). Traced left0 left' h rest (reached h start now p.requests p.answers opens p.run) n (tail_text t end) P)
-          (told_is laws h start now p.requests p.answers fits opens p.run)
-          (traced left0 left left' h held rest start now n (tail_text (told now) end) P fits opens first read is p),
-      ends,
-    )
-reports_housed laws left0 left left' P h held end fits first read is (inr (none, same, wrote)) =
-    subst (λ (w : End). Reports left0 left' P w) (sym none) (inr (no_room left0 left left' h held P fits first read is same wrote))
-
-fails_driven : (IsAllowed : End → Option Verdict → Type 0) (left0 left left' out0 out : Option (List ℕ)) (h : Header) (held : List ℕ) (start : FloorSeen) (e : ReplayError)
-    → IsHeader h → Opens h start → (first : List ℕ) → Consumes left0 left first → first ≡ header_line h ++ held → Stopped left left' held start out0 out e → FailsWith IsAllowed left0 left' out0 out e
-fails_driven IsAllowed left0 left left' out0 out h held start Read fits opens first read is (now, n, rest, p, low, partial, full) =
-    inl (h, reached h start now p.requests p.answers opens p.run, n, rest, traced left0 left left' h held rest start now n [] (Appends out0 out) fits opens first read is p, low, partial, full)
-fails_driven IsAllowed left0 left left' out0 out h held start Write fits opens first read is (now, n, rest, p, low) =
-    inl (h, reached h start now p.requests p.answers opens p.run, n, rest, traced left0 left left' h held rest start now n [] (Begins out0 out) fits opens first read is p, low)
-
-pub fails_housed : MachineLaws → (audits : Bool) (left0 left left' out0 out : Option (List ℕ)) (h : Header) (held : List ℕ) (e : ReplayError)
-    → IsHeader h → (first : List ℕ) → Consumes left0 left first → first ≡ header_line h ++ held → FailsHousing audits left left' held h out0 out e → FailsWith (IsAsked audits) left0 left' out0 out e
-fails_housed laws audits left0 left left' out0 out h held e fits first read is (inl (start, opens, stopped)) =
-    fails_driven (IsAsked audits) left0 left left' out0 out h held start e fits opens first read is stopped
-fails_housed laws audits left0 left left' out0 out h held e fits first read is (inr (write, end, audit, allowed, houses)) =
-    subst (λ (w : ReplayError). FailsWith (IsAsked audits) left0 left' out0 out w) (sym write)
-    (inr (end, audit, allowed, reports_housed laws left0 left left' (with_audit audit (Begins out0 out)) h held end fits first read is houses))
-
--- one line was written, and no other; there is no audit
-none_asked : (audits : Bool) → IsAsked audits (BadLine 1) None
+-- behind one line alone there is no audit
+pub none_asked : (audits : Bool) → IsAsked audits (BadLine 1) None
 none_asked true = inl (refl, refl)
 none_asked false = refl
 
-pub only_ok : (left0 left out0 out : Option (List ℕ)) (flag : Type 0) (text text' : List ℕ) (r : Result (End × Option Verdict) ReplayError)
-    → text' ≡ text → ((P : List ℕ → Type 0) → P text → EndsEarly left0 left P (BadLine 1)) → IfOk r (λ x. (x.0 ≡ BadLine 1) × (x.1 ≡ None) × Appends out0 out text' × flag)
-    → IfOk r (λ x. Reports left0 left (with_audit x.1 (Appends out0 out)) x.0)
-only_ok left0 left out0 out flag text text' (Ok x) same early h =
-    subst (λ (w : End). Reports left0 left (with_audit x.1 (Appends out0 out)) w) (sym h.0)
-    (subst (λ (w : Option Verdict). Reports left0 left (with_audit w (Appends out0 out)) (BadLine 1)) (sym h.1)
-    (inr (early (with_audit None (Appends out0 out)) (subst (λ (w : List ℕ). Appends out0 out w) (same ∙ sym (append-nil text)) h.2))))
-only_ok left0 left out0 out flag text text' (Err e) same early h = tt
-
-pub only_asked : (audits : Bool) (wrote flag : Type 0) (r : Result (End × Option Verdict) ReplayError)
-    → IfOk r (λ x. (x.0 ≡ BadLine 1) × (x.1 ≡ None) × wrote × flag) → IfOk r (λ x. IsAsked audits x.0 x.1)
-only_asked audits wrote flag (Ok x) h = subst (λ (w : End). IsAsked audits w x.1) (sym h.0) (subst (λ (w : Option Verdict). IsAsked audits (BadLine 1) w) (sym h.1) (none_asked audits))
-only_asked audits wrote flag (Err e) h = tt
-
-pub only_err : (audits : Bool) (left0 left out0 out : Option (List ℕ)) (flag : Type 0) (text text' : List ℕ) (r : Result (End × Option Verdict) ReplayError)
-    → text' ≡ text → ((P : List ℕ → Type 0) → P text → EndsEarly left0 left P (BadLine 1)) → IfErr r (λ e. (e ≡ Write) × Begins out0 out text' × flag) → IfErr r (λ e. FailsWith (IsAsked audits) left0 left out0 out e)
-only_err audits left0 left out0 out flag text text' (Ok x) same early h = tt
-only_err audits left0 left out0 out flag text text' (Err e) same early h =
-    subst (λ (w : ReplayError). FailsWith (IsAsked audits) left0 left out0 out w) (sym h.0)
-    (inr (BadLine 1, None, none_asked audits, inr (early (with_audit None (Begins out0 out)) (subst (λ (w : List ℕ). Begins out0 out w) (same ∙ sym (append-nil text)) h.1))))
+pub none_for_no_room : (audits : Bool) → IsAsked audits NoRoom None
+none_for_no_room true = refl
+none_for_no_room false = refl
 
 -- the header line, from the line that was taken
 pub header_taken : (bytes text line held : List ℕ) (h : Header) → bytes ≡ text ++ 10 ∷ held → line ≡ text → line ≡ header_text h → bytes ≡ header_line h ++ held

@@ -8,10 +8,10 @@ mod Plays
 mod Finishes
 mod Headers
 mod Readings
-mod Known
+mod WholeTraces
 mod Tallies
 mod Goings
-mod Beginnings
-mod Audited
+mod Runs
+mod Replays
 mod Undrawn
-mod Found
+mod OnceOnFloors

@@ -5,8 +5,8 @@ use Rattle.region_cut.specs.declared.part.Part.{Part}
 use Rattle.digit_route.specs.Digits.{Scheme}
 use Rattle.event_floor.specs.Floors.{FloorSeen}
 use Rattle.event_floor.specs.headline.Listing.{listing_of}
-use Rattle.event_floor.specs.machine.Listing.{Shown}
-use Rattle.event_floor.specs.machine.State.{State, opening}
+use Rattle.pool_machine.specs.Listing.{Shown}
+use Rattle.pool_machine.specs.State.{State, opening}
 use Rattle.trace_audit.specs.Machine.{Opens, digits_of}
 use Rattle.trace_audit.specs.declared.grammar.header.Header.{Header}
 

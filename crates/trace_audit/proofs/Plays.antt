@@ -5,16 +5,15 @@ use Rattle.std.proofs.lemmas.List.{flat_map_more}
 use Rattle.std.specs.Io.KnownBytes.{Appends, Consumes, Keeps, IsAtEnd}
 use Rattle.std.proofs.KnownBytes.{Appends-nil, Appends-trans, Consumes-nil, Consumes-trans}
 use Rattle.event_floor.specs.Floors.{FloorSeen}
-use Rattle.event_floor.specs.declared.request.Request.{Request}
+use Rattle.pool_machine.specs.declared.request.Request.{Request}
 use Rattle.trace_audit.specs.Grammar.{IsRequest}
 use Rattle.event_floor.specs.headline.Headline.{Applies}
-use Rattle.event_floor.specs.machine.State.{State}
-use Rattle.event_floor.specs.machine.Steps.{Answers, Run, after}
+use Rattle.pool_machine.specs.State.{State}
+use Rattle.pool_machine.specs.Steps.{Answers, Run, after}
 use Rattle.trace_audit.specs.Machine.{Answer}
 use Rattle.trace_audit.specs.Report.{answer_line}
 use Rattle.trace_audit.specs.Trace.{request_line}
-use Rattle.trace_audit.specs.Replay.{EndsSo}
-use Rattle.trace_audit.specs.Steps.{Follows, Played, Broke, Driven, Stopped}
+use Rattle.trace_audit.specs.Steps.{EndsSo, Follows, Played, Broke, Driven, Stopped}
 use Rattle.trace_audit.specs.Wire.{Begins}
 use Rattle.trace_audit.specs.declared.replaying.ending.End.{End}
 use Rattle.trace_audit.specs.declared.replaying.ending.ReplayError.{ReplayError}

@@ -10,8 +10,8 @@ use Rattle.trace_audit.specs.declared.replaying.ending.End.TheVariants.{Whole, B
 use Rattle.trace_audit.specs.declared.grammar.header.Header.{Header}
 use Rattle.trace_audit.specs.declared.grammar.request.Verb.{Verb}
 use Rattle.trace_audit.specs.declared.grammar.request.Verb.TheVariants.{Adopts, Retires, Claims, Allocs, Frees, Sends, Links, Takes}
-use Rattle.event_floor.specs.declared.request.Request.{Request}
-use Rattle.event_floor.specs.declared.request.Request.TheVariants.{Adopt, Retire, Claim, Alloc, Free, Send, Link, Take}
+use Rattle.pool_machine.specs.declared.request.Request.{Request}
+use Rattle.pool_machine.specs.declared.request.Request.TheVariants.{Adopt, Retire, Claim, Alloc, Free, Send, Link, Take}
 use Rattle.trace_audit.proofs.Numbers.{decimal_lacks}
 use Rattle.trace_audit.proofs.Cuts.{cut_once, verb_lacks, same_verb, profile_lacks, same_profile, same_header, header_words_fit}
 use Rattle.trace_audit.proofs.Fronts.{spelling_lacks, header_lacks}

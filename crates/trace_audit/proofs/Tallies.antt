@@ -3,11 +3,11 @@ use Rattle.std.proofs.Common.{◌≡◌, ℕ, ◌≤◌, List, map, sym, ap, ◌
 use Rattle.std.specs.List.{range_with_len}
 use Rattle.std.proofs.lemmas.List.{length-map}
 use Rattle.event_floor.specs.Floors.{FloorSeen, desk_count}
-use Rattle.event_floor.specs.declared.request.Request.{Request}
+use Rattle.pool_machine.specs.declared.request.Request.{Request}
 use Rattle.event_floor.specs.headline.Counts.{TellsCounts, FloorsTellCounts}
 use Rattle.event_floor.specs.headline.Listing.{desk_of}
-use Rattle.event_floor.specs.machine.Laws.{RunsKeepNumbers}
-use Rattle.event_floor.specs.machine.State.{State}
+use Rattle.pool_machine.specs.Laws.{RunsKeepNumbers}
+use Rattle.pool_machine.specs.State.{State}
 use Rattle.trace_audit.specs.Grammar.{IsHeader}
 use Rattle.trace_audit.specs.Machine.{Answer, Opens, opening_of, counts_at, counts_in, told, told_of}
 use Rattle.trace_audit.specs.Steps.{Follows}

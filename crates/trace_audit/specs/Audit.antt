@@ -3,7 +3,7 @@ use Rattle.std.specs.Prelude.{ℕ, ◌≡◌, ◌<◌, List, slice_index_or, Opt
 use Rattle.region_cut.specs.Classes.{slots_of}
 use Rattle.region_cut.specs.Slots.{IsBefore}
 use Rattle.region_cut.specs.declared.slot.Slot.{Slot}
-use Rattle.event_floor.specs.machine.Slots.{times}
+use Rattle.pool_machine.specs.Slots.{times}
 use Rattle.trace_audit.specs.declared.auditing.fault.Fault.{Fault}
 use Rattle.trace_audit.specs.declared.auditing.fault.Fault.TheVariants.{Stranger, Doubled, Missing, NoMemory}
 
@@ -55,8 +55,8 @@ IsFault drawn found (Doubled s) = IsNowhere (IsStranger drawn found) × IsLeast 
 IsFault drawn found (Missing s) = IsNowhere (IsStranger drawn found) × IsNowhere (IsDoubled drawn found) × IsLeast (IsMissing drawn found) s
 IsFault drawn found NoMemory = Unit {0}
 
-abbrev pub number_of : Fault → ℕ
-number_of (Stranger s) = 1
-number_of (Doubled s) = 2
-number_of (Missing s) = 3
-number_of NoMemory = 4
+abbrev pub fault_number : Fault → ℕ
+fault_number (Stranger s) = 1
+fault_number (Doubled s) = 2
+fault_number (Missing s) = 3
+fault_number NoMemory = 4

@@ -1,6 +1,6 @@
 -- What the laws of this crate say.
 use Rattle.std.specs.Prelude.{ℕ, ◌≡◌, ◌++◌, List}
-use Rattle.event_floor.specs.declared.request.Request.{Request}
+use Rattle.pool_machine.specs.declared.request.Request.{Request}
 use Rattle.trace_audit.specs.declared.grammar.header.Header.{Header}
 use Rattle.trace_audit.specs.declared.replaying.ending.End.{End}
 use Rattle.trace_audit.specs.Grammar.{IsHeader}

@@ -7,5 +7,5 @@ pub mod Replay
 pub mod Steps
 pub mod Laws
 pub mod Audit
-pub mod Found
+pub mod FloorSlots
 pub mod Tallies

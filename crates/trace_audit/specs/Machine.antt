@@ -5,14 +5,14 @@ use Rattle.region_cut.specs.Classes.{bits_of}
 use Rattle.slot_chain.specs.Counts.{capped}
 use Rattle.digit_route.specs.Digits.{Scheme}
 use Rattle.event_floor.specs.Floors.{FloorSeen, desk_count, desk_at}
-use Rattle.event_floor.specs.machine.State.{State, opening}
-use Rattle.event_floor.specs.machine.Listing.{Shown}
-use Rattle.event_floor.specs.machine.Told.{home_count, cached_count, queued_count, lent_count, drawn_count}
+use Rattle.pool_machine.specs.State.{State, opening}
+use Rattle.pool_machine.specs.Listing.{Shown}
+use Rattle.pool_machine.specs.Told.{home_count, cached_count, queued_count, lent_count, drawn_count}
 use Rattle.event_floor.specs.headline.Listing.{listing_of}
 use Rattle.event_floor.specs.Posted.{buffers_in, inbox_at}
 use Rattle.event_floor.specs.Seats.{home_of, cached_of}
-use Rattle.event_floor.specs.declared.reply.Reply.{Reply}
-use Rattle.event_floor.specs.declared.refusal.Refusal.{Refusal}
+use Rattle.pool_machine.specs.declared.reply.Reply.{Reply}
+use Rattle.pool_machine.specs.declared.refusal.Refusal.{Refusal}
 use Rattle.trace_audit.specs.declared.grammar.header.Header.{Header}
 use Rattle.trace_audit.specs.declared.report.closing.Counts.{Counts}
 

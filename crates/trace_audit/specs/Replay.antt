@@ -1,13 +1,13 @@
 -- What a replay reads, how it ends, and what it writes.
-use Rattle.std.specs.Prelude.{ℕ, ◌≡◌, ◌≢◌, ◌⊎◌, ◌+◌, ◌<◌, ◌≤◌, List, [], ◌++◌, length, Option, Some, None, Ok, Err, Bool, true, false, ⊤}
-use Rattle.std.specs.List.{flat_map, AllByRecursion}
-use Rattle.std.specs.Io.KnownBytes.{Appends, Consumes, IsAtEnd}
-use Rattle.event_floor.specs.machine.State.{State}
-use Rattle.event_floor.specs.machine.Steps.{Run}
-use Rattle.event_floor.specs.declared.request.Request.{Request}
-use Rattle.trace_audit.specs.Grammar.{Lacks, IsRequest, IsHeader}
+use Rattle.std.specs.Prelude.{ℕ, ◌≡◌, ◌⊎◌, ◌<◌, ◌≤◌, List, [], ◌++◌, length, Option, Some, None, Ok, Err, Bool, true, false, ⊤}
+use Rattle.std.specs.List.{flat_map}
+use Rattle.std.specs.Io.KnownBytes.{Consumes, IsAtEnd}
+use Rattle.pool_machine.specs.State.{State}
+use Rattle.pool_machine.specs.Steps.{Run}
+use Rattle.pool_machine.specs.declared.request.Request.{Request}
+use Rattle.trace_audit.specs.Grammar.{Lacks}
 use Rattle.trace_audit.specs.Machine.{Answer, Tally, opening_of, told_of}
-use Rattle.trace_audit.specs.Trace.{header_line, request_line, BeginsWithHeader, BeginsWithRequest, IsTrace}
+use Rattle.trace_audit.specs.Trace.{BeginsWithHeader, IsTrace}
 use Rattle.trace_audit.specs.Report.{answer_line, bad_line, closing, no_memory_line, Verdict, audit_line}
 use Rattle.trace_audit.specs.Wire.{Begins}
 use Rattle.trace_audit.specs.declared.auditing.fault.Fault.TheVariants.{NoMemory}
@@ -17,11 +17,7 @@ use Rattle.trace_audit.specs.declared.replaying.ending.End.TheVariants.{Whole, B
 use Rattle.trace_audit.specs.declared.replaying.ending.ReplayError.{ReplayError}
 use Rattle.trace_audit.specs.declared.replaying.ending.ReplayError.TheVariants.{Read, Write}
 
--- The report.
-
--- the pool of this header answers the requests so, and is in this state afterwards
-abbrev pub IsAnswered : Header → List Request → List Answer → State → Type 0
-IsAnswered h requests answers now = Run (opening_of h) requests answers now
+-- ---- the report of a trace
 
 -- the lines behind the answers
 abbrev pub tail_text : Tally → End → List ℕ
@@ -29,86 +25,64 @@ tail_text tally Whole = closing tally
 tail_text tally (BadLine k) = bad_line k ++ closing tally
 tail_text tally NoRoom = []
 
--- P holds of the report of the trace, which has this end
-pub record ReportsLines (bytes : List ℕ) (P : List ℕ → Type 0) (end : End) : Type 0 where
+-- the bytes are a trace with this end, and P holds of its requests, of the lines of the pool's answers and of the pool
+-- afterwards
+pub record Answered (bytes : List ℕ) (end : End) (P : List Request → List ℕ → State → Type 0) : Type 0 where
   pub header : Header
   pub requests : List Request
   pub answers : List Answer
   pub now : State
   pub trace : IsTrace bytes header requests end
-  pub answered : IsAnswered header requests answers now
-  pub wrote : P (flat_map answer_line answers ++ tail_text (told_of now) end)
+  pub run : Run (opening_of header) requests answers now
+  pub holds : P requests (flat_map answer_line answers) now
 
--- The bytes have this end, and P holds of their report and of nothing else: the lines of the answers, that of the bad
--- line and the closing lines; or one line alone where no good header line stands first, or where there is no room.
+-- P holds of the lines of the answers, that of a bad line and the closing lines
+abbrev pub ReportsLines : List ℕ → (List ℕ → Type 0) → End → Type 0
+ReportsLines bytes P end = Answered bytes end (λ requests lines now. P (lines ++ tail_text (told_of now) end))
+
+-- The bytes have this end, and P holds of their report and of nothing else: of these lines, or of one line alone where
+-- no good header line stands first, or where there is no room.
 abbrev pub ReportsTrace : List ℕ → (List ℕ → Type 0) → End → Type 0
 ReportsTrace bytes P Whole = ReportsLines bytes P Whole
-ReportsTrace bytes P (BadLine k) = ReportsLines bytes P (BadLine k) ⊎ ((k ≡ 1) × (BeginsWithHeader bytes → ⊥) × P (bad_line 1))
+ReportsTrace bytes P (BadLine k) =
+    ReportsLines bytes P (BadLine k) ⊎ ((k ≡ 1) × (BeginsWithHeader bytes → ⊥) × P (bad_line 1))
 ReportsTrace bytes P NoRoom = BeginsWithHeader bytes × P no_memory_line
 
--- The same of a reader that may not tell its bytes: of those that it gave. What it gave may end within a line.
+-- ---- a replay
 
--- no good header line stands at the front, however the input goes on, or as it ends here
-abbrev pub IsBadHeader : List ℕ → Type 0 → Type 0
-IsBadHeader bytes at_end = ((more : List ℕ) → BeginsWithHeader (bytes ++ more) → ⊥) ⊎ (at_end × (BeginsWithHeader bytes → ⊥))
+-- Q holds of all bytes, those before the reader's first: of what the reader gave with whatever stands behind it, which
+-- is nothing where the reader is at its end. So it holds of all of the reader's bytes where they are known.
+abbrev pub HoldsOfAll : List ℕ → Option (List ℕ) → Option (List ℕ) → (List ℕ → Type 0) → Type 0
+HoldsOfAll before left0 left Q = (given : List ℕ) × Consumes left0 left given
+    × ((more : List ℕ) → (IsAtEnd left → more ≡ []) → Q (before ++ (given ++ more)))
 
--- no good request line stands at the front, however the input goes on, or as it ends here
-abbrev pub IsBadFront : List ℕ → Type 0 → Type 0
-IsBadFront bytes at_end = ((more : List ℕ) → BeginsWithRequest (bytes ++ more) → ⊥) ⊎ (at_end × (BeginsWithRequest bytes → ⊥))
+-- P holds of the report of all bytes, which have this end
+abbrev pub Reports : Option (List ℕ) → Option (List ℕ) → (List ℕ → Type 0) → End → Type 0
+Reports left0 left P end = HoldsOfAll [] left0 left (λ bytes. ReportsTrace bytes P end)
 
 -- the beginning of a line of which it is not yet known that it is bad
 abbrev pub IsPartial : List ℕ → Type 0
 IsPartial bytes = Lacks 10 bytes × (length bytes ≤ 64)
 
--- The bytes given are a good header line, n good request lines and a rest; the pool was driven by them, and P holds of
--- the lines of its answers, with the tail behind them.
-pub record Traced (left0 left : Option (List ℕ)) (h : Header) (rest : List ℕ) (now : State) (n : ℕ) (tail : List ℕ) (P : List ℕ → Type 0) : Type 0 where
-  pub given : List ℕ
-  pub requests : List Request
-  pub answers : List Answer
-  pub header : IsHeader h
-  pub read : Consumes left0 left given
-  pub lines : given ≡ header_line h ++ (flat_map request_line requests ++ rest)
-  pub good : AllByRecursion IsRequest requests
-  pub number : length requests ≡ n
-  pub run : IsAnswered h requests answers now
-  pub wrote : P (flat_map answer_line answers ++ tail)
+-- No bad line is known in the bytes, and P holds of the lines of the answers to all whole request lines; of no line
+-- where not even a header line is whole.
+abbrev pub AnswersLines : List ℕ → (List ℕ → Type 0) → Type 0
+AnswersLines bytes P = (IsPartial bytes × P []) ⊎ ((whole : List ℕ) × (rest : List ℕ) × (bytes ≡ whole ++ rest) × IsPartial rest
+    × Answered whole Whole (λ requests lines now. (length requests ≡ 999999 → rest ≡ []) × P lines))
 
--- how the bytes given end behind a header and n request lines
-abbrev pub EndsSo : ℕ → List ℕ → Type 0 → End → Type 0
-EndsSo n rest at_end Whole = (n ≤ 999999) × (rest ≡ []) × at_end
-EndsSo n rest at_end (BadLine k) = (n ≤ 999999) × (rest ≢ []) × (k ≡ n + 2) × (IsBadFront rest at_end ⊎ (n ≡ 999999))
-EndsSo n rest at_end NoRoom = ⊥
+-- Read: the lines of these answers were written, and no closing line. Write: P holds of the report of all bytes, whose
+-- end is P's too.
+abbrev pub FailsBehind : List ℕ → Option (List ℕ) → Option (List ℕ) → (List ℕ → Type 0) → (End → List ℕ → Type 0) → ReplayError → Type 0
+FailsBehind before left0 left Wrote P Read = (given : List ℕ) × Consumes left0 left given × AnswersLines (before ++ given) Wrote
+FailsBehind before left0 left Wrote P Write = HoldsOfAll before left0 left (λ bytes. (end : End) × ReportsTrace bytes (P end) end)
 
--- no good header line, or want of memory for region or floor: one line and no other
-abbrev pub EndsEarly : Option (List ℕ) → Option (List ℕ) → (List ℕ → Type 0) → End → Type 0
-EndsEarly left0 left P Whole = ⊥
-EndsEarly left0 left P (BadLine k) = (k ≡ 1) × (given : List ℕ) × Consumes left0 left given × IsBadHeader given (IsAtEnd left) × P (bad_line 1)
-EndsEarly left0 left P NoRoom = (h : Header) × (given : List ℕ) × (rest : List ℕ) × IsHeader h × Consumes left0 left given × (given ≡ header_line h ++ rest) × P no_memory_line
+-- where nothing was read before
+abbrev pub Fails : Option (List ℕ) → Option (List ℕ) → (List ℕ → Type 0) → (End → List ℕ → Type 0) → ReplayError → Type 0
+Fails left0 left Wrote P e = FailsBehind [] left0 left Wrote P e
 
--- P holds of the report of the bytes given, which have this end
-abbrev pub Reports : Option (List ℕ) → Option (List ℕ) → (List ℕ → Type 0) → End → Type 0
-Reports left0 left P end = ((h : Header) × (now : State) × (n : ℕ) × (rest : List ℕ)
-    × Traced left0 left h rest now n (tail_text (told_of now) end) P × EndsSo n rest (IsAtEnd left) end)
-    ⊎ EndsEarly left0 left P end
-
--- the writer failed within the line of an answer
-abbrev pub BreaksOff : Option (List ℕ) → Option (List ℕ) → Option (List ℕ) → Option (List ℕ) → Type 0
-BreaksOff left0 left out0 out = (h : Header) × (now : State) × (n : ℕ) × (rest : List ℕ) × Traced left0 left h rest now n [] (Begins out0 out) × (n ≤ 999999)
-
--- Read: no bad line was known; the lines of the answers to all whole lines were written, and nothing else; nothing at
--- all where not even a header line was whole. Write: a beginning of a report was written.
-abbrev pub Fails : Option (List ℕ) → Option (List ℕ) → Option (List ℕ) → Option (List ℕ) → ReplayError → Type 0
-Fails left0 left out0 out Read =
-    ((h : Header) × (now : State) × (n : ℕ) × (rest : List ℕ)
-    × Traced left0 left h rest now n [] (Appends out0 out) × (n ≤ 999999) × IsPartial rest × (n ≡ 999999 → rest ≡ []))
-    ⊎ ((given : List ℕ) × Consumes left0 left given × IsPartial given × (out ≡ out0))
-Fails left0 left out0 out Write = BreaksOff left0 left out0 out ⊎ ((end : End) × Reports left0 left (Begins out0 out) end)
-
--- Where the reader's bytes are known, what was written before the writer failed is a beginning of the report of all of them.
-abbrev pub IsBegun : Option (List ℕ) → Option (List ℕ) → Option (List ℕ) → ReplayError → Type 0
-IsBegun (Some bytes) out0 out Write = (end : End) × ReportsTrace bytes (Begins out0 out) end
-IsBegun left0 out0 out e = ⊤
+abbrev pub error_number : ReplayError → ℕ
+error_number Read = 1
+error_number Write = 2
 
 -- which of the two failed
 abbrev pub Failures : Bool → Bool → ReplayError → Type 0
@@ -117,14 +91,10 @@ Failures reader writer Write = (reader ≡ false) × (writer ≡ true)
 
 -- ---- with the line of an audit
 
--- the line of the audit, where there is one
-abbrev pub audit_lines : Option Verdict → List ℕ
-audit_lines None = []
-audit_lines (Some verdict) = audit_line verdict
-
--- P holds of the report with the line of the audit behind it
+-- P holds of the report with the line of the audit behind it, where there is one
 abbrev pub with_audit : Option Verdict → (List ℕ → Type 0) → List ℕ → Type 0
-with_audit audit P report = P (report ++ audit_lines audit)
+with_audit None P = P
+with_audit (Some verdict) P = λ report. P (report ++ audit_line verdict)
 
 -- there was an audit: it found nothing wrong, or there was no memory for it
 abbrev pub FindsNothing : Option Verdict → Type 0
@@ -138,17 +108,6 @@ IsAudited Whole audit = FindsNothing audit
 IsAudited (BadLine k) audit = ((k ≡ 1) × (audit ≡ None)) ⊎ ((1 < k) × FindsNothing audit)
 IsAudited NoRoom audit = audit ≡ None
 
--- The same as `Fails`, where an audit stands behind a report as IsAllowed says: its line may be the one that broke off.
-abbrev pub FailsWith : (End → Option Verdict → Type 0) → Option (List ℕ) → Option (List ℕ) → Option (List ℕ) → Option (List ℕ) → ReplayError → Type 0
-FailsWith IsAllowed left0 left out0 out Read = Fails left0 left out0 out Read
-FailsWith IsAllowed left0 left out0 out Write =
-    BreaksOff left0 left out0 out
-    ⊎ ((end : End) × (audit : Option Verdict) × IsAllowed end audit × Reports left0 left (with_audit audit (Begins out0 out)) end)
-
-abbrev pub FailsAudited : Option (List ℕ) → Option (List ℕ) → Option (List ℕ) → Option (List ℕ) → ReplayError → Type 0
-FailsAudited left0 left out0 out e = FailsWith IsAudited left0 left out0 out e
-
--- the same as `IsBegun`, of a report with the line of its audit
-abbrev pub IsBegunAudited : Option (List ℕ) → Option (List ℕ) → Option (List ℕ) → ReplayError → Type 0
-IsBegunAudited (Some bytes) out0 out Write = (end : End) × (audit : Option Verdict) × IsAudited end audit × ReportsTrace bytes (with_audit audit (Begins out0 out)) end
-IsBegunAudited left0 out0 out e = ⊤
+-- a beginning of the report with the line of such an audit was written
+abbrev pub BeginsAudited : Option (List ℕ) → Option (List ℕ) → End → List ℕ → Type 0
+BeginsAudited out0 out end report = (audit : Option Verdict) × IsAudited end audit × with_audit audit (Begins out0 out) report

@@ -2,10 +2,10 @@
 use Rattle.std.specs.Prelude.{ℕ, ◌+◌, ◌==◌, ◌&&◌, sum_by, nat_lt, Bool, List, [], ◌∷◌, ◌++◌, codes, decimal, Result, Ok, Err, suc, if◌then◌else◌}
 use Rattle.region_cut.specs.Slots.{printed}
 use Rattle.slot_chain.specs.Counts.{capped}
-use Rattle.event_floor.specs.declared.reply.Reply.{Reply}
-use Rattle.event_floor.specs.declared.reply.Reply.TheVariants.{Done, Chunk, Slot, Home, Cached, Due, Batch, Counts as Handled}
-use Rattle.event_floor.specs.declared.refusal.Refusal.{Refusal}
-use Rattle.event_floor.specs.Refusals.{number_of, name_of}
+use Rattle.pool_machine.specs.declared.reply.Reply.{Reply}
+use Rattle.pool_machine.specs.declared.reply.Reply.TheVariants.{Done, Chunk, Slot, Home, Cached, Due, Batch, Counts as Handled}
+use Rattle.pool_machine.specs.declared.refusal.Refusal.{Refusal}
+use Rattle.pool_machine.specs.RefusalNames.{refusal_number, refusal_name}
 use Rattle.trace_audit.specs.declared.auditing.fault.Fault.{Fault}
 use Rattle.trace_audit.specs.declared.auditing.fault.Fault.TheVariants.{Stranger, Doubled, Missing, NoMemory}
 use Rattle.trace_audit.specs.declared.report.closing.Counts.{Counts}
@@ -27,7 +27,7 @@ two_digits n = (if nat_lt n 10 then codes "0" else []) ++ decimal n
 
 -- as `R04 NeedChunk`
 abbrev pub refusal_text : Refusal → List ℕ
-refusal_text r = codes "R" ++ two_digits (number_of r) ++ codes " " ++ name_of r
+refusal_text r = codes "R" ++ two_digits (refusal_number r) ++ codes " " ++ refusal_name r
 
 abbrev pub answer_text : Answer → List ℕ
 answer_text (Ok reply) = reply_text reply

@@ -1,28 +1,27 @@
 -- What the parts of a replay come to. Only contracts of private functions speak of these.
-use Rattle.std.specs.Prelude.{ℕ, ◌≡◌, ◌≢◌, ◌⊎◌, ◌<◌, ◌≤◌, List, [], ◌∷◌, ◌++◌, length, Option, None, Result, Ok, Err, Bool, true, false}
+use Rattle.std.specs.Prelude.{ℕ, ◌≡◌, ◌≢◌, ◌⊎◌, ◌+◌, ◌<◌, ◌≤◌, List, [], ◌∷◌, ◌++◌, length, Option, Some, None, Result, Ok, Err, Bool, true, false}
 use Rattle.std.specs.List.{flat_map, AllByRecursion}
 use Rattle.std.specs.Io.KnownBytes.{Appends, Consumes, IsAtEnd}
 use Rattle.event_floor.specs.Floors.{FloorSeen}
-use Rattle.event_floor.specs.declared.request.Request.{Request}
+use Rattle.pool_machine.specs.declared.request.Request.{Request}
 use Rattle.trace_audit.specs.Grammar.{Lacks, IsRequest}
 use Rattle.event_floor.specs.headline.Headline.{Applies}
 use Rattle.event_floor.specs.headline.Listing.{listing_of}
-use Rattle.event_floor.specs.machine.State.{State}
-use Rattle.event_floor.specs.machine.Steps.{Run}
-use Rattle.event_floor.specs.machine.Listing.{Shown}
+use Rattle.pool_machine.specs.State.{State}
+use Rattle.pool_machine.specs.Steps.{Run}
+use Rattle.pool_machine.specs.Listing.{Shown}
 use Rattle.region_cut.specs.declared.slot.Slot.{Slot}
-use Rattle.trace_audit.specs.Machine.{Answer, Opens, told}
-use Rattle.trace_audit.specs.Report.{answer_line, no_memory_line, Verdict}
-use Rattle.trace_audit.specs.Trace.{request_line}
-use Rattle.trace_audit.specs.Replay.{IsBadFront, IsPartial, EndsSo, tail_text, audit_lines, with_audit, FindsNothing, IsAudited}
+use Rattle.trace_audit.specs.Machine.{Answer, told}
+use Rattle.trace_audit.specs.Report.{answer_line, audit_line, Verdict}
+use Rattle.trace_audit.specs.Trace.{request_line, BeginsWithHeader, BeginsWithRequest}
+use Rattle.trace_audit.specs.Replay.{BeginsAudited, Failures, FailsBehind, FindsNothing, HoldsOfAll, IsAudited, IsPartial, ReportsTrace, tail_text, with_audit}
 use Rattle.trace_audit.specs.Wire.{Begins}
-use Rattle.trace_audit.specs.declared.grammar.header.Header.{Header}
 use Rattle.trace_audit.specs.declared.lines.Next.{Next}
 use Rattle.trace_audit.specs.declared.lines.Next.TheVariants.{Text, Over, Bad}
 use Rattle.trace_audit.specs.declared.replaying.turn.Turn.{Turn}
 use Rattle.trace_audit.specs.declared.replaying.turn.Turn.TheVariants as turns
 use Rattle.trace_audit.specs.declared.replaying.ending.End.{End}
-use Rattle.trace_audit.specs.declared.replaying.ending.End.TheVariants.{NoRoom}
+use Rattle.trace_audit.specs.declared.replaying.ending.End.TheVariants.{Whole, BadLine, NoRoom}
 use Rattle.trace_audit.specs.declared.replaying.ending.ReplayError.{ReplayError}
 use Rattle.trace_audit.specs.declared.replaying.ending.ReplayError.TheVariants.{Read, Write}
 
@@ -31,6 +30,14 @@ abbrev pub Took : List ℕ → List ℕ → Type 0 → Next → Type 0
 Took bytes held at_end (Text text) = (bytes ≡ text.items ++ 10 ∷ held) × Lacks 10 text.items
 Took bytes held at_end Over = (bytes ≡ []) × (held ≡ []) × at_end
 Took bytes held at_end Bad = (bytes ≡ held) × Lacks 10 held × ((65 ≤ length held) ⊎ ((0 < length held) × at_end))
+
+-- no good header line stands at the front, however the input goes on, or as it ends here
+abbrev pub IsBadHeader : List ℕ → Type 0 → Type 0
+IsBadHeader bytes at_end = ((more : List ℕ) → BeginsWithHeader (bytes ++ more) → ⊥) ⊎ (at_end × (BeginsWithHeader bytes → ⊥))
+
+-- no good request line stands at the front, however the input goes on, or as it ends here
+abbrev pub IsBadFront : List ℕ → Type 0 → Type 0
+IsBadFront bytes at_end = ((more : List ℕ) → BeginsWithRequest (bytes ++ more) → ⊥) ⊎ (at_end × (BeginsWithRequest bytes → ⊥))
 
 -- what one line came to: the floor goes from old to new, the writer's bytes from out0 to out
 abbrev pub Turned : List ℕ → List ℕ → Type 0 → FloorSeen → FloorSeen → Option (List ℕ) → Option (List ℕ) → Turn → Type 0
@@ -61,6 +68,12 @@ pub record Played (left0 left : Option (List ℕ)) (held0 rest : List ℕ) (star
   pub run : Follows start requests answers now
   pub wrote : P (flat_map answer_line answers ++ tail)
 
+-- how the bytes given end behind a header and n request lines
+abbrev pub EndsSo : ℕ → List ℕ → Type 0 → End → Type 0
+EndsSo n rest at_end Whole = (n ≤ 999999) × (rest ≡ []) × at_end
+EndsSo n rest at_end (BadLine k) = (n ≤ 999999) × (rest ≢ []) × (k ≡ n + 2) × (IsBadFront rest at_end ⊎ (n ≡ 999999))
+EndsSo n rest at_end NoRoom = ⊥
+
 -- all request lines were read and answered, and how they end was found
 abbrev pub Driven : Option (List ℕ) → Option (List ℕ) → List ℕ → FloorSeen → FloorSeen → Option (List ℕ) → Option (List ℕ) → End → Type 0
 Driven left0 left held0 start now out0 out end = (n : ℕ) × (rest : List ℕ) × Played left0 left held0 rest start now n [] (Appends out0 out) × EndsSo n rest (IsAtEnd left) end
@@ -82,6 +95,11 @@ abbrev pub IsAsked : Bool → End → Option Verdict → Type 0
 IsAsked true end audit = IsAudited end audit
 IsAsked false end audit = audit ≡ None
 
+-- the line of the audit, where there is one
+abbrev pub audit_lines : Option Verdict → List ℕ
+audit_lines None = []
+audit_lines (Some verdict) = audit_line verdict
+
 -- the line of the audit was written where it is asked for, or a beginning of it
 abbrev pub TellsAudit : {E : Type 0} → Bool → Option (List ℕ) → Option (List ℕ) → Bool → Result (Option Verdict) E → Type 0
 TellsAudit audits old new failed (Ok audit) = IsTold audits audit × Appends old new (audit_lines audit) × (failed ≡ false)
@@ -93,26 +111,20 @@ Finishes audits floor end old new failed (Ok r) = (r.0 ≡ end) × (failed ≡ f
 Finishes audits floor end old new failed (Err e) =
     (e ≡ Write) × (failed ≡ true) × (audit : Option Verdict) × IsTold audits audit × Begins old new (tail_text (told floor) end ++ audit_lines audit)
 
--- the floor was driven to the end of the trace, and P holds of the report
-abbrev pub Settles : Option (List ℕ) → Option (List ℕ) → List ℕ → FloorSeen → (List ℕ → Type 0) → End → Type 0
-Settles left0 left held0 start P end = (now : FloorSeen) × (n : ℕ) × (rest : List ℕ)
-    × Played left0 left held0 rest start now n (tail_text (told now) end) P × EndsSo n rest (IsAtEnd left) end
+-- a beginning of the report was written, with the line of an audit where that is asked for
+abbrev pub BeginsReport : Bool → Option (List ℕ) → Option (List ℕ) → End → List ℕ → Type 0
+BeginsReport true out0 out end report = BeginsAudited out0 out end report
+BeginsReport false out0 out end report = Begins out0 out report
 
--- the reader or the writer failed within the request lines, or the writer behind them
-abbrev pub FailsSettling : Bool → Option (List ℕ) → Option (List ℕ) → List ℕ → FloorSeen → Option (List ℕ) → Option (List ℕ) → ReplayError → Type 0
-FailsSettling audits left0 left held0 start out0 out e =
-    Stopped left0 left held0 start out0 out e
-    ⊎ ((e ≡ Write) × (end : End) × (audit : Option Verdict) × IsAsked audits end audit × Settles left0 left held0 start (with_audit audit (Begins out0 out)) end)
+-- What a replay comes to, behind the bytes that were read before: its report was written, or it failed. The flags say
+-- which of reader and writer failed.
+abbrev pub Replayed : Bool → List ℕ → Option (List ℕ) → Option (List ℕ) → Option (List ℕ) → Option (List ℕ) → Bool → Bool → Result (End × Option Verdict) ReplayError → Type 0
+Replayed audits before left0 left out0 out reader writer (Ok r) = (reader ≡ false) × (writer ≡ false) × IsAsked audits r.0 r.1
+    × HoldsOfAll before left0 left (λ bytes. ReportsTrace bytes (with_audit r.1 (Appends out0 out)) r.0)
+Replayed audits before left0 left out0 out reader writer (Err e) =
+    Failures reader writer e × FailsBehind before left0 left (Appends out0 out) (BeginsReport audits out0 out) e
 
--- A floor of the header was driven to the end, and P holds of the report; or there is no room for one, and P holds of the one line.
-abbrev pub Houses : Option (List ℕ) → Option (List ℕ) → List ℕ → Header → (List ℕ → Type 0) → End → Type 0
-Houses left0 left held0 h P end =
-    ((start : FloorSeen) × (now : FloorSeen) × (n : ℕ) × (rest : List ℕ)
-    × Opens h start × Played left0 left held0 rest start now n (tail_text (told now) end) P × EndsSo n rest (IsAtEnd left) end)
-    ⊎ ((end ≡ NoRoom) × (left ≡ left0) × P no_memory_line)
-
--- the reader or the writer failed within the request lines, or the writer behind them
-abbrev pub FailsHousing : Bool → Option (List ℕ) → Option (List ℕ) → List ℕ → Header → Option (List ℕ) → Option (List ℕ) → ReplayError → Type 0
-FailsHousing audits left0 left held0 h out0 out e =
-    ((start : FloorSeen) × Opens h start × Stopped left0 left held0 start out0 out e)
-    ⊎ ((e ≡ Write) × (end : End) × (audit : Option Verdict) × IsAsked audits end audit × Houses left0 left held0 h (with_audit audit (Begins out0 out)) end)
+-- one line was written and no other, or a beginning of it
+abbrev pub WritesOnly : List ℕ → End → Option (List ℕ) → Option (List ℕ) → Bool → Result (End × Option Verdict) ReplayError → Type 0
+WritesOnly text end old new failed (Ok r) = (r.0 ≡ end) × (r.1 ≡ None) × Appends old new text × (failed ≡ false)
+WritesOnly text end old new failed (Err e) = (e ≡ Write) × Begins old new text × (failed ≡ true)

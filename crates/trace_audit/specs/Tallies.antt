@@ -1,7 +1,7 @@
 -- A table that counts slots. Only private functions and the invariant of `Drawn` speak of it.
 use Rattle.std.specs.Prelude.{ℕ, ◌≡◌, ◌≤◌, ◌+◌, ◌*◌, List, Option, length, slice_index, min}
 use Rattle.region_cut.specs.declared.slot.Slot.{Slot}
-use Rattle.event_floor.specs.machine.Slots.{times}
+use Rattle.pool_machine.specs.Slots.{times}
 use Rattle.trace_audit.specs.Audit.{slots_in, IsDrawnSlot}
 
 -- 1,024 chunks, of which none has more than 256 slots: so a table of 256 places for each chunk has one for each slot

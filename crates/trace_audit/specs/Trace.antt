@@ -1,7 +1,7 @@
 -- What a trace is: a good header line, good request lines, and how it ends.
 use Rattle.std.specs.Prelude.{ℕ, ◌≡◌, ◌≢◌, ◌⊎◌, ◌+◌, ◌≤◌, List, [], ◌∷◌, ◌++◌, length}
 use Rattle.std.specs.List.{flat_map, AllByRecursion}
-use Rattle.event_floor.specs.declared.request.Request.{Request}
+use Rattle.pool_machine.specs.declared.request.Request.{Request}
 use Rattle.trace_audit.specs.Grammar.{spelling, IsRequest, header_text, IsHeader}
 use Rattle.trace_audit.specs.declared.grammar.header.Header.{Header}
 use Rattle.trace_audit.specs.declared.replaying.ending.End.{End}

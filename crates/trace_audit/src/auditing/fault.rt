@@ -1,6 +1,6 @@
 //! What an audit finds wrong.
 ghost use Rattle.std.specs.Prelude.{◌≡◌};
-ghost use Rattle.trace_audit.specs.Audit.{number_of};
+ghost use Rattle.trace_audit.specs.Audit.{fault_number};
 
 use region_cut::Slot;
 use thiserror::Error;
@@ -26,7 +26,7 @@ pub enum Fault {
 impl Fault {
     /// Its number, from 1.
     pub fn number(self) -> u32
-        ensures { result ≡ number_of self }
+        ensures { result ≡ fault_number self }
     {
         match self {
             Fault::Stranger(_) => 1,

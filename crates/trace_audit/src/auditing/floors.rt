@@ -1,24 +1,21 @@
 //! The audit of a floor.
-ghost use Rattle.std.specs.Prelude.{◌≡◌, ◌<◌, ◌≤◌, ℕ, Some, None, IfOk, IsPermutation};
-ghost use Rattle.event_floor.specs.Chunks.{class_drawn};
+ghost use Rattle.std.specs.Prelude.{◌<◌, IfOk, IfErr, IsPermutation};
 ghost use Rattle.event_floor.specs.Floors.{desk_count};
-ghost use Rattle.trace_audit.specs.Audit.{class_at};
-ghost use Rattle.trace_audit.specs.Found.{ShowsPool, slots_on, slots_with};
-ghost use Rattle.trace_audit.specs.Replay.{FindsNothing};
+ghost use Rattle.event_floor.specs.headline.Slots.{slots_on, slots_with};
+ghost use Rattle.trace_audit.specs.FloorSlots.{HasEachOnce, IsFaultOn, TellsDrawn};
 
 use super::{Drawn, Fault, audit};
 use event_floor::Floor;
-use region_cut::Slot;
+use region_cut::{MAX_CHUNKS, Slot};
 use slot_chain::NoMemory;
 use std::alloc::Global;
 
 /// Which chunks of the floor are drawn.
 fn drawn_on(floor: &Floor<'_>) -> Drawn
-    ensures drawn { (k : ℕ) → k < 1024 → class_at result k ≡ class_drawn floor.now.drawn k }
-    ensures no_more { (k : ℕ) → 1024 ≤ k → class_at result k ≡ None }
+    ensures { TellsDrawn floor.now result }
 {
     let mut drawn = Drawn::new();
-    for chunk in 0..1024u16 {
+    for chunk in 0..MAX_CHUNKS as u16 {
         if let Some(class) = floor.class_of(u32::from(chunk)) {
             drawn.note(chunk, class);
         }
@@ -54,8 +51,8 @@ fn slots_on(alloc: Global, floor: &Floor<'_>) -> Result<Vec<Slot>, NoMemory>
 
 /// Whether each slot of the floor's drawn chunks is in its lists just once: at home, lent, in caches and inboxes.
 pub(crate) fn audit_floor(alloc: Global, floor: &Floor<'_>) -> Result<(), Fault>
-    requires { ShowsPool floor.now }
-    ensures { FindsNothing (Some result) }
+    ensures ok { IfOk result (λ _. HasEachOnce floor.now) }
+    ensures err { IfErr result (λ fault. IsFaultOn floor.now fault) }
 {
     let drawn = drawn_on(floor);
     match slots_on(alloc, floor) {

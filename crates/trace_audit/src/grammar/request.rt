@@ -1,6 +1,6 @@
 //! The request lines.
 ghost use Rattle.std.specs.Prelude.{◌≡◌, ℕ, IfSome, IfNone};
-ghost use Rattle.event_floor.specs.declared.request.Request.{Request};
+ghost use Rattle.pool_machine.specs.declared.request.Request.{Request};
 ghost use Rattle.trace_audit.specs.declared.grammar.request.Verb.{Verb};
 ghost use Rattle.trace_audit.specs.Grammar.{verb_text, verb_of, words_of, spelling, IsRequest};
 

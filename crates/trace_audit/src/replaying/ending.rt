@@ -1,17 +1,17 @@
 //! How a replay ends.
-ghost use Rattle.std.specs.Prelude.{◌≡◌, None, true, false, IfOk, IfErr};
-ghost use Rattle.std.specs.Io.KnownBytes.{Appends};
-ghost use Rattle.trace_audit.specs.Found.{ShowsPool};
+ghost use Rattle.std.specs.Prelude.{◌≡◌, false};
+ghost use Rattle.trace_audit.specs.FloorSlots.{ShowsPool};
 ghost use Rattle.trace_audit.specs.Machine.{told};
-ghost use Rattle.trace_audit.specs.Replay.{tail_text};
-ghost use Rattle.trace_audit.specs.Steps.{Finishes, TellsAudit};
-ghost use Rattle.trace_audit.specs.Wire.{Begins, Writes};
+ghost use Rattle.trace_audit.specs.Replay.{error_number, tail_text};
+ghost use Rattle.trace_audit.specs.Steps.{Finishes, TellsAudit, WritesOnly};
+ghost use Rattle.trace_audit.specs.Wire.{Writes};
 
 use crate::Fault;
 use crate::auditing::audit_floor;
 use crate::report::{close, line_of_bad, write_audit};
 use crate::wire::{Failed, Sink, write_all};
 use event_floor::Floor;
+use event_floor::laws::floors_list_slots;
 use std::alloc::Global;
 use thiserror::Error;
 
@@ -35,6 +35,18 @@ pub enum ReplayError {
     /// The writer failed, or took nothing.
     #[error("write failed")]
     Write,
+}
+
+impl ReplayError {
+    /// Its number, from 1.
+    pub fn number(self) -> u32
+        ensures { result ≡ error_number self }
+    {
+        match self {
+            ReplayError::Read => 1,
+            ReplayError::Write => 2,
+        }
+    }
 }
 
 /// Writes the line of a bad line, if there is one, and the closing lines.
@@ -70,6 +82,7 @@ fn tell_audit<W: Sink>(
     if !audits {
         return Ok(None);
     }
+    floors_list_slots();
     let answer = audit_floor(alloc, floor);
     match write_audit(answer, writer) {
         Ok(()) => Ok(Some(answer)),
@@ -105,12 +118,7 @@ pub(crate) fn only<W: Sink>(
     end: End,
 ) -> Result<(End, Option<Result<(), Fault>>), ReplayError>
     requires { W.has_failed writer.old ≡ false }
-    ensures ok { IfOk result (λ r.
-        (r.0 ≡ end) × (r.1 ≡ None) × Appends (W.contents writer.old) (W.contents writer.new) text.now
-        × (W.has_failed writer.new ≡ false)) }
-    ensures err { IfErr result (λ e.
-        (e ≡ ReplayError.Write) × Begins (W.contents writer.old) (W.contents writer.new) text.now
-        × (W.has_failed writer.new ≡ true)) }
+    ensures { WritesOnly text.now end (W.contents writer.old) (W.contents writer.new) (W.has_failed writer.new) result }
 {
     match write_all(writer, text) {
         Ok(()) => Ok((end, None)),

@@ -1,11 +1,12 @@
 //! From the header on.
-ghost use Rattle.std.specs.Prelude.{◌≡◌, ◌≤◌, ◌*◌, ◌↔◌, length, false, IfOk, IfErr, IfSome, IsSome};
+ghost use Rattle.std.specs.Prelude.{◌≡◌, ◌≤◌, ◌*◌, ◌↔◌, ◌++◌, [], length, false, IfOk, IfErr, IfSome, IsSome};
 ghost use Rattle.std.specs.Io.KnownBytes.{Appends};
-ghost use Rattle.trace_audit.specs.Found.{ShowsPool};
 ghost use Rattle.trace_audit.specs.Machine.{Opens, digits_of};
 ghost use Rattle.trace_audit.specs.Grammar.{IsHeader};
-ghost use Rattle.trace_audit.specs.Replay.{Failures, Fails, FailsAudited, FailsWith, IsAudited, IsBegun, IsBegunAudited, Reports, ReportsTrace, with_audit};
-ghost use Rattle.trace_audit.specs.Steps.{Settles, FailsSettling, Houses, FailsHousing, IsAsked};
+ghost use Rattle.trace_audit.specs.Replay.{BeginsAudited, Failures, Fails, IsAudited, Reports, with_audit};
+ghost use Rattle.trace_audit.specs.Steps.{Replayed};
+ghost use Rattle.trace_audit.specs.Trace.{header_line};
+ghost use Rattle.trace_audit.specs.Wire.{Begins};
 
 use super::drive::drive;
 use super::ending::{finish, only};
@@ -16,19 +17,26 @@ use crate::lines::{Held, Next, next_line};
 use crate::wire::{Sink, Source};
 use digit_route::Digits;
 use event_floor::Floor;
-use event_floor::laws::{floors_tell_counts, requests_are_answered, runs_keep_numbers};
+use event_floor::laws::floors_tell_counts;
+use pool_machine::laws::{requests_are_answered, runs_keep_numbers};
 use region_cut::laws::parts_make_the_whole;
-use region_cut::{CHUNK, Profile, cut};
+use region_cut::{CHUNK, MAX_CHUNKS, Profile, cut};
 use slot_chain::NoMemory;
 use std::alloc::{AllocError, Global};
 
 /// The limit of each desk's cache in bytes.
 const LIMIT: u64 = 4096;
 
+/// The whole report where no good header line stands first.
+const BAD_HEADER: &[u8] = b"R17 BadLine 1\n";
+
+/// The whole report where the region or the floor can't be made.
+const NO_MEMORY: &[u8] = b"R15 NoMemory\n";
+
 /// A region of so many chunks.
 fn region_of(alloc: Global, chunks: u32) -> Result<Vec<u8>, AllocError>
-    requires { chunks ≤ 1024 }
-    ensures { IfOk result (λ region. length region.items ≡ chunks * 4096) }
+    requires { chunks ≤ MAX_CHUNKS }
+    ensures { IfOk result (λ region. length region.items ≡ chunks * CHUNK) }
 {
     vec![in alloc; 0u8; chunks as usize * CHUNK]
 }
@@ -51,7 +59,7 @@ fn floor_over<'r>(
     header: Header,
 ) -> Result<Floor<'r>, NoMemory>
     requires header { IsHeader header }
-    requires region { length region.old ≡ header.chunks * 4096 }
+    requires region { length region.old ≡ header.chunks * CHUNK }
     ensures { IfOk result (λ floor. Opens header floor) }
 {
     parts_make_the_whole();
@@ -67,26 +75,23 @@ fn floor_over<'r>(
 /// Drives the floor to the end of the trace, and writes what stands behind the answers.
 fn run<R: Source, W: Sink>(
     alloc: Global,
+    header: Header,
     floor: &mut Floor<'_>,
     held: &mut Held,
     reader: &mut R,
     writer: &mut W,
     audits: bool,
 ) -> Result<(End, Option<Result<(), Fault>>), ReplayError>
-    requires shows { ShowsPool floor.old }
+    requires header { IsHeader header }
+    requires opens { Opens header floor.old }
     requires reader_down { R.has_failed reader.old ≡ false }
     requires writer_down { W.has_failed writer.old ≡ false }
-    ensures ended { IfOk result (λ r.
-        Settles (R.remaining reader.old) (R.remaining reader.new) held.old.items floor.old
-        (with_audit r.1 (Appends (W.contents writer.old) (W.contents writer.new))) r.0) }
-    ensures audit { IfOk result (λ r. IsAsked audits r.0 r.1) }
-    ensures down { IfOk result (λ _. (R.has_failed reader.new ≡ false) × (W.has_failed writer.new ≡ false)) }
-    ensures failed { IfErr result (λ e.
-        FailsSettling audits (R.remaining reader.old) (R.remaining reader.new) held.old.items floor.old
-        (W.contents writer.old) (W.contents writer.new) e) }
-    ensures up { IfErr result (λ e. Failures (R.has_failed reader.new) (W.has_failed writer.new) e) }
+    ensures { Replayed audits (header_line header ++ held.old.items) (R.remaining reader.old) (R.remaining reader.new)
+        (W.contents writer.old) (W.contents writer.new) (R.has_failed reader.new) (W.has_failed writer.new) result }
 {
+    floors_tell_counts();
     runs_keep_numbers();
+    requests_are_answered();
     match drive(alloc, floor, held, reader, writer) {
         Ok(end) => finish(alloc, floor, writer, end, audits),
         Err(error) => Err(error),
@@ -104,25 +109,18 @@ fn on_region<R: Source, W: Sink>(
     audits: bool,
 ) -> Result<(End, Option<Result<(), Fault>>), ReplayError>
     requires header { IsHeader header }
-    requires region { length region.old ≡ header.chunks * 4096 }
+    requires region { length region.old ≡ header.chunks * CHUNK }
     requires reader_down { R.has_failed reader.old ≡ false }
     requires writer_down { W.has_failed writer.old ≡ false }
-    ensures ended { IfOk result (λ r.
-        Houses (R.remaining reader.old) (R.remaining reader.new) held.old.items header
-        (with_audit r.1 (Appends (W.contents writer.old) (W.contents writer.new))) r.0) }
-    ensures audit { IfOk result (λ r. IsAsked audits r.0 r.1) }
-    ensures down { IfOk result (λ _. (R.has_failed reader.new ≡ false) × (W.has_failed writer.new ≡ false)) }
-    ensures failed { IfErr result (λ e.
-        FailsHousing audits (R.remaining reader.old) (R.remaining reader.new) held.old.items header
-        (W.contents writer.old) (W.contents writer.new) e) }
-    ensures up { IfErr result (λ e. Failures (R.has_failed reader.new) (W.has_failed writer.new) e) }
+    ensures { Replayed audits (header_line header ++ held.old.items) (R.remaining reader.old) (R.remaining reader.new)
+        (W.contents writer.old) (W.contents writer.new) (R.has_failed reader.new) (W.has_failed writer.new) result }
 {
     match floor_over(alloc, region, header) {
         Ok(made) => {
             let mut floor = made;
-            run(alloc, &mut floor, held, reader, writer, audits)
+            run(alloc, header, &mut floor, held, reader, writer, audits)
         }
-        Err(_) => only(writer, b"R15 NoMemory\n", End::NoRoom),
+        Err(_) => only(writer, NO_MEMORY, End::NoRoom),
     }
 }
 
@@ -138,15 +136,8 @@ fn on_floor<R: Source, W: Sink>(
     requires header { IsHeader header }
     requires reader_down { R.has_failed reader.old ≡ false }
     requires writer_down { W.has_failed writer.old ≡ false }
-    ensures ended { IfOk result (λ r.
-        Houses (R.remaining reader.old) (R.remaining reader.new) held.old.items header
-        (with_audit r.1 (Appends (W.contents writer.old) (W.contents writer.new))) r.0) }
-    ensures audit { IfOk result (λ r. IsAsked audits r.0 r.1) }
-    ensures down { IfOk result (λ _. (R.has_failed reader.new ≡ false) × (W.has_failed writer.new ≡ false)) }
-    ensures failed { IfErr result (λ e.
-        FailsHousing audits (R.remaining reader.old) (R.remaining reader.new) held.old.items header
-        (W.contents writer.old) (W.contents writer.new) e) }
-    ensures up { IfErr result (λ e. Failures (R.has_failed reader.new) (W.has_failed writer.new) e) }
+    ensures { Replayed audits (header_line header ++ held.old.items) (R.remaining reader.old) (R.remaining reader.new)
+        (W.contents writer.old) (W.contents writer.new) (R.has_failed reader.new) (W.has_failed writer.new) result }
 {
     match region_of(alloc, header.chunks) {
         Ok(new) => {
@@ -161,7 +152,7 @@ fn on_floor<R: Source, W: Sink>(
                 audits,
             )
         }
-        Err(_) => only(writer, b"R15 NoMemory\n", End::NoRoom),
+        Err(_) => only(writer, NO_MEMORY, End::NoRoom),
     }
 }
 
@@ -174,26 +165,17 @@ fn play<R: Source, W: Sink>(
 ) -> Result<(End, Option<Result<(), Fault>>), ReplayError>
     requires reader_down { R.has_failed reader.old ≡ false }
     requires writer_down { W.has_failed writer.old ≡ false }
-    ensures ended { IfOk result (λ r.
-        Reports (R.remaining reader.old) (R.remaining reader.new)
-        (with_audit r.1 (Appends (W.contents writer.old) (W.contents writer.new))) r.0) }
-    ensures audit { IfOk result (λ r. IsAsked audits r.0 r.1) }
-    ensures down { IfOk result (λ _. (R.has_failed reader.new ≡ false) × (W.has_failed writer.new ≡ false)) }
-    ensures failed { IfErr result (λ e.
-        FailsWith (IsAsked audits) (R.remaining reader.old) (R.remaining reader.new) (W.contents writer.old)
-        (W.contents writer.new) e) }
-    ensures up { IfErr result (λ e. Failures (R.has_failed reader.new) (W.has_failed writer.new) e) }
+    ensures { Replayed audits [] (R.remaining reader.old) (R.remaining reader.new) (W.contents writer.old)
+        (W.contents writer.new) (R.has_failed reader.new) (W.has_failed writer.new) result }
 {
-    floors_tell_counts();
-    runs_keep_numbers();
     let mut held = Held::new();
     match next_line(&mut held, reader) {
         Ok(Next::Text(text)) => match read_header(text.as_slice()) {
             Some(header) => on_floor(alloc, header, &mut held, reader, writer, audits),
-            None => only(writer, b"R17 BadLine 1\n", End::BadLine(1)),
+            None => only(writer, BAD_HEADER, End::BadLine(1)),
         },
-        Ok(Next::Over) => only(writer, b"R17 BadLine 1\n", End::BadLine(1)),
-        Ok(Next::Bad) => only(writer, b"R17 BadLine 1\n", End::BadLine(1)),
+        Ok(Next::Over) => only(writer, BAD_HEADER, End::BadLine(1)),
+        Ok(Next::Bad) => only(writer, BAD_HEADER, End::BadLine(1)),
         Err(_) => Err(ReplayError::Read),
     }
 }
@@ -211,21 +193,18 @@ pub fn replay<R: Source, W: Sink>(
 ) -> Result<End, ReplayError>
     requires reader_down { R.has_failed reader.old ≡ false }
     requires writer_down { W.has_failed writer.old ≡ false }
-    // Where the reader's bytes are known, they are a trace with this end, and its report was written and nothing else.
-    ensures trace { IfOk result (λ end.
-        IfSome (R.remaining reader.old) (λ bytes.
-        ReportsTrace bytes (Appends (W.contents writer.old) (W.contents writer.new)) end)) }
-    // Whatever the reader, the same holds of the bytes that it gave.
+    // The reader's bytes are a trace with this end, and its report was written and nothing else.
     ensures ended { IfOk result (λ end.
         Reports (R.remaining reader.old) (R.remaining reader.new)
         (Appends (W.contents writer.old) (W.contents writer.new)) end) }
     ensures down { IfOk result (λ _. (R.has_failed reader.new ≡ false) × (W.has_failed writer.new ≡ false)) }
+    // The answers to all whole lines were written, or a beginning of the report.
     ensures failed { IfErr result (λ e.
-        Fails (R.remaining reader.old) (R.remaining reader.new) (W.contents writer.old) (W.contents writer.new) e) }
-    ensures begun { IfErr result (λ e. IsBegun (R.remaining reader.old) (W.contents writer.old) (W.contents writer.new) e) }
+        Fails (R.remaining reader.old) (R.remaining reader.new)
+        (Appends (W.contents writer.old) (W.contents writer.new))
+        (λ end. Begins (W.contents writer.old) (W.contents writer.new)) e) }
     ensures up { IfErr result (λ e. Failures (R.has_failed reader.new) (W.has_failed writer.new) e) }
 {
-    requests_are_answered();
     match play(alloc, reader, writer, false) {
         Ok((end, _)) => Ok(end),
         Err(error) => Err(error),
@@ -248,22 +227,17 @@ pub fn replay_audited<R: Source, W: Sink>(
     requires writer_down { W.has_failed writer.old ≡ false }
     // Behind closing lines the audit is there, and found nothing wrong unless it had no memory; else there is none.
     ensures audit { IfOk result (λ r. IsAudited r.0 r.1) }
-    // Where the reader's bytes are known, they are a trace with this end, and its report was written, the line of the audit, and nothing else.
-    ensures trace { IfOk result (λ r.
-        IfSome (R.remaining reader.old) (λ bytes.
-        ReportsTrace bytes (with_audit r.1 (Appends (W.contents writer.old) (W.contents writer.new))) r.0)) }
-    // Whatever the reader, the same holds of the bytes that it gave.
+    // The reader's bytes are a trace with this end, and its report was written, the line of the audit, and nothing else.
     ensures ended { IfOk result (λ r.
         Reports (R.remaining reader.old) (R.remaining reader.new)
         (with_audit r.1 (Appends (W.contents writer.old) (W.contents writer.new))) r.0) }
     ensures down { IfOk result (λ _. (R.has_failed reader.new ≡ false) × (W.has_failed writer.new ≡ false)) }
+    // The answers to all whole lines were written, or a beginning of the report with the line of its audit.
     ensures failed { IfErr result (λ e.
-        FailsAudited (R.remaining reader.old) (R.remaining reader.new) (W.contents writer.old) (W.contents writer.new)
-        e) }
-    ensures begun { IfErr result (λ e.
-        IsBegunAudited (R.remaining reader.old) (W.contents writer.old) (W.contents writer.new) e) }
+        Fails (R.remaining reader.old) (R.remaining reader.new)
+        (Appends (W.contents writer.old) (W.contents writer.new))
+        (BeginsAudited (W.contents writer.old) (W.contents writer.new)) e) }
     ensures up { IfErr result (λ e. Failures (R.has_failed reader.new) (W.has_failed writer.new) e) }
 {
-    requests_are_answered();
     play(alloc, reader, writer, true)
 }

@@ -1,4 +1,4 @@
-use Rattle.trace_audit.proofs.Beginnings.{texts}
+use Rattle.trace_audit.proofs.Runs.{texts}
 use Rattle.trace_audit.proofs.laws.texts_are_traces.Goals as goal
 
 pub returns : goal.returns

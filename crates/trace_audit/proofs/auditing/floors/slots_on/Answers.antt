@@ -2,8 +2,8 @@ use Rattle.std.proofs.Common.{◌+◌, ◌++◌, map, flat_map, IsPermutation, s
 use Rattle.std.specs.List.{range_with_len}
 use Rattle.digit_route.specs.Slots.{slot_of}
 use Rattle.event_floor.specs.Lent.{buffers_lent}
-use Rattle.trace_audit.specs.Found.{slots_with}
-use Rattle.trace_audit.proofs.Found.{desk_more}
+use Rattle.event_floor.specs.headline.Slots.{slots_with}
+use Rattle.trace_audit.proofs.OnceOnFloors.{desk_more}
 use Rattle.trace_audit.proofs.auditing.floors.slots_on.Goals as goal
 
 pub loop-desk-preserved : goal.loop-desk-preserved

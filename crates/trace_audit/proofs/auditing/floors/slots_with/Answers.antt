@@ -1,6 +1,6 @@
 use Rattle.std.proofs.Common.{◌++◌, IsPermutation, sym, ap, ap₂, ◌∙◌, subst}
-use Rattle.trace_audit.specs.Found.{slots_with}
-use Rattle.trace_audit.proofs.Found.{three_lists}
+use Rattle.event_floor.specs.headline.Slots.{slots_with}
+use Rattle.trace_audit.proofs.OnceOnFloors.{three_lists}
 use Rattle.trace_audit.proofs.auditing.floors.slots_with.Goals as goal
 
 pub returns : goal.returns

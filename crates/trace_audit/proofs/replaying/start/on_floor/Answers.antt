@@ -1,12 +1,8 @@
 use Rattle.std.proofs.Common.{refl}
-use Rattle.trace_audit.proofs.Finishes.{no_room, no_room_asked, no_room_fails}
+use Rattle.trace_audit.proofs.Headers.{none_for_no_room}
+use Rattle.trace_audit.proofs.Replays.{only_line}
+use Rattle.trace_audit.proofs.WholeTraces.{no_room}
 use Rattle.trace_audit.proofs.replaying.start.on_floor.Goals as goal
 
-pub returns-in-Err-clause-ended : goal.returns-in-Err-clause-ended
-returns-in-Err-clause-ended g c = no_room _ _ _ _ _ c.args.header _ _ c.only.result refl refl c.only.ensures.ok
-
-pub returns-in-Err-clause-audit : goal.returns-in-Err-clause-audit
-returns-in-Err-clause-audit g c = no_room_asked c.args.audits _ _ c.only.result c.only.ensures.ok
-
-pub returns-in-Err-clause-failed : goal.returns-in-Err-clause-failed
-returns-in-Err-clause-failed g c = no_room_fails c.args.audits _ _ _ _ _ c.args.header _ _ c.only.result refl refl c.only.ensures.err
+pub returns-in-Err : goal.returns-in-Err
+returns-in-Err g c = only_line c.args.audits _ _ _ _ _ _ _ _ _ _ c.only.result refl (none_for_no_room c.args.audits) (λ P p. no_room _ _ c.args.header _ c.requires.header refl P p) c.only.ensures c.requires.reader_down

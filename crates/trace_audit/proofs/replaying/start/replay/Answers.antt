@@ -1,15 +1,10 @@
-use Rattle.trace_audit.proofs.Audited.{plain, plain_known, plain_fails}
-use Rattle.trace_audit.proofs.Beginnings.{fails_begun}
+use Rattle.std.proofs.Common.{[], Option, subst}
+use Rattle.std.specs.Io.KnownBytes.{Appends}
+use Rattle.trace_audit.specs.Replay.{Reports, with_audit}
+use Rattle.trace_audit.specs.Report.{Verdict}
 use Rattle.trace_audit.proofs.replaying.start.replay.Goals as goal
 
 pub returns-in-Ok-clause-ended : goal.returns-in-Ok-clause-ended
-returns-in-Ok-clause-ended g c = plain _ _ _ c.in-Ok.end c.in-Ok.field-0-1 c.in-Ok.ensures.audit c.in-Ok.ensures.ended
-
-pub returns-in-Ok-clause-trace : goal.returns-in-Ok-clause-trace
-returns-in-Ok-clause-trace g c = plain_known _ _ _ c.in-Ok.end c.in-Ok.field-0-1 c.in-Ok.ensures.audit c.in-Ok.ensures.ended
-
-pub returns-in-Err-clause-failed : goal.returns-in-Err-clause-failed
-returns-in-Err-clause-failed g c = plain_fails _ _ _ _ c.in-Err.error c.in-Err.ensures.failed
-
-pub returns-in-Err-clause-begun : goal.returns-in-Err-clause-begun
-returns-in-Err-clause-begun g c = fails_begun c.requests_are_answered.ensures _ _ _ _ c.in-Err.error (plain_fails _ _ _ _ c.in-Err.error c.in-Err.ensures.failed)
+returns-in-Ok-clause-ended g c =
+    subst (λ (a : Option Verdict). Reports (g.R.Source.remaining c.args.reader.now) (g.R.Source.remaining c.play.new.reader)
+    (with_audit a (Appends (g.W.Sink.contents c.args.writer.now) (g.W.Sink.contents c.play.new.writer))) c.in-Ok.end) c.in-Ok.ensures.2 c.in-Ok.ensures.3
