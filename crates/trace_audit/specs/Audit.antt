@@ -52,7 +52,8 @@ IsNowhere P = (s : Slot) → P s → ⊥
 abbrev pub IsFault : List (Option ℕ) → List Slot → Fault → Type 0
 IsFault drawn found (Stranger s) = IsLeast (IsStranger drawn found) s
 IsFault drawn found (Doubled s) = IsNowhere (IsStranger drawn found) × IsLeast (IsDoubled drawn found) s
-IsFault drawn found (Missing s) = IsNowhere (IsStranger drawn found) × IsNowhere (IsDoubled drawn found) × IsLeast (IsMissing drawn found) s
+IsFault drawn found (Missing s) = IsNowhere (IsStranger drawn found) × IsNowhere (IsDoubled drawn found)
+    × IsLeast (IsMissing drawn found) s
 IsFault drawn found NoMemory = Unit {0}
 
 abbrev pub fault_number : Fault → ℕ

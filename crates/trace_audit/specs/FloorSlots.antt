@@ -15,13 +15,15 @@ pub record TellsDrawn (v : FloorSeen) (drawn : List (Option ℕ)) : Type 0 where
   pub classes : (k : ℕ) → k < 1024 → class_at drawn k ≡ class_drawn v.drawn k
   pub no_more : (k : ℕ) → 1024 ≤ k → class_at drawn k ≡ None
 
--- the homes, the caches, the inboxes and the lent buffers, joined, have each slot of a drawn chunk once, and no other slot
+-- the homes, the caches, the inboxes and the lent buffers, joined, have each slot of a drawn chunk once, and no other
+-- slot
 abbrev pub HasEachOnce : FloorSeen → Type 0
 HasEachOnce v = (drawn : List (Option ℕ)) × TellsDrawn v drawn × ExactlyOnce drawn (slots_on v)
 
 -- the fault is there, in some order of these slots
 abbrev pub IsFaultOn : FloorSeen → Fault → Type 0
-IsFaultOn v fault = (drawn : List (Option ℕ)) × (found : List Slot) × TellsDrawn v drawn × IsPermutation (slots_on v) found × IsFault drawn found fault
+IsFaultOn v fault = (drawn : List (Option ℕ)) × (found : List Slot) × TellsDrawn v drawn
+    × IsPermutation (slots_on v) found × IsFault drawn found fault
 
 -- the floor shows a state of a pool that has no more chunks than a region
 pub record ShowsPool (v : FloorSeen) : Type 0 where

@@ -6,7 +6,8 @@ use Rattle.region_cut.specs.declared.profile.Profile.TheVariants.{Pool, Pool2}
 use Rattle.pool_machine.specs.declared.request.Request.{Request}
 use Rattle.pool_machine.specs.declared.request.Request.TheVariants.{Adopt, Retire, Claim, Alloc, Free, Send, Link, Take}
 use Rattle.trace_audit.specs.declared.grammar.request.Verb.{Verb}
-use Rattle.trace_audit.specs.declared.grammar.request.Verb.TheVariants.{Adopts, Retires, Claims, Allocs, Frees, Sends, Links, Takes}
+use Rattle.trace_audit.specs.declared.grammar.request.Verb.TheVariants.{Adopts, Retires, Claims, Allocs, Frees}
+use Rattle.trace_audit.specs.declared.grammar.request.Verb.TheVariants.{Sends, Links, Takes}
 use Rattle.trace_audit.specs.declared.grammar.header.Header.{Header}
 
 -- no byte of the text is the mark

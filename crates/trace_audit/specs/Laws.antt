@@ -13,4 +13,5 @@ ReadInOneWay = (bytes : List ℕ) (h k : Header) (rs qs : List Request) (d e : E
 
 -- behind a good header line, whatever follows is a trace
 abbrev pub TextsAreTraces : Type 0
-TextsAreTraces = (h : Header) (more : List ℕ) → IsHeader h → (requests : List Request) × (end : End) × IsTrace (header_line h ++ more) h requests end
+TextsAreTraces = (h : Header) (more : List ℕ) → IsHeader h → (requests : List Request) × (end : End)
+    × IsTrace (header_line h ++ more) h requests end

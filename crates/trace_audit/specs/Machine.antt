@@ -51,7 +51,11 @@ pub record Tally : Type 0 where
 
 -- what is told of a state
 abbrev pub told_of : State → Tally
-told_of st = record { chunks = drawn_count st; lent = lent_count st; desks = map (counts_in st) (range_with_len 0 st.desks) }
+told_of st = record {
+  chunks = drawn_count st;
+  lent = lent_count st;
+  desks = map (counts_in st) (range_with_len 0 st.desks);
+}
 
 -- the same, as the floor counts it
 abbrev pub told : FloorSeen → Tally

@@ -1,5 +1,6 @@
 -- What a replay reads, how it ends, and what it writes.
-use Rattle.std.specs.Prelude.{ℕ, ◌≡◌, ◌⊎◌, ◌<◌, ◌≤◌, List, [], ◌++◌, length, Option, Some, None, Ok, Err, Bool, true, false, ⊤}
+use Rattle.std.specs.Prelude.{ℕ, ◌≡◌, ◌⊎◌, ◌<◌, ◌≤◌, List, [], ◌++◌, length, Option, Some, None, Ok, Err, Bool}
+use Rattle.std.specs.Prelude.{true, false, ⊤}
 use Rattle.std.specs.List.{flat_map}
 use Rattle.std.specs.Io.KnownBytes.{Consumes, IsAtEnd}
 use Rattle.pool_machine.specs.State.{State}
@@ -67,17 +68,22 @@ IsPartial bytes = Lacks 10 bytes × (length bytes ≤ 64)
 -- No bad line is known in the bytes, and P holds of the lines of the answers to all whole request lines; of no line
 -- where not even a header line is whole.
 abbrev pub AnswersLines : List ℕ → (List ℕ → Type 0) → Type 0
-AnswersLines bytes P = (IsPartial bytes × P []) ⊎ ((whole : List ℕ) × (rest : List ℕ) × (bytes ≡ whole ++ rest) × IsPartial rest
+AnswersLines bytes P = (IsPartial bytes × P [])
+    ⊎ ((whole : List ℕ) × (rest : List ℕ) × (bytes ≡ whole ++ rest) × IsPartial rest
     × Answered whole Whole (λ requests lines now. (length requests ≡ 999999 → rest ≡ []) × P lines))
 
 -- Read: the lines of these answers were written, and no closing line. Write: P holds of the report of all bytes, whose
 -- end is P's too.
-abbrev pub FailsBehind : List ℕ → Option (List ℕ) → Option (List ℕ) → (List ℕ → Type 0) → (End → List ℕ → Type 0) → ReplayError → Type 0
-FailsBehind before left0 left Wrote P Read = (given : List ℕ) × Consumes left0 left given × AnswersLines (before ++ given) Wrote
-FailsBehind before left0 left Wrote P Write = HoldsOfAll before left0 left (λ bytes. (end : End) × ReportsTrace bytes (P end) end)
+abbrev pub FailsBehind : List ℕ → Option (List ℕ) → Option (List ℕ) → (List ℕ → Type 0) → (End → List ℕ → Type 0)
+    → ReplayError → Type 0
+FailsBehind before left0 left Wrote P Read = (given : List ℕ) × Consumes left0 left given
+    × AnswersLines (before ++ given) Wrote
+FailsBehind before left0 left Wrote P Write =
+    HoldsOfAll before left0 left (λ bytes. (end : End) × ReportsTrace bytes (P end) end)
 
 -- where nothing was read before
-abbrev pub Fails : Option (List ℕ) → Option (List ℕ) → (List ℕ → Type 0) → (End → List ℕ → Type 0) → ReplayError → Type 0
+abbrev pub Fails : Option (List ℕ) → Option (List ℕ) → (List ℕ → Type 0) → (End → List ℕ → Type 0) → ReplayError
+    → Type 0
 Fails left0 left Wrote P e = FailsBehind [] left0 left Wrote P e
 
 abbrev pub error_number : ReplayError → ℕ
@@ -110,4 +116,5 @@ IsAudited NoRoom audit = audit ≡ None
 
 -- a beginning of the report with the line of such an audit was written
 abbrev pub BeginsAudited : Option (List ℕ) → Option (List ℕ) → End → List ℕ → Type 0
-BeginsAudited out0 out end report = (audit : Option Verdict) × IsAudited end audit × with_audit audit (Begins out0 out) report
+BeginsAudited out0 out end report = (audit : Option Verdict) × IsAudited end audit
+    × with_audit audit (Begins out0 out) report

@@ -1,9 +1,11 @@
 -- The lines of a report.
-use Rattle.std.specs.Prelude.{ℕ, ◌+◌, ◌==◌, ◌&&◌, sum_by, nat_lt, Bool, List, [], ◌∷◌, ◌++◌, codes, decimal, Result, Ok, Err, suc, if◌then◌else◌}
+use Rattle.std.specs.Prelude.{ℕ, ◌+◌, ◌==◌, ◌&&◌, sum_by, nat_lt, Bool, List, [], ◌∷◌, ◌++◌, codes, decimal, Result}
+use Rattle.std.specs.Prelude.{Ok, Err, suc, if◌then◌else◌}
 use Rattle.region_cut.specs.Slots.{printed}
 use Rattle.slot_chain.specs.Counts.{capped}
 use Rattle.pool_machine.specs.declared.reply.Reply.{Reply}
-use Rattle.pool_machine.specs.declared.reply.Reply.TheVariants.{Done, Chunk, Slot, Home, Cached, Due, Batch, Counts as Handled}
+use Rattle.pool_machine.specs.declared.reply.Reply.TheVariants.{Done, Chunk, Slot, Home, Cached, Due, Batch}
+use Rattle.pool_machine.specs.declared.reply.Reply.TheVariants.{Counts as Handled}
 use Rattle.pool_machine.specs.declared.refusal.Refusal.{Refusal}
 use Rattle.pool_machine.specs.RefusalNames.{refusal_number, refusal_name}
 use Rattle.trace_audit.specs.declared.auditing.fault.Fault.{Fault}
@@ -65,7 +67,8 @@ no_memory_line = codes "R15 NoMemory" ++ 10 ∷ []
 
 -- the three counts, and the line's end
 abbrev pub counts_text : Counts → List ℕ
-counts_text c = codes " home " ++ decimal c.home ++ codes " cached " ++ decimal c.cached ++ codes " queued " ++ decimal c.queued ++ 10 ∷ []
+counts_text c = codes " home " ++ decimal c.home ++ codes " cached " ++ decimal c.cached ++ codes " queued "
+    ++ decimal c.queued ++ 10 ∷ []
 
 abbrev pub are_zero : Counts → Bool
 are_zero c = (c.home == 0) && (c.cached == 0) && (c.queued == 0)
@@ -81,11 +84,19 @@ desk_lines a (c ∷ cs) = desk_line a c ++ desk_lines (suc a) cs
 
 -- two desks together; a sum stops at the greatest u64
 abbrev pub plus : Counts → Counts → Counts
-plus c d = record { home = capped (c.home + d.home); cached = capped (c.cached + d.cached); queued = capped (c.queued + d.queued) }
+plus c d = record {
+  home = capped (c.home + d.home);
+  cached = capped (c.cached + d.cached);
+  queued = capped (c.queued + d.queued);
+}
 
 -- the sums over the desks
 abbrev pub total : List Counts → Counts
-total cs = record { home = capped (sum_by (λ c. c.home) cs); cached = capped (sum_by (λ c. c.cached) cs); queued = capped (sum_by (λ c. c.queued) cs) }
+total cs = record {
+  home = capped (sum_by (λ c. c.home) cs);
+  cached = capped (sum_by (λ c. c.cached) cs);
+  queued = capped (sum_by (λ c. c.queued) cs);
+}
 
 abbrev pub end_line : Tally → List ℕ
 end_line t = codes "end chunks " ++ decimal t.chunks ++ codes " lent " ++ decimal t.lent ++ counts_text (total t.desks)

@@ -1,5 +1,6 @@
 -- What the parts of a replay come to. Only contracts of private functions speak of these.
-use Rattle.std.specs.Prelude.{ℕ, ◌≡◌, ◌≢◌, ◌⊎◌, ◌+◌, ◌<◌, ◌≤◌, List, [], ◌∷◌, ◌++◌, length, Option, Some, None, Result, Ok, Err, Bool, true, false}
+use Rattle.std.specs.Prelude.{ℕ, ◌≡◌, ◌≢◌, ◌⊎◌, ◌+◌, ◌<◌, ◌≤◌, List, [], ◌∷◌, ◌++◌, length, Option, Some, None}
+use Rattle.std.specs.Prelude.{Result, Ok, Err, Bool, true, false}
 use Rattle.std.specs.List.{flat_map, AllByRecursion}
 use Rattle.std.specs.Io.KnownBytes.{Appends, Consumes, IsAtEnd}
 use Rattle.event_floor.specs.Floors.{FloorSeen}
@@ -14,7 +15,8 @@ use Rattle.region_cut.specs.declared.slot.Slot.{Slot}
 use Rattle.trace_audit.specs.Machine.{Answer, told}
 use Rattle.trace_audit.specs.Report.{answer_line, audit_line, Verdict}
 use Rattle.trace_audit.specs.Trace.{request_line, BeginsWithHeader, BeginsWithRequest}
-use Rattle.trace_audit.specs.Replay.{BeginsAudited, Failures, FailsBehind, FindsNothing, HoldsOfAll, IsAudited, IsPartial, ReportsTrace, tail_text, with_audit}
+use Rattle.trace_audit.specs.Replay.{BeginsAudited, Failures, FailsBehind, FindsNothing, HoldsOfAll, IsAudited}
+use Rattle.trace_audit.specs.Replay.{IsPartial, ReportsTrace, tail_text, with_audit}
 use Rattle.trace_audit.specs.Wire.{Begins}
 use Rattle.trace_audit.specs.declared.lines.Next.{Next}
 use Rattle.trace_audit.specs.declared.lines.Next.TheVariants.{Text, Over, Bad}
@@ -33,22 +35,27 @@ Took bytes held at_end Bad = (bytes ≡ held) × Lacks 10 held × ((65 ≤ lengt
 
 -- no good header line stands at the front, however the input goes on, or as it ends here
 abbrev pub IsBadHeader : List ℕ → Type 0 → Type 0
-IsBadHeader bytes at_end = ((more : List ℕ) → BeginsWithHeader (bytes ++ more) → ⊥) ⊎ (at_end × (BeginsWithHeader bytes → ⊥))
+IsBadHeader bytes at_end = ((more : List ℕ) → BeginsWithHeader (bytes ++ more) → ⊥)
+    ⊎ (at_end × (BeginsWithHeader bytes → ⊥))
 
 -- no good request line stands at the front, however the input goes on, or as it ends here
 abbrev pub IsBadFront : List ℕ → Type 0 → Type 0
-IsBadFront bytes at_end = ((more : List ℕ) → BeginsWithRequest (bytes ++ more) → ⊥) ⊎ (at_end × (BeginsWithRequest bytes → ⊥))
+IsBadFront bytes at_end = ((more : List ℕ) → BeginsWithRequest (bytes ++ more) → ⊥)
+    ⊎ (at_end × (BeginsWithRequest bytes → ⊥))
 
 -- what one line came to: the floor goes from old to new, the writer's bytes from out0 to out
 abbrev pub Turned : List ℕ → List ℕ → Type 0 → FloorSeen → FloorSeen → Option (List ℕ) → Option (List ℕ) → Turn → Type 0
-Turned bytes held at_end old new out0 out turns.Answered = (r : Request) × (x : Answer) × IsRequest r × (bytes ≡ request_line r ++ held) × Applies old r x new × Appends out0 out (answer_line x)
+Turned bytes held at_end old new out0 out turns.Answered = (r : Request) × (x : Answer) × IsRequest r
+    × (bytes ≡ request_line r ++ held) × Applies old r x new × Appends out0 out (answer_line x)
 Turned bytes held at_end old new out0 out turns.Over = (bytes ≡ []) × (held ≡ []) × at_end × (new ≡ old) × (out ≡ out0)
-Turned bytes held at_end old new out0 out turns.Bad = (bytes ≢ []) × IsBadFront bytes at_end × (new ≡ old) × (out ≡ out0)
+Turned bytes held at_end old new out0 out turns.Bad = (bytes ≢ []) × IsBadFront bytes at_end × (new ≡ old)
+    × (out ≡ out0)
 
 -- where the reader or the writer failed within a line
 abbrev pub Broke : List ℕ → List ℕ → FloorSeen → FloorSeen → Option (List ℕ) → Option (List ℕ) → ReplayError → Type 0
 Broke bytes held old new out0 out Read = (bytes ≡ held) × IsPartial held × (new ≡ old) × (out ≡ out0)
-Broke bytes held old new out0 out Write = (r : Request) × (x : Answer) × IsRequest r × (bytes ≡ request_line r ++ held) × Applies old r x new × Begins out0 out (answer_line x)
+Broke bytes held old new out0 out Write = (r : Request) × (x : Answer) × IsRequest r
+    × (bytes ≡ request_line r ++ held) × Applies old r x new × Begins out0 out (answer_line x)
 
 -- from each state that the first floor shows, the requests with these answers are a run to one that the other shows
 abbrev pub Follows : FloorSeen → List Request → List Answer → FloorSeen → Type 0
@@ -57,7 +64,8 @@ Follows start requests answers now = (st : State) (count : Slot → ℕ) → Sho
 
 -- What was held and what was read are n request lines and a rest; the floor was driven by them, and P holds of the
 -- lines of its answers, with the tail behind them.
-pub record Played (left0 left : Option (List ℕ)) (held0 rest : List ℕ) (start now : FloorSeen) (n : ℕ) (tail : List ℕ) (P : List ℕ → Type 0) : Type 0 where
+pub record Played (left0 left : Option (List ℕ)) (held0 rest : List ℕ) (start now : FloorSeen) (n : ℕ) (tail : List ℕ)
+    (P : List ℕ → Type 0) : Type 0 where
   pub given : List ℕ
   pub requests : List Request
   pub answers : List Answer
@@ -75,13 +83,17 @@ EndsSo n rest at_end (BadLine k) = (n ≤ 999999) × (rest ≢ []) × (k ≡ n +
 EndsSo n rest at_end NoRoom = ⊥
 
 -- all request lines were read and answered, and how they end was found
-abbrev pub Driven : Option (List ℕ) → Option (List ℕ) → List ℕ → FloorSeen → FloorSeen → Option (List ℕ) → Option (List ℕ) → End → Type 0
-Driven left0 left held0 start now out0 out end = (n : ℕ) × (rest : List ℕ) × Played left0 left held0 rest start now n [] (Appends out0 out) × EndsSo n rest (IsAtEnd left) end
+abbrev pub Driven : Option (List ℕ) → Option (List ℕ) → List ℕ → FloorSeen → FloorSeen → Option (List ℕ)
+    → Option (List ℕ) → End → Type 0
+Driven left0 left held0 start now out0 out end = (n : ℕ) × (rest : List ℕ)
+    × Played left0 left held0 rest start now n [] (Appends out0 out) × EndsSo n rest (IsAtEnd left) end
 
 -- the reader or the writer failed before
-abbrev pub Stopped : Option (List ℕ) → Option (List ℕ) → List ℕ → FloorSeen → Option (List ℕ) → Option (List ℕ) → ReplayError → Type 0
+abbrev pub Stopped : Option (List ℕ) → Option (List ℕ) → List ℕ → FloorSeen → Option (List ℕ) → Option (List ℕ)
+    → ReplayError → Type 0
 Stopped left0 left held0 start out0 out Read = (now : FloorSeen) × (n : ℕ) × (rest : List ℕ)
-    × Played left0 left held0 rest start now n [] (Appends out0 out) × (n ≤ 999999) × IsPartial rest × (n ≡ 999999 → rest ≡ [])
+    × Played left0 left held0 rest start now n [] (Appends out0 out) × (n ≤ 999999) × IsPartial rest
+    × (n ≡ 999999 → rest ≡ [])
 Stopped left0 left held0 start out0 out Write = (now : FloorSeen) × (n : ℕ) × (rest : List ℕ)
     × Played left0 left held0 rest start now n [] (Begins out0 out) × (n ≤ 999999)
 
@@ -101,15 +113,21 @@ audit_lines None = []
 audit_lines (Some verdict) = audit_line verdict
 
 -- the line of the audit was written where it is asked for, or a beginning of it
-abbrev pub TellsAudit : {E : Type 0} → Bool → Option (List ℕ) → Option (List ℕ) → Bool → Result (Option Verdict) E → Type 0
-TellsAudit audits old new failed (Ok audit) = IsTold audits audit × Appends old new (audit_lines audit) × (failed ≡ false)
-TellsAudit audits old new failed (Err e) = ((audit : Option Verdict) × IsTold audits audit × Begins old new (audit_lines audit)) × (failed ≡ true)
+abbrev pub TellsAudit : {E : Type 0} → Bool → Option (List ℕ) → Option (List ℕ) → Bool → Result (Option Verdict) E
+    → Type 0
+TellsAudit audits old new failed (Ok audit) = IsTold audits audit × Appends old new (audit_lines audit)
+    × (failed ≡ false)
+TellsAudit audits old new failed (Err e) = ((audit : Option Verdict) × IsTold audits audit
+    × Begins old new (audit_lines audit)) × (failed ≡ true)
 
 -- what stands behind the answers was written, or a beginning of it
-abbrev pub Finishes : Bool → FloorSeen → End → Option (List ℕ) → Option (List ℕ) → Bool → Result (End × Option Verdict) ReplayError → Type 0
-Finishes audits floor end old new failed (Ok r) = (r.0 ≡ end) × (failed ≡ false) × IsTold audits r.1 × Appends old new (tail_text (told floor) end ++ audit_lines r.1)
+abbrev pub Finishes : Bool → FloorSeen → End → Option (List ℕ) → Option (List ℕ) → Bool
+    → Result (End × Option Verdict) ReplayError → Type 0
+Finishes audits floor end old new failed (Ok r) = (r.0 ≡ end) × (failed ≡ false) × IsTold audits r.1
+    × Appends old new (tail_text (told floor) end ++ audit_lines r.1)
 Finishes audits floor end old new failed (Err e) =
-    (e ≡ Write) × (failed ≡ true) × (audit : Option Verdict) × IsTold audits audit × Begins old new (tail_text (told floor) end ++ audit_lines audit)
+    (e ≡ Write) × (failed ≡ true) × (audit : Option Verdict) × IsTold audits audit
+    × Begins old new (tail_text (told floor) end ++ audit_lines audit)
 
 -- a beginning of the report was written, with the line of an audit where that is asked for
 abbrev pub BeginsReport : Bool → Option (List ℕ) → Option (List ℕ) → End → List ℕ → Type 0
@@ -118,13 +136,16 @@ BeginsReport false out0 out end report = Begins out0 out report
 
 -- What a replay comes to, behind the bytes that were read before: its report was written, or it failed. The flags say
 -- which of reader and writer failed.
-abbrev pub Replayed : Bool → List ℕ → Option (List ℕ) → Option (List ℕ) → Option (List ℕ) → Option (List ℕ) → Bool → Bool → Result (End × Option Verdict) ReplayError → Type 0
-Replayed audits before left0 left out0 out reader writer (Ok r) = (reader ≡ false) × (writer ≡ false) × IsAsked audits r.0 r.1
+abbrev pub Replayed : Bool → List ℕ → Option (List ℕ) → Option (List ℕ) → Option (List ℕ) → Option (List ℕ) → Bool
+    → Bool → Result (End × Option Verdict) ReplayError → Type 0
+Replayed audits before left0 left out0 out reader writer (Ok r) = (reader ≡ false) × (writer ≡ false)
+    × IsAsked audits r.0 r.1
     × HoldsOfAll before left0 left (λ bytes. ReportsTrace bytes (with_audit r.1 (Appends out0 out)) r.0)
 Replayed audits before left0 left out0 out reader writer (Err e) =
     Failures reader writer e × FailsBehind before left0 left (Appends out0 out) (BeginsReport audits out0 out) e
 
 -- one line was written and no other, or a beginning of it
-abbrev pub WritesOnly : List ℕ → End → Option (List ℕ) → Option (List ℕ) → Bool → Result (End × Option Verdict) ReplayError → Type 0
+abbrev pub WritesOnly : List ℕ → End → Option (List ℕ) → Option (List ℕ) → Bool
+    → Result (End × Option Verdict) ReplayError → Type 0
 WritesOnly text end old new failed (Ok r) = (r.0 ≡ end) × (r.1 ≡ None) × Appends old new text × (failed ≡ false)
 WritesOnly text end old new failed (Err e) = (e ≡ Write) × Begins old new text × (failed ≡ true)

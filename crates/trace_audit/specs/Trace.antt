@@ -24,7 +24,8 @@ abbrev pub BeginsWithRequest : List ℕ → Type 0
 BeginsWithRequest bytes = (r : Request) × (more : List ℕ) × IsRequest r × (bytes ≡ spelling r ++ 10 ∷ more)
 
 -- A trace: a good header line, good request lines, 1,000,000 lines at most, and a rest. Nothing is left; or no good
--- line stands at the front of what is left, or as many lines as there may be stand before it: then the next line is bad.
+-- line stands at the front of what is left, or as many lines as there may be stand before it: then the next line is
+-- bad.
 
 abbrev pub EndsTrace : ℕ → List ℕ → End → Type 0
 EndsTrace n rest Whole = rest ≡ []

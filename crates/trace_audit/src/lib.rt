@@ -1,4 +1,5 @@
-//! Traces of a buffer pool: [`replay`] reads one, drives a floor with it, and writes a report; [`replay_audited`] audits the
+//! Traces of a buffer pool: [`replay`] reads one, drives a floor with it, and writes a report; [`replay_audited`]
+//! audits the
 //! floor at its end.
 //!
 //! [`audit`] says whether all slots of the chunks that a pool drew are there, each of them once.

@@ -17,7 +17,8 @@ pub(crate) fn is_drawn_slot(drawn: &Drawn, slot: Slot) -> bool
 
 /// The lesser of two slots, or the only one.
 fn lesser(least: Option<Slot>, slot: Slot) -> Slot
-    ensures { ((least ≡ Some result) × (IsBefore slot result → ⊥)) ⊎ ((result ≡ slot) × IfSome least (λ s. IsBefore slot s)) }
+    ensures { ((least ≡ Some result) × (IsBefore slot result → ⊥))
+        ⊎ ((result ≡ slot) × IfSome least (λ s. IsBefore slot s)) }
 {
     match least {
         Some(least) if least <= slot => least,

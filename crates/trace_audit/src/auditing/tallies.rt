@@ -8,7 +8,10 @@ use super::strangers::is_drawn_slot;
 use region_cut::Slot;
 use std::alloc::{AllocError, Global};
 
-/// How many places the table has: 256 for each chunk, since no chunk has more slots.
+/// The most slots that a chunk has.
+const MAX_SLOTS: usize = 256;
+
+/// How many places the table has: one for each slot that a chunk may have.
 pub(crate) const PLACES: usize = 262_144;
 
 /// So many zeros.
@@ -21,12 +24,13 @@ pub(crate) fn zeros(alloc: Global, count: usize) -> Result<Vec<u8>, AllocError>
 
 /// Where the slot is counted, if it is one of a drawn chunk.
 fn place_of(drawn: &Drawn, slot: Slot) -> Option<usize>
-    ensures some { IfSome result (λ at. IsDrawnSlot drawn.now slot × (at ≡ slot.chunk * 256 + slot.index) × (at < 262144)) }
+    ensures some { IfSome result (λ at. IsDrawnSlot drawn.now slot × (at ≡ slot.chunk * 256 + slot.index)
+        × (at < 262144)) }
     ensures none { IfNone result (IsDrawnSlot drawn.now slot → ⊥) }
     ensures fits { FitsTable drawn.now }
 {
     if is_drawn_slot(drawn, slot) {
-        Some(slot.chunk as usize * 256 + slot.index as usize)
+        Some(slot.chunk as usize * MAX_SLOTS + slot.index as usize)
     } else {
         None
     }

@@ -5,7 +5,7 @@ ghost use Rattle.trace_audit.specs.declared.grammar.header.Header.{Header};
 ghost use Rattle.trace_audit.specs.Grammar.{profile_text, desks_of, header_text, header_words, AreWords, IsHeader};
 
 use super::words::{cut_at, number, two};
-use region_cut::Profile;
+use region_cut::{MAX_CHUNKS, Profile};
 
 /// The numbers of a header line.
 #[derive(Clone, Copy, Debug, PartialEq, Eq)]
@@ -31,13 +31,22 @@ fn read_profile(word: &[u8]) -> Option<Profile>
     }
 }
 
+/// How many desks a floor of the first profile may have, whose numbers have 6 bits.
+const POOL_DESKS: u32 = 64;
+
+/// The same of the second profile, whose numbers have 12 bits.
+const POOL2_DESKS: u32 = 4096;
+
+/// How many bits a digit may have.
+const MAX_WIDTH: u32 = 6;
+
 /// How many desks a floor may have.
 fn most_desks(profile: Profile) -> u32
     ensures { result ≡ desks_of profile }
 {
     match profile {
-        Profile::Pool => 64,
-        Profile::Pool2 => 4096,
+        Profile::Pool => POOL_DESKS,
+        Profile::Pool2 => POOL2_DESKS,
     }
 }
 
@@ -46,9 +55,9 @@ fn is_in_range(header: Header) -> bool
 {
     header.desks >= 1
         && header.desks <= most_desks(header.profile)
-        && header.chunks <= 1024
+        && header.chunks as usize <= MAX_CHUNKS
         && header.width >= 1
-        && header.width <= 6
+        && header.width <= MAX_WIDTH
 }
 
 /// The header of these words behind the first.

@@ -39,7 +39,8 @@ fn read_verb(word: &[u8]) -> Option<Verb>
 
 /// The desk and the slot of a request to free, as `7 0.3`.
 fn freed(words: &[u8]) -> Option<(u32, (u32, u32))>
-    ensures found { IfSome result (λ f. IsRequest (Request.Free f.0 f.1) × (words.now ≡ words_of (Request.Free f.0 f.1))) }
+    ensures found { IfSome result (λ f. IsRequest (Request.Free f.0 f.1)
+        × (words.now ≡ words_of (Request.Free f.0 f.1))) }
     ensures none { IfNone result
         ((a : ℕ) (s : ℕ × ℕ) → IsRequest (Request.Free a s) → words.now ≡ words_of (Request.Free a s) → ⊥) }
 {

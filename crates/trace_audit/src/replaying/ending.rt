@@ -100,7 +100,8 @@ pub(crate) fn finish<W: Sink>(
 ) -> Result<(End, Option<Result<(), Fault>>), ReplayError>
     requires down { W.has_failed writer.old ≡ false }
     requires shows { ShowsPool floor.now }
-    ensures { Finishes audits floor.now end (W.contents writer.old) (W.contents writer.new) (W.has_failed writer.new) result }
+    ensures { Finishes audits floor.now end (W.contents writer.old) (W.contents writer.new)
+        (W.has_failed writer.new) result }
 {
     match close_behind(floor, writer, end) {
         Ok(()) => match tell_audit(alloc, floor, writer, audits) {

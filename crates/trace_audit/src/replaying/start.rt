@@ -227,7 +227,8 @@ pub fn replay_audited<R: Source, W: Sink>(
     requires writer_down { W.has_failed writer.old ≡ false }
     // Behind closing lines the audit is there, and found nothing wrong unless it had no memory; else there is none.
     ensures audit { IfOk result (λ r. IsAudited r.0 r.1) }
-    // The reader's bytes are a trace with this end, and its report was written, the line of the audit, and nothing else.
+    // The reader's bytes are a trace with this end, and its report was written, the line of the audit, and nothing
+    // else.
     ensures ended { IfOk result (λ r.
         Reports (R.remaining reader.old) (R.remaining reader.new)
         (with_audit r.1 (Appends (W.contents writer.old) (W.contents writer.new))) r.0) }

@@ -48,7 +48,8 @@ fn line_of_audit(answer: Result<(), Fault>) -> Line
 /// of it was written.
 pub fn write_audit<W: Sink>(answer: Result<(), Fault>, writer: &mut W) -> Result<(), Failed>
     requires { W.has_failed writer.old ≡ false }
-    ensures { Writes (W.contents writer.old) (W.contents writer.new) (W.has_failed writer.new) (audit_line answer) result }
+    ensures { Writes (W.contents writer.old) (W.contents writer.new) (W.has_failed writer.new)
+        (audit_line answer) result }
 {
     let line = line_of_audit(answer);
     write_all(writer, line.as_slice())

@@ -108,7 +108,8 @@ fn push_counts(line: &mut Line, counts: Counts)
 /// Writes the closing lines. Takes no memory, and time in the number of the floor's slots.
 pub(crate) fn close<W: Sink>(floor: &Floor<'_>, writer: &mut W) -> Result<(), Failed>
     requires { W.has_failed writer.old ≡ false }
-    ensures { Writes (W.contents writer.old) (W.contents writer.new) (W.has_failed writer.new) (closing (told floor.now)) result }
+    ensures { Writes (W.contents writer.old) (W.contents writer.new) (W.has_failed writer.new)
+        (closing (told floor.now)) result }
 {
     let desks = floor.desk_count();
     for desk in 0..desks {
