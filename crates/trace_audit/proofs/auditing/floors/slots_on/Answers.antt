@@ -1,6 +1,6 @@
 use Rattle.std.proofs.Common.{◌+◌, ◌++◌, map, flat_map, IsPermutation, sym, ap, ◌∙◌, subst}
 use Rattle.std.specs.List.{range_with_len}
-use Rattle.digit_route.specs.Slots.{slot_of}
+use Rattle.slot_chain.specs.Slots.{slot_of}
 use Rattle.event_floor.specs.Lent.{buffers_lent}
 use Rattle.event_floor.specs.headline.Slots.{slots_with}
 use Rattle.trace_audit.proofs.OnceOnFloors.{desk_more}
