@@ -64,6 +64,14 @@ no_memory_told a b c d o (Err Read) is audit report failed = let q : ReadFailed 
 no_memory_told a b c d o (Err Write) is audit report failed = let q : WriteFailed ≡ AuditFailed = sym is ∙ failed in cc
 
 -- the same without an audit
+pub plain_all : (left0 left out0 out : Option (List ℕ)) (o : Outcome) (r : Result End ReplayError) → o ≡ outcome_of r → IfOk r (λ end. Reports left0 left (Appends out0 out) end)
+    → o ≡ Done → WritesAll Replay left0 left out0 out
+plain_all a b c d o (Ok Whole) is report done = report
+plain_all a b c d o (Ok (BadLine k)) is report done = let q : Stopped ≡ Done = sym is ∙ done in cc
+plain_all a b c d o (Ok NoRoom) is report done = let q : Stopped ≡ Done = sym is ∙ done in cc
+plain_all a b c d o (Err Read) is report done = let q : ReadFailed ≡ Done = sym is ∙ done in cc
+plain_all a b c d o (Err Write) is report done = let q : WriteFailed ≡ Done = sym is ∙ done in cc
+
 pub plain_up_to : (left0 left out0 out : Option (List ℕ)) (o : Outcome) (r : Result End ReplayError) → o ≡ outcome_of r → IfOk r (λ end. Reports left0 left (Appends out0 out) end)
     → o ≡ Stopped → WritesUpTo Replay left0 left out0 out
 plain_up_to a b c d o (Ok Whole) is report stopped = let q : Done ≡ Stopped = sym is ∙ stopped in cc

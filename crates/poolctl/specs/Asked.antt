@@ -25,7 +25,8 @@ pub record IsRoute (rows : List Row) (p : Profile) (r : declared_route.Route) : 
 -- the flag is there where an audit is asked for, and only there
 abbrev pub IsReplay : List Row → Asked → Type 0
 IsReplay rows Replay = one_of (codes "audit") rows ≢ Some (codes "true")
-IsReplay rows AuditedReplay = (one_of (codes "audit") rows ≢ Some (codes "false")) × (one_of (codes "audit") rows ≢ None)
+IsReplay rows AuditedReplay =
+    (one_of (codes "audit") rows ≢ Some (codes "false")) × (one_of (codes "audit") rows ≢ None)
 IsReplay rows _ = ⊥
 
 abbrev pub classes_name : Profile → Text

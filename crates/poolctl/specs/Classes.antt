@@ -5,7 +5,8 @@ use Rattle.region_cut.specs.declared.TheConstants.{CHUNK}
 
 -- number, size, slots of a chunk and bytes left over; 32 is a space, 10 the line feed
 abbrev pub class_line : ℕ → List ℕ
-class_line k = decimal k ++ 32 ∷ (decimal (size_of k) ++ 32 ∷ (decimal (slots_of k) ++ 32 ∷ (decimal (CHUNK % size_of k) ++ 10 ∷ [])))
+class_line k = decimal k ++ 32 ∷ (decimal (size_of k) ++ 32 ∷ (decimal (slots_of k)
+    ++ 32 ∷ (decimal (CHUNK % size_of k) ++ 10 ∷ [])))
 
 -- the lines of the first n classes
 abbrev pub class_lines : ℕ → List ℕ

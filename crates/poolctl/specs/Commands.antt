@@ -20,10 +20,12 @@ SaysYes (Some (Ok u)) = ⊤
 SaysYes (Some (Err fault)) = ⊥
 
 -- the report of a trace with this end was written: alone, or with `audit yes` behind it wherever an audit has a line
-abbrev pub WritesReport : Asked → Option (List ℕ) → Option (List ℕ) → Option (List ℕ) → Option (List ℕ) → End → Type 0
+abbrev pub WritesReport : Asked → Option (List ℕ) → Option (List ℕ) → Option (List ℕ) → Option (List ℕ) → End
+    → Type 0
 WritesReport Replay left0 left out0 out end = Reports left0 left (Appends out0 out) end
 WritesReport AuditedReplay left0 left out0 out end =
-    (audit : Option Verdict) × IsAudited end audit × SaysYes audit × Reports left0 left (with_audit audit (Appends out0 out)) end
+    (audit : Option Verdict) × IsAudited end audit × SaysYes audit
+    × Reports left0 left (with_audit audit (Appends out0 out)) end
 WritesReport _ left0 left out0 out end = ⊥
 
 -- all that was asked for was written: the classes of a profile, a route, or the report of a whole trace

@@ -6,7 +6,8 @@ use Rattle.trace_audit.specs.declared.replaying.ending.End.TheVariants.{Whole, B
 use Rattle.trace_audit.specs.declared.replaying.ending.ReplayError.{ReplayError}
 use Rattle.trace_audit.specs.declared.replaying.ending.ReplayError.TheVariants.{Read, Write}
 use Rattle.poolctl.specs.declared.outcome.Outcome.{Outcome}
-use Rattle.poolctl.specs.declared.outcome.Outcome.TheVariants.{Done, Stopped, AuditFailed, NoMemory, Refused, ReadFailed, WriteFailed}
+use Rattle.poolctl.specs.declared.outcome.Outcome.TheVariants.{Done, Stopped, AuditFailed, NoMemory, Refused}
+use Rattle.poolctl.specs.declared.outcome.Outcome.TheVariants.{ReadFailed, WriteFailed}
 
 -- the exit status
 abbrev pub status_of : Outcome → ℕ

@@ -15,8 +15,8 @@ use trace_audit::{Sink, Source, replay, replay_audited};
 /// Does what the words ask for. The program's own name stands first among them.
 ///
 /// Nothing is read from the source but by `replay`, and nothing is written after a failed write.
-/// Words that are refused, or that ask for help, are answered with the text for standard error. An audit that doesn't say
-/// yes had no memory, and says so behind the whole report.
+/// Words that are refused, or that ask for help, are answered with the text for standard error. An audit that doesn't
+/// say yes had no memory, and says so behind the whole report.
 pub fn command<R: Source, W: Sink>(
     alloc: Global,
     words: &[String],
@@ -30,13 +30,16 @@ pub fn command<R: Source, W: Sink>(
     // Where the command is done, all that the words ask for was written, and nothing else.
     ensures done { result ≡ Outcome.Done →
         AsksFor (map string_bytes words.now) (λ asked.
-        WritesAll asked (R.remaining source.old) (R.remaining source.new) (W.contents sink.old) (W.contents sink.new)) }
+        WritesAll asked (R.remaining source.old) (R.remaining source.new) (W.contents sink.old)
+        (W.contents sink.new)) }
     ensures stopped { result ≡ Outcome.Stopped →
         AsksFor (map string_bytes words.now) (λ asked.
-        WritesUpTo asked (R.remaining source.old) (R.remaining source.new) (W.contents sink.old) (W.contents sink.new)) }
+        WritesUpTo asked (R.remaining source.old) (R.remaining source.new) (W.contents sink.old)
+        (W.contents sink.new)) }
     ensures audit { result ≡ Outcome.AuditFailed →
         AsksFor (map string_bytes words.now) (λ asked.
-        TellsNoMemory asked (R.remaining source.old) (R.remaining source.new) (W.contents sink.old) (W.contents sink.new)) }
+        TellsNoMemory asked (R.remaining source.old) (R.remaining source.new) (W.contents sink.old)
+        (W.contents sink.new)) }
     // Words are refused only where `clap` doesn't take them, and then nothing is read or written.
     ensures refused { (text : _) → result ≡ Outcome.Refused text →
         (takes command_line (map string_bytes words.now) ≢ true) × (source.new ≡ source.old) × (sink.new ≡ sink.old) }

@@ -1,9 +1,10 @@
 //! The words of the command line, read with `clap`.
 ghost use Rattle.std.specs.Prelude.{◌≡◌, codes, false, true, map, string_bytes, IfOk, IfErr, IfSome};
-ghost use Rattle.clap.specs.Words.{app_of, found_of, kind_of, new_app, rows_of, rule_of, subcommand_rows_of, takes};
-ghost use Rattle.clap.specs.Words.{with_rule, with_subcommand};
+ghost use Rattle.clap.specs.Words.{app_of, found_of, kind_of, new_app, rows_of, rule_of, subcommand_rows_of};
+ghost use Rattle.clap.specs.Words.{takes, with_rule, with_subcommand};
 ghost use Rattle.clap.specs.declared.Command.TheViews.{out-Command as fields_of};
-ghost use Rattle.poolctl.specs.CommandLine.{audit_rule, command_line, number_rule, replay_app, route_app, wants_subcommand};
+ghost use Rattle.poolctl.specs.CommandLine.{audit_rule, command_line, number_rule, replay_app, route_app};
+ghost use Rattle.poolctl.specs.CommandLine.{wants_subcommand};
 ghost use Rattle.poolctl.specs.Asked.{Asks, AskedBy, IsReplay, IsRoute, Reads};
 
 use crate::asked::{Asked, Route};

@@ -1,6 +1,13 @@
-use Rattle.poolctl.proofs.Written.{all_written, no_memory_told, plain_up_to, written_up_to}
+use Rattle.poolctl.proofs.Written.{all_written, no_memory_told, plain_all, plain_up_to, written_up_to}
 use Rattle.poolctl.specs.declared.asked.Asked.TheVariants.{Replay, AuditedReplay}
 use Rattle.poolctl.proofs.commands.command.Goals as goal
+
+pub returns-in-Ok-Replay-clause-done : goal.returns-in-Ok-Replay-clause-done
+returns-in-Ok-Replay-clause-done g c = λ done. (
+  Replay,
+  (rw c.in-Ok-Replay.field-0-is at c.in-Ok-Replay.ensures.asked),
+  plain_all _ _ _ _ _ _ c.replayed.ensures c.replay.ensures.ended done,
+)
 
 pub returns-in-Ok-Replay-clause-stopped : goal.returns-in-Ok-Replay-clause-stopped
 returns-in-Ok-Replay-clause-stopped g c = λ stopped. (
