@@ -10,6 +10,9 @@ pub enum PostError {
     /// The queue has no room: a growth was refused.
     #[error("no room")]
     NoRoom,
+    /// No node of the sender is free.
+    #[error("no node")]
+    NoNode,
 }
 
 impl PostError {
@@ -19,6 +22,7 @@ impl PostError {
     {
         match self {
             PostError::NoRoom => 1,
+            PostError::NoNode => 2,
         }
     }
 }
