@@ -1,0 +1,12 @@
+pub mod Lists
+pub mod Phases
+pub mod Prepare
+pub mod Attach
+pub mod Link
+pub mod Take
+pub mod Comings
+pub mod Left
+pub mod Rounds
+pub mod Seating
+pub mod HandsOut
+pub mod KeepsOrder
