@@ -38,9 +38,13 @@ abbrev pub AreSeatsOf : InboxId → List SendState → Type 0
 AreSeatsOf inbox seats =
     (k : ℕ) (s : SendState) → slice_get seats k ≡ Some s → (s.inbox ≡ inbox) × (s.sender ≡ k)
 
--- nothing was sent from these seats, and they are at rest
+-- nothing was sent from these seats
 abbrev pub AreNew : List SendState → Type 0
-AreNew seats = (k : ℕ) (s : SendState) → slice_get seats k ≡ Some s → (s.sent ≡ []) × (s.half ≡ None)
+AreNew seats = (k : ℕ) (s : SendState) → slice_get seats k ≡ Some s → s.sent ≡ []
+
+-- none of these seats has a batch attached and not linked
+abbrev pub AreAtRest : List SendState → Type 0
+AreAtRest seats = (k : ℕ) (s : SendState) → slice_get seats k ≡ Some s → s.half ≡ None
 
 abbrev pub is_sender : Role → Bool
 is_sender Idle = true

@@ -1,7 +1,7 @@
 //! The inbox.
 ghost use Rattle.std.specs.Prelude.{◌≡◌, ℕ, ◌≤◌, [], ◌∷◌, ◌++◌, length, Some, None, IfOk, MatchResult, MatchOption};
 ghost use Rattle.batch_inbox.specs.Views.{place_of};
-ghost use Rattle.link_inbox.specs.States.{AreSeatsOf, AreNew};
+ghost use Rattle.link_inbox.specs.States.{AreSeatsOf, AreNew, AreAtRest};
 
 use crate::opening::{opened, seated};
 use crate::rule::{FREE, NODES, Nodes};
@@ -54,7 +54,8 @@ impl<'r> LinkInbox<'r> {
         ensures inbox { IfOk result (λ r. r.0.place ≡ record { address = address; digits = digits }) }
         ensures receiver { IfOk result (λ r. r.1 ≡ record { inbox = r.0; senders = senders; taken = [] }) }
         ensures senders { IfOk result (λ r.
-            AreSeatsOf r.0 r.2.items × (length r.2.items ≡ senders) × AreNew r.2.items) }
+            AreSeatsOf r.0 r.2.items × (length r.2.items ≡ senders)
+            × AreNew r.2.items × AreAtRest r.2.items) }
     {
         let place = Place { address, digits };
         let (nodes, mut token) = opened(alloc, &place, senders)?;

@@ -1,6 +1,6 @@
 //! How an inbox is opened: its nodes are made, and each sender gets a seat.
 ghost use Rattle.std.specs.Prelude.{◌≡◌, ℕ, ◌+◌, ◌*◌, ◌≤◌, [], length, IfOk};
-ghost use Rattle.link_inbox.specs.States.{inbox_of, AreSeatsOf, AreNew};
+ghost use Rattle.link_inbox.specs.States.{inbox_of, AreSeatsOf, AreNew, AreAtRest};
 ghost use Rattle.link_inbox.specs.Steps.{opener, view};
 ghost use Rattle.link_inbox.specs.declared.rule.Role.TheVariants.{Ready};
 
@@ -43,7 +43,7 @@ pub(crate) fn seated<'r>(
         × (token.new.me ≡ (view Ready words.now.key 0 senders 0 0 [] [], []))) }
     ensures senders { IfOk result (λ r.
         AreSeatsOf (inbox_of words.now.table_id words.now.key) r.items
-        × (length r.items ≡ senders) × AreNew r.items) }
+        × (length r.items ≡ senders) × AreNew r.items × AreAtRest r.items) }
 {
     let mut seats = Vec::with_capacity(alloc, senders as usize)?;
     for sender in 0..senders {

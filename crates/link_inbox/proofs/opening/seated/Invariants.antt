@@ -1,5 +1,5 @@
 use Rattle.std.proofs.Common.{◌≡◌, ◌≤◌, [], length}
-use Rattle.link_inbox.specs.States.{inbox_of, AreSeatsOf, AreNew}
+use Rattle.link_inbox.specs.States.{inbox_of, AreSeatsOf, AreNew, AreAtRest}
 use Rattle.link_inbox.specs.Steps.{view}
 use Rattle.link_inbox.specs.declared.rule.Role.TheVariants.{Ready}
 use Rattle.link_inbox.proofs.opening.seated.Given as goal
@@ -11,4 +11,5 @@ invariant-loop-sender l =
     × AreSeatsOf (inbox_of l.words.table_id l.words.key) l.seats.items
     × (length l.seats.items ≡ l.sender)
     × AreNew l.seats.items
+    × AreAtRest l.seats.items
     × (l.sender ≤ l.senders)
