@@ -1,0 +1,20 @@
+//! Callers of `link_inbox`: what they learn from its contracts, and its tests, with real threads.
+//!
+//! The pool itself calls nothing of this crate.
+#![tactic(auto)]
+
+mod crossing;
+mod ending;
+mod seating;
+mod sending;
+mod taking;
+#[cfg(test)]
+mod tests;
+
+pub use crossing::{
+    attached_crosses, inbox_crosses, inbox_is_shared, send_seat_crosses, take_seat_crosses,
+};
+pub use ending::{end, hand_out};
+pub use seating::{put_seat, take_last_seat};
+pub use sending::{Sending, add_sender, deliver, send_all};
+pub use taking::Taking;
