@@ -4,7 +4,7 @@ use region_cut::{Class, Slot};
 use std::alloc::Global;
 use std::process::Abort;
 use std::test::Fail;
-use trace_audit::{Drawn, Fault, audit, write_audit};
+use trace_audit::{Drawn, Fault, ReplayError, audit, write_audit};
 
 /// Chunk 0 is drawn for the class of 512 bytes, 8 slots, and no other.
 fn one_chunk(rt: &impl Abort) -> Drawn {
@@ -140,6 +140,40 @@ fn a_chunk_of_each_class(rt: HostRuntime) -> Result<(), Fail> {
     Ok(())
 }
 
+/// All chunks of the largest region are drawn, each for the class with the most slots.
+fn all_chunks() -> Drawn {
+    let mut drawn = Drawn::new();
+    for chunk in 0..1024u16 {
+        drawn.note(chunk, Class::FIRST);
+    }
+    drawn
+}
+
+/// The 262,144 slots of those chunks.
+fn slots_of_all_chunks(alloc: Global) -> Result<Vec<Slot>, Fail> {
+    let mut found = Vec::new(alloc);
+    for chunk in 0..1024u16 {
+        push_slots(&mut found, chunk, 256)?;
+    }
+    Ok(found)
+}
+
+/// As many slots as a region may have.
+#[test]
+fn a_whole_region(rt: HostRuntime) -> Result<(), Fail> {
+    let drawn = all_chunks();
+    let mut found = slots_of_all_chunks(rt.alloc())?;
+    assert!(rt; found.len() == 262_144);
+    assert!(rt; audit(rt.alloc(), found.as_slice(), &drawn) == Ok(()));
+    let _ = found.pop();
+    let missing = Err(Fault::Missing(slot(1023, 255)));
+    assert!(rt; audit(rt.alloc(), found.as_slice(), &drawn) == missing);
+    found.push(slot(512, 7))?;
+    let doubled = Err(Fault::Doubled(slot(512, 7)));
+    assert!(rt; audit(rt.alloc(), found.as_slice(), &drawn) == doubled);
+    Ok(())
+}
+
 /// The line that tells this answer.
 fn tells(rt: &(impl Abort + AllocGlobal), answer: Result<(), Fault>, line: &[u8]) {
     let mut writer = Kept::all(rt.alloc());
@@ -161,16 +195,40 @@ fn the_line_of_an_audit(rt: HostRuntime) {
     tells(&rt, Err(Fault::NoMemory), b"audit no memory\n");
 }
 
-/// The text of this fault.
-fn says(rt: &(impl Abort + AllocGlobal), fault: Fault, text: &str) -> Result<(), Fail> {
+/// The number and the text of this fault.
+fn says(
+    rt: &(impl Abort + AllocGlobal),
+    fault: Fault,
+    number: u32,
+    text: &str,
+) -> Result<(), Fail> {
+    assert!(rt; fault.number() == number);
     assert!(rt; format!(in rt.alloc(); "{fault}")?.as_str() == text);
     Ok(())
 }
 
 #[test]
 fn what_a_fault_says(rt: HostRuntime) -> Result<(), Fail> {
-    says(&rt, Fault::Stranger(slot(0, 8)), "stranger 0.8")?;
-    says(&rt, Fault::Doubled(slot(1023, 255)), "doubled 1023.255")?;
-    says(&rt, Fault::Missing(slot(0, 0)), "missing 0.0")?;
-    says(&rt, Fault::NoMemory, "no memory")
+    says(&rt, Fault::Stranger(slot(0, 8)), 1, "stranger 0.8")?;
+    says(&rt, Fault::Doubled(slot(1023, 255)), 2, "doubled 1023.255")?;
+    says(&rt, Fault::Missing(slot(0, 0)), 3, "missing 0.0")?;
+    says(&rt, Fault::NoMemory, 4, "no memory")
+}
+
+/// The number and the text of this error.
+fn tells_error(
+    rt: &(impl Abort + AllocGlobal),
+    error: ReplayError,
+    number: u32,
+    text: &str,
+) -> Result<(), Fail> {
+    assert!(rt; error.number() == number);
+    assert!(rt; format!(in rt.alloc(); "{error}")?.as_str() == text);
+    Ok(())
+}
+
+#[test]
+fn what_an_error_says(rt: HostRuntime) -> Result<(), Fail> {
+    tells_error(&rt, ReplayError::Read, 1, "read failed")?;
+    tells_error(&rt, ReplayError::Write, 2, "write failed")
 }
