@@ -1,11 +1,12 @@
 #!/usr/bin/env python3
 """Runs tests with each of their allocations refused in turn, until a run meets no refusal.
 
-    python3 .ci/refused_memory.py [--most N] [CRATE..]
+    python3 .ci/refused_memory.py [--most N] [CRATE[:WORD,..] ..]
 
-takes the tests of these crates, or of all crates of callers (`NAME_uses`). A test has to hold whichever one of its
-allocations is refused: it ends by itself, and what it compares is as it has to be. With `--most N` at most N
-allocations of a test are refused, spread evenly over all that it makes.
+takes the tests of these crates, or of all crates of callers (`NAME_uses`); behind a colon those whose names have one
+of the words. A test has to hold whichever one of its allocations is refused: it ends by itself, and what it compares
+is as it has to be. Of a crate in `WRITTEN_FOR_IT` only the tests with these words are written so; the others compare
+what comes out where there is memory. With `--most N` at most N allocations of a test are refused, spread evenly.
 
 The tests are the built ones, `crates/NAME/out/NAME_tests`, which `rt ci` and `rt test` leave; where a crate has none,
 or one that is older than its sources, `rt test` makes it first. A small library that stands before the C library's
@@ -26,6 +27,9 @@ import time
 
 TOP = pathlib.Path(__file__).resolve().parent.parent
 SECONDS = 60
+WRITTEN_FOR_IT = {
+    "trace_uses": "growing,each_slot_once,the_least_fault_is_named,the_number_is_not_enough",
+}
 
 # Counts the allocations, and answers none for the one whose number is in REFUSE. At the end it tells the count.
 LIBRARY = r"""
@@ -155,7 +159,10 @@ def main():
         library = compiled(pathlib.Path(work))
         for name in names:
             start = time.monotonic()
+            name, _, words = name.partition(":")
+            words = [word for word in (words or WRITTEN_FOR_IT.get(name, "")).split(",") if word]
             program, tests = tests_of(TOP / "crates" / name)
+            tests = [test for test in tests if not words or any(word in test for word in words)]
             with concurrent.futures.ThreadPoolExecutor(len(os.sched_getaffinity(0))) as pool:
                 jobs = [
                     pool.submit(tried, library, program, test, asked.most, pathlib.Path(work) / f"{name}-{place}")
