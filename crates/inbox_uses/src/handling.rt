@@ -21,7 +21,6 @@ pub fn take_and_handle<'r, M: Mail<'r>, R: Wait>(
 ) -> Option<Counts>
     requires seat { M.TakeSeat.inbox seat.old ≡ M.id inbox.now }
     requires place { IsPlaceOf desk.old (M.id inbox.now).place }
-    requires cached { All (IsCached desk.old.digits desk.old.number) desk.old.cached }
     ensures seat { M.TakeSeat.inbox seat.new ≡ M.TakeSeat.inbox seat.old }
     ensures handled { MatchOption result
         ((M.TakeSeat.taken seat.new ≡ M.TakeSeat.taken seat.old) × (desk.new ≡ desk.old))
