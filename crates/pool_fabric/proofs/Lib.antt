@@ -1,0 +1,10 @@
+pub mod Walks
+pub mod Sums
+pub mod KeepsLedger
+pub mod DeskSums
+pub mod Posting
+pub mod Steps
+pub mod Cancels
+pub mod Columns
+pub mod Gathers
+pub mod Accounting

@@ -1,0 +1,214 @@
+-- One more batch is posted, or taken.
+use Rattle.std.proofs.Common.{◌≡◌, ℕ, zero, suc, ◌+◌, ◌<◌, List, [], ◌∷◌, ◌++◌, length, map, refl, sym, ap, ◌∙◌, arith, subst, Some, length-append, append_assoc, IsPermutation}
+use Rattle.std.specs.Prelude.{slice_get, slice_set, All, slice_index_or, take, drop}
+use Rattle.std.proofs.lemmas.List.{append-nil}
+use Rattle.std.proofs.lemmas.List.Elements.{All-append}
+use Rattle.std.proofs.lemmas.List.Sorted.{IsPermutation-trans, IsPermutation-append_right, IsPermutation-refl}
+use Rattle.slot_chain.specs.Buffer.{Buffer}
+use Rattle.digit_route.specs.States.{BatchState}
+use Rattle.region_cut.specs.declared.slot.Slot.{Slot}
+use Rattle.pool_desk.specs.Desks.{DeskState}
+use Rattle.pool_desk.specs.Steps.{Handles}
+use Rattle.batch_inbox.specs.States.{TakeState}
+use Rattle.pool_fabric.specs.Weights.{weigh}
+use Rattle.pool_fabric.specs.Names.{Names}
+use Rattle.pool_fabric.specs.Seats.{SeatState, AreSeatsBy}
+use Rattle.pool_fabric.specs.Accounts.{of_buffer, of_batch, of_seats, held}
+use Rattle.pool_fabric.specs.Posts.{buffers_in, sent_at, sent_all, Posts, HandlesAll, TakesSome}
+use Rattle.pool_fabric.proofs.Sums.{weigh-append, weigh-snoc, weigh-permutation}
+use Rattle.pool_fabric.proofs.DeskSums.{handled}
+
+module _ {A B : Type 0} where
+  -- an item of a list that is mapped
+  pub get_map : (f : A → B) (xs : List A) (k : ℕ) (x : A) → slice_get xs k ≡ Some x → slice_get (map f xs) k ≡ Some (f x)
+  get_map f [] k x e = absurd (cc)
+  get_map f (y ∷ ys) zero x e = let same : y ≡ x = cc in ap (λ z. Some (f z)) same
+  get_map f (y ∷ ys) (suc k) x e = get_map f ys k x e
+
+  pub length-mapped : (f : A → B) (xs : List A) → length (map f xs) ≡ length xs
+  length-mapped f [] = refl
+  length-mapped f (x ∷ xs) = ap suc (length-mapped f xs)
+
+-- the seat at k was changed, and what was sent from it is one batch more
+pub map_sent : {S : Type 0} (f : S → SeatState) (xs : List S) (k : ℕ) (x y : S) (b : BatchState) → slice_get xs k ≡ Some x
+    → f y ≡ record (f x) { sent = (f x).sent ++ b ∷ [] } → map f (slice_set xs k y) ≡ sent_at k b (map f xs)
+map_sent f [] k x y b at e = absurd (cc)
+map_sent f (z ∷ zs) zero x y b at e =
+    let same : z ≡ x = cc in
+    ap (λ (w : SeatState). w ∷ map f zs) (e ∙ ap (λ w. record (f w) { sent = (f w).sent ++ b ∷ [] }) (sym same))
+map_sent f (z ∷ zs) (suc k) x y b at e = ap (λ (l : List SeatState). f z ∷ l) (map_sent f zs k x y b at e)
+
+pub length-sent_at : (k : ℕ) (b : BatchState) (ss : List SeatState) → length (sent_at k b ss) ≡ length ss
+length-sent_at k b [] = refl
+length-sent_at zero b (s ∷ ss) = refl
+length-sent_at (suc k) b (s ∷ ss) = ap suc (length-sent_at k b ss)
+
+pub length-sent_all : (ss : List SeatState) (bs : List BatchState) → length (sent_all ss bs) ≡ length ss
+length-sent_all ss [] = refl
+length-sent_all ss (b ∷ bs) = length-sent_all (sent_at b.address b ss) bs ∙ length-sent_at b.address b ss
+
+-- the seats are of the same inboxes and of the same sender, at rest
+abbrev pub Same : SeatState → SeatState → Type 0
+Same x y = (x.inbox ≡ y.inbox) × (x.sender ≡ y.sender) × (x.resting ≡ y.resting)
+
+get_sent : (k : ℕ) (b : BatchState) (ss : List SeatState) (j : ℕ) (x : SeatState) → slice_get (sent_at k b ss) j ≡ Some x → (y : SeatState) × (slice_get ss j ≡ Some y) × Same x y
+get_sent k b [] j x e = absurd (cc)
+get_sent zero b (s ∷ ss) zero x e =
+    let same : record s { sent = s.sent ++ b ∷ [] } ≡ x = cc in
+    (s, refl, (ap (λ (w : SeatState). w.inbox) (sym same), ap (λ (w : SeatState). w.sender) (sym same), ap (λ (w : SeatState). w.resting) (sym same)))
+get_sent zero b (s ∷ ss) (suc j) x e = (x, e, (refl, refl, refl))
+get_sent (suc k) b (s ∷ ss) zero x e = (x, e, (refl, refl, refl))
+get_sent (suc k) b (s ∷ ss) (suc j) x e = get_sent k b ss j x e
+
+pub seats_sent : (n : Names) (a k : ℕ) (b : BatchState) (ss : List SeatState) → AreSeatsBy n a ss → AreSeatsBy n a (sent_at k b ss)
+seats_sent n a k b ss i = record {
+  each = λ j x e.
+      let y = get_sent k b ss j x e in
+      let o = i.each j y.0 y.1 in
+      (y.2.0 ∙ o.0, y.2.1 ∙ o.1, y.2.2 ∙ o.2);
+}
+
+pub seats_sent_all : (n : Names) (a : ℕ) (ss : List SeatState) (bs : List BatchState) → AreSeatsBy n a ss → AreSeatsBy n a (sent_all ss bs)
+seats_sent_all n a ss [] i = i
+seats_sent_all n a ss (b ∷ bs) i = seats_sent_all n a (sent_at b.address b ss) bs (seats_sent n a b.address b ss i)
+
+sent_all-snoc : (ss : List SeatState) (bs : List BatchState) (b : BatchState) → sent_all ss (bs ++ b ∷ []) ≡ sent_at b.address b (sent_all ss bs)
+sent_all-snoc ss [] b = refl
+sent_all-snoc ss (c ∷ cs) b = sent_all-snoc (sent_at c.address c ss) cs b
+
+buffers_in-snoc : (bs : List BatchState) (b : BatchState) → buffers_in (bs ++ b ∷ []) ≡ buffers_in bs ++ b.items
+buffers_in-snoc [] b = append-nil b.items
+buffers_in-snoc (c ∷ cs) b = ap (λ l. c.items ++ l) (buffers_in-snoc cs b) ∙ sym (append_assoc c.items (buffers_in cs) b.items)
+
+-- nothing was posted yet
+pub posts_none : (c : List Buffer) (ss : List SeatState) → Posts c ss c ss
+posts_none c ss = record { posted = []; together = IsPermutation-refl c; addresses = λ k d l. absurd (omega arith); seats_are = refl }
+
+-- one more batch
+pub posts_more : (c c' c'' : List Buffer) (ss ss' ss'' : List SeatState) (b : BatchState) → Posts c ss c' ss' → IsPermutation c' (b.items ++ c'') → b.address < length ss' → ss'' ≡ sent_at b.address b ss'
+    → Posts c ss c'' ss''
+posts_more c c' c'' ss ss' ss'' b p taken less sent = record {
+  posted = p.posted ++ b ∷ [];
+  together =
+      let step = IsPermutation-append_right (buffers_in p.posted) c' (b.items ++ c'') taken in
+      let all = IsPermutation-trans c (buffers_in p.posted ++ c') (buffers_in p.posted ++ (b.items ++ c'')) p.together step in
+      subst (λ l. IsPermutation c l) (sym (append_assoc (buffers_in p.posted) b.items c'') ∙ ap (λ l. l ++ c'') (sym (buffers_in-snoc p.posted b))) all;
+  addresses =
+      let n : length ss' ≡ length ss = ap length p.seats_are ∙ length-sent_all ss p.posted in
+      All-append (λ (x : BatchState). x.address < length ss) p.posted (b ∷ []) p.addresses (one_address (length ss) b (subst (λ m. b.address < m) n less));
+  seats_are = sent ∙ ap (sent_at b.address b) p.seats_are ∙ sym (sent_all-snoc ss p.posted b);
+} where
+  one_address : (n : ℕ) (b : BatchState) → b.address < n → All (λ (x : BatchState). x.address < n) (b ∷ [])
+  one_address n b l zero d e = l
+  one_address n b l (suc k) d e = absurd (omega arith)
+
+-- the cache in another order
+pub posts_end : (c c' c'' : List Buffer) (ss ss' : List SeatState) → Posts c ss c' ss' → IsPermutation c' c'' → Posts c ss c'' ss'
+posts_end c c' c'' ss ss' p e = record {
+  posted = p.posted;
+  together = IsPermutation-trans c (buffers_in p.posted ++ c') (buffers_in p.posted ++ c'') p.together (IsPermutation-append_right (buffers_in p.posted) c' c'' e);
+  addresses = p.addresses;
+  seats_are = p.seats_are;
+}
+
+weigh-sent_at : (h : Slot → ℕ) (k : ℕ) (b : BatchState) (ss : List SeatState) → k < length ss → of_seats h (sent_at k b ss) ≡ of_seats h ss + of_batch h b
+weigh-sent_at h k b [] l = absurd (omega arith)
+weigh-sent_at h zero b (s ∷ ss) l = let e = weigh-snoc (of_batch h) s.sent b in omega arith
+weigh-sent_at h (suc k) b (s ∷ ss) l = let e = weigh-sent_at h k b ss (omega arith) in omega arith
+
+weigh-sent_all : (h : Slot → ℕ) (ss : List SeatState) (bs : List BatchState) → All (λ (b : BatchState). b.address < length ss) bs
+    → of_seats h (sent_all ss bs) ≡ of_seats h ss + weigh (of_buffer h) (buffers_in bs)
+weigh-sent_all h ss [] a = omega arith
+weigh-sent_all h ss (b ∷ bs) a =
+    let n = length-sent_at b.address b ss in
+    let i = weigh-sent_all h (sent_at b.address b ss) bs (λ k d l. subst (λ m. (slice_index_or bs k d).address < m) (sym n) (a (suc k) d (omega arith))) in
+    let e = weigh-sent_at h b.address b ss (a 0 b (omega arith)) in
+    let f = weigh-append (of_buffer h) b.items (buffers_in bs) in
+    omega arith
+
+-- what was cached is what is cached still, and what was posted
+pub posted_sum : (h : Slot → ℕ) (c : List Buffer) (ss : List SeatState) (c' : List Buffer) (ss' : List SeatState) → Posts c ss c' ss'
+    → weigh (of_buffer h) c + of_seats h ss ≡ weigh (of_buffer h) c' + of_seats h ss'
+posted_sum h c ss c' ss' p =
+    let a = weigh-permutation (of_buffer h) c (buffers_in p.posted ++ c') p.together in
+    let b = weigh-append (of_buffer h) (buffers_in p.posted) c' in
+    let d = weigh-sent_all h ss p.posted p.addresses in
+    let e = ap (of_seats h) p.seats_are in
+    omega arith
+
+-- one more batch is handled
+pub handles_more : (old : DeskState) (bs : List BatchState) (mid : DeskState) (b : BatchState) (new : DeskState) → HandlesAll old bs mid → Handles mid b.items new → HandlesAll old (bs ++ b ∷ []) new
+handles_more old [] mid b new same h = (new, subst (λ (d : DeskState). Handles d b.items new) same h, refl)
+handles_more old (c ∷ cs) mid b new i h = (i.0, i.1, handles_more i.0 cs mid b new i.2 h)
+
+-- all else of the desk stays
+pub record Stays (old new : DeskState) : Type 0 where
+  pub number : new.number ≡ old.number
+  pub digits : new.digits ≡ old.digits
+  pub drawn : new.drawn ≡ old.drawn
+
+pub handled_stays : (old : DeskState) (bs : List BatchState) (new : DeskState) → HandlesAll old bs new → Stays old new
+handled_stays old [] new e = record { number = ap (λ (d : DeskState). d.number) e; digits = ap (λ (d : DeskState). d.digits) e; drawn = ap (λ (d : DeskState). d.drawn) e }
+handled_stays old (b ∷ bs) new (m, h, i) =
+    let r = handled_stays m bs new i in
+    record {
+      number = r.number ∙ ap (λ (d : DeskState). d.number) h.same;
+      digits = r.digits ∙ ap (λ (d : DeskState). d.digits) h.same;
+      drawn = r.drawn ∙ ap (λ (d : DeskState). d.drawn) h.same;
+    }
+
+pub handled_sum : (h : Slot → ℕ) (old : DeskState) (bs : List BatchState) (new : DeskState) → HandlesAll old bs new → held h new ≡ held h old + weigh (of_batch h) bs
+handled_sum h old [] new e = let p = ap (held h) e in omega arith
+handled_sum h old (b ∷ bs) new (m, one, i) =
+    let r = handled_sum h m bs new i in
+    let e = handled h old b.items m one in
+    omega arith
+
+-- nothing was taken yet
+pub takes_none : (d : DeskState) (t : TakeState) → TakesSome d t 0 d t
+takes_none d t = record { batches = []; count = refl; taken = ap (λ l. record t { taken = l }) (sym (append-nil t.taken)); handled = refl }
+
+-- one more batch was taken
+pub takes_more : (old mid new : DeskState) (t t' t'' : TakeState) (n : ℕ) (b : BatchState) → TakesSome old t n mid t'
+    → (t''.inbox ≡ t'.inbox) × (t''.senders ≡ t'.senders) → t''.taken ≡ t'.taken ++ b ∷ [] → Handles mid b.items new → TakesSome old t (n + 1) new t''
+takes_more old mid new t t' t'' n b s same more h = record {
+  batches = s.batches ++ b ∷ [];
+  count = length-append s.batches (b ∷ []) ∙ ap (λ k. k + 1) s.count;
+  taken =
+      let l = more ∙ ap (λ (x : TakeState). x.taken ++ b ∷ []) s.taken ∙ append_assoc t.taken s.batches (b ∷ []) in
+      (λ i. record {
+        inbox = (same.0 ∙ ap (λ (x : TakeState). x.inbox) s.taken) i;
+        senders = (same.1 ∙ ap (λ (x : TakeState). x.senders) s.taken) i;
+        taken = l i;
+      });
+  handled = handles_more old s.batches mid b new s.handled h;
+}
+
+-- the last take gave nothing
+pub takes_end : (old mid : DeskState) (t t' t'' : TakeState) (n : ℕ) → TakesSome old t n mid t' → (t''.inbox ≡ t'.inbox) × (t''.senders ≡ t'.senders) → t''.taken ≡ t'.taken → TakesSome old t n mid t''
+takes_end old mid t t' t'' n s same more =
+    let e : t'' ≡ t' = λ i. record { inbox = same.0 i; senders = same.1 i; taken = more i } in
+    record { batches = s.batches; count = s.count; taken = e ∙ s.taken; handled = s.handled }
+
+-- a batch has a buffer
+some_items : (h : Buffer → ℕ) → ((b : Buffer) → h b ≡ 1) → (xs : List Buffer) → 0 < length xs → 0 < weigh h xs
+some_items h one [] l = absurd (omega arith)
+some_items h one (x ∷ xs) l = let e = one x in omega arith
+
+-- fewer buffers are left where a batch was taken out
+pub batch_smaller : (old b new : List Buffer) → IsPermutation old (b ++ new) → 0 < length b → weigh (λ (x : Buffer). 1) new < weigh (λ (x : Buffer). 1) old
+batch_smaller old b new p l =
+    let one : Buffer → ℕ = λ (x : Buffer). 1 in
+    let a = weigh-permutation one old (b ++ new) p in
+    let q = weigh-append one b new in
+    let s = some_items one (λ x. refl) b l in
+    omega arith
+
+-- a vector whose slice was written
+pub written : {A : Type 0} (new items : List A) (n : ℕ) → length new ≡ length items → n ≡ length items → take n (new ++ drop (length new) items) ≡ new
+written [] [] zero e m = refl
+written [] [] (suc n) e m = refl
+written [] (y ∷ ys) n e m = absurd (omega arith)
+written (x ∷ xs) [] n e m = absurd (omega arith)
+written (x ∷ xs) (y ∷ ys) zero e m = absurd (omega arith)
+written (x ∷ xs) (y ∷ ys) (suc n) e m = ap (λ l. x ∷ l) (written xs ys n (omega arith) (omega arith))

@@ -1,0 +1,41 @@
+use Rattle.std.proofs.Common.{◌<◌, length, refl, sym, ap, ◌∙◌, arith}
+use Rattle.std.proofs.lemmas.Option.{slice_get_read}
+use Rattle.batch_inbox.specs.declared.place.Place.{Place}
+use Rattle.pool_desk.specs.Desks.{DeskState}
+use Rattle.pool_fabric.proofs.Posting.{get_map, takes_more}
+use Rattle.pool_fabric.proofs.fabric.Fabric.take_some.Goals as goal
+
+pub take-requires : goal.take-requires
+take-requires g c κs =
+    let at = c.from-at.result in
+    let in_boxes : at < length c.args.self.now.inboxes.items = omega (arith, c.if-at-len.false, c.len.ensures, c.args.self.now.inboxes.ok) in
+    let box = c.args.self.now.boxes.each at _ (get_map g.M.Mailbox.id _ at _ (slice_get_read _ _ at _ refl in_boxes c.index-inbox.ensures)) in
+    let number = c.from-at.ensures ∙ c.number.ensures.value in
+    ((refl, tt), c.loop-taken.invariant.inbox ∙ c.requires.seat ∙ ap g.J.Naming.names.boxes (sym number) ∙ sym box.0)
+
+pub handle-requires-clause-address : goal.handle-requires-clause-address
+handle-requires-clause-address g c =
+    let at = c.from-at.result in
+    let in_boxes : at < length c.args.self.now.inboxes.items = omega (arith, c.if-at-len.false, c.len.ensures, c.args.self.now.inboxes.ok) in
+    let box = c.args.self.now.boxes.each at _ (get_map g.M.Mailbox.id _ at _ (slice_get_read _ _ at _ refl in_boxes c.index-inbox.ensures)) in
+    let number = c.from-at.ensures ∙ c.number.ensures.value in
+    ap (λ (p : Place). p.address) (c.in-Some.ensures.batch.1 ∙ box.1) ∙ number ∙ sym c.loop-taken.invariant.number
+
+pub handle-requires-clause-digits : goal.handle-requires-clause-digits
+handle-requires-clause-digits g c =
+    let at = c.from-at.result in
+    let in_boxes : at < length c.args.self.now.inboxes.items = omega (arith, c.if-at-len.false, c.len.ensures, c.args.self.now.inboxes.ok) in
+    let box = c.args.self.now.boxes.each at _ (get_map g.M.Mailbox.id _ at _ (slice_get_read _ _ at _ refl in_boxes c.index-inbox.ensures)) in
+    ap (λ (p : Place). p.digits) (c.in-Some.ensures.batch.1 ∙ box.1) ∙ sym (c.loop-taken.invariant.digits ∙ c.requires.digits)
+
+pub loop-taken-preserved : goal.loop-taken-preserved
+loop-taken-preserved g c =
+    let i = c.loop-taken.invariant in
+    let e = c.in-Some.ensures in
+    let h = c.handle.ensures.parts in
+    record {
+      taken = takes_more _ _ _ _ _ _ _ c.in-Some.batch i.taken e.seat e.batch.0 h;
+      number = ap (λ (d : DeskState). d.number) h.same ∙ i.number;
+      digits = ap (λ (d : DeskState). d.digits) h.same ∙ i.digits;
+      inbox = e.seat.0 ∙ i.inbox;
+    }

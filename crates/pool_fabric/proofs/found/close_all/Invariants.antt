@@ -1,0 +1,15 @@
+use Rattle.std.proofs.Common.{◌≡◌, ℕ, length, Some}
+use Rattle.std.specs.Prelude.{slice_get}
+use Rattle.pool_fabric.proofs.found.close_all.Given as goal
+
+abbrev pub invariant-loop-inbox : goal.invariant-loop-inbox
+invariant-loop-inbox g l = record {
+  columns : l.gathered.columns ≡ length l.inboxes.items;
+  takes : length l.gathered.takes ≡ length l.inboxes.items;
+  rows : length l.gathered.rows ≡ g.J.Naming.names.count;
+  boxes : (k : ℕ) (i : g.row.M.Denot) → slice_get l.inboxes.items k ≡ Some i → g.M.Mailbox.id i ≡ g.J.Naming.names.boxes k;
+  page : l.gathered.page ≡ l.fn.gathered.page;
+}
+
+abbrev pub decreases-loop-inbox : goal.decreases-loop-inbox
+decreases-loop-inbox g l = length l.inboxes.items

@@ -1,0 +1,27 @@
+use Rattle.std.proofs.Common.{◌+◌, ◌<◌, ap, ◌∙◌, arith, subst, sym}
+use Rattle.pool_fabric.specs.Pages.{PageState}
+use Rattle.pool_fabric.specs.Weights.{weigh}
+use Rattle.pool_fabric.specs.Accounts.{of_part}
+use Rattle.pool_fabric.proofs.Sums.{weigh-snoc}
+use Rattle.pool_fabric.proofs.store.Store.deal.Goals as goal
+
+pub invariant_of-self-2 : goal.invariant_of-self-2
+invariant_of-self-2 g c =
+    let i = c.self.invariant in
+    let book = c.deal.ensures.book in
+    let given = c.in_ok-part.ensures in
+    let part = c.in_ok-part.part in
+    record {
+      key = ap (λ (p : PageState). p.key) book ∙ i.key;
+      none_got = ap (λ (p : PageState). p.got) book ∙ i.none_got;
+      parts = ap (λ (p : PageState). p.parts + g.J.Naming.names.count) book ∙ i.parts;
+      some_part = subst (λ n. 0 < n) (sym (ap (λ (p : PageState). p.parts) book)) i.some_part;
+      chunks = λ w.
+          let p = i.chunks w in
+          let a = ap (λ (x : PageState). weigh w x.gave) book in
+          let b = weigh-snoc w c.self.inside.book.gave c.chunk.result in
+          let number = ap w c.chunk.ensures in
+          let d = ap (weigh (of_part w)) given.left in
+          let e = weigh-snoc (of_part w) c.get.new.self.left part in
+          omega arith;
+    }

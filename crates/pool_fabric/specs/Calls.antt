@@ -1,0 +1,24 @@
+-- What the calls of a station do to it.
+use Rattle.std.specs.Prelude.{◌≡◌, ℕ, [], ◌∷◌, ◌++◌, Result, Ok, Err}
+use Rattle.slot_chain.specs.Buffer.{Buffer}
+use Rattle.region_cut.specs.declared.part.Part.{Part}
+use Rattle.pool_desk.specs.Steps.{Claims, Allocs, Frees}
+use Rattle.pool_desk.specs.declared.error.DeskError.{DeskError}
+use Rattle.pool_desk.specs.declared.freed.Freed.{Freed}
+use Rattle.pool_fabric.specs.Stations.{StationState}
+
+-- the desk gives out a buffer, which is then lent; or it gives none, and all is as before
+abbrev pub Lends : StationState → ℕ → Result Buffer DeskError → StationState → Type 0
+Lends old size (Ok b) new = Allocs old.desk size (Ok b) new.desk × (new ≡ record old { desk = new.desk; lent = old.lent ++ b ∷ [] })
+Lends old size (Err e) new = Allocs old.desk size (Err e) new.desk × (new ≡ old)
+
+-- the desk takes a buffer back
+pub record TakesBack (old : StationState) (b : Buffer) (r : Freed) (new : StationState) : Type 0 where
+  pub desk : Frees old.desk b r new.desk
+  pub same : new ≡ record old { desk = new.desk; freed = old.freed ++ b ∷ [] }
+
+-- the desk claims a part for the class, which is written on its page
+pub record ClaimsPart (old : StationState) (class : ℕ) (new : StationState) : Type 0 where
+  pub part : Part
+  pub desk : Claims old.desk part class new.desk
+  pub same : new ≡ record old { desk = new.desk; page = record old.page { got = old.page.got ++ part.chunk ∷ [] } }

@@ -1,0 +1,13 @@
+pub mod Weights
+pub mod Names
+pub mod Ledgers
+pub mod Pages
+pub mod Seats
+pub mod Accounts
+pub mod Stations
+pub mod Calls
+pub mod Posts
+pub mod Stocks
+pub mod Gathered
+pub mod Whole
+pub mod Audited

@@ -1,0 +1,60 @@
+-- What a contract sees of a station, and what its type keeps.
+use Rattle.std.specs.Prelude.{◌≡◌, ℕ, ◌+◌, List, [], length}
+use Rattle.region_cut.specs.declared.slot.Slot.{Slot}
+use Rattle.slot_chain.specs.Buffer.{Buffer}
+use Rattle.pool_desk.specs.Desks.{DeskState, IdleState}
+use Rattle.batch_inbox.specs.States.{TakeState}
+use Rattle.pool_fabric.specs.Weights.{weigh}
+use Rattle.pool_fabric.specs.Names.{Names}
+use Rattle.pool_fabric.specs.Pages.{PageState}
+use Rattle.pool_fabric.specs.Seats.{SeatState, AreSeatsBy, NoneSent}
+use Rattle.pool_fabric.specs.Accounts.{of_buffer, of_batch, of_seats, held, owed, drawn_by}
+
+-- the desk, its seats, its page of the ledger, and the buffers that it lent out and that were freed to it
+pub record StationState : Type 0 where
+  pub desk : DeskState
+  pub take : TakeState
+  pub seats : List SeatState
+  pub page : PageState
+  pub lent : List Buffer
+  pub freed : List Buffer
+
+-- an idle desk, as one whose cache is empty
+abbrev pub resting : IdleState → DeskState
+resting d = record { number = d.number; digits = d.digits; limit = d.limit; worker = 0; home = d.home; drawn = d.drawn; cached = [] }
+
+-- However slots are weighed: what a station has, sent and lent is all slots of the chunks that it drew, what it took and what was freed to it.
+abbrev pub KeepsSlots : StationState → Type 0
+KeepsSlots s = (h : Slot → ℕ)
+    → held h s.desk + of_seats h s.seats + weigh (of_buffer h) s.lent
+    ≡ owed h s.desk + weigh (of_batch h) s.take.taken + weigh (of_buffer h) s.freed
+
+-- However chunks are weighed: those that it drew are those that it got.
+abbrev pub KeepsChunks : StationState → Type 0
+KeepsChunks s = (g : ℕ → ℕ) → drawn_by g s.desk ≡ weigh g s.page.got
+
+pub record IsSeated (n : Names) (s : StationState) : Type 0 where
+  pub digits : s.desk.digits ≡ n.digits
+  pub take : s.take.inbox ≡ n.boxes s.desk.number
+  pub senders : s.take.senders ≡ n.count
+  pub seats : AreSeatsBy n s.desk.number s.seats
+  pub number : length s.seats ≡ n.count
+  pub page : s.page.key ≡ n.ledger
+  pub part : s.page.parts ≡ 1
+  pub none_given : s.page.gave ≡ []
+
+pub record IsStation (n : Names) (s : StationState) : Type 0 where
+  pub slots : KeepsSlots s
+  pub chunks : KeepsChunks s
+  pub seated : IsSeated n s
+
+-- nothing was drawn, sent, taken, lent or freed
+pub record IsFresh (s : StationState) : Type 0 where
+  pub home : s.desk.home ≡ []
+  pub cached : s.desk.cached ≡ []
+  pub drawn : s.desk.drawn ≡ []
+  pub taken : s.take.taken ≡ []
+  pub seats : NoneSent s.seats
+  pub got : s.page.got ≡ []
+  pub lent : s.lent ≡ []
+  pub freed : s.freed ≡ []

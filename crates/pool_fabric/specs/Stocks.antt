@@ -1,0 +1,49 @@
+-- What a contract sees of the stock of chunks.
+use Rattle.std.specs.Prelude.{◌≡◌, ◌≢◌, ℕ, ◌+◌, ◌<◌, ◌≤◌, List, [], ◌∷◌, ◌++◌, Option, Some, slice_get}
+use Rattle.region_cut.specs.declared.part.Part.{Part}
+use Rattle.trace_audit.specs.Audit.{class_at}
+use Rattle.pool_fabric.specs.Weights.{weigh}
+use Rattle.pool_fabric.specs.Accounts.{of_part}
+use Rattle.pool_fabric.specs.Ledgers.{whole}
+use Rattle.pool_fabric.specs.Names.{Names}
+use Rattle.pool_fabric.specs.Pages.{PageState}
+
+-- the parts that are left, that of the greatest number first, and which chunks were drawn for which class
+pub record StockState : Type 0 where
+  pub left : List Part
+  pub drawn : List (Option ℕ)
+
+-- numbers rise along the parts, or stay
+pub record IsRising (ps : List Part) : Type 0 where
+  pub each : (i j : ℕ) (p q : Part) → slice_get ps i ≡ Some p → slice_get ps j ≡ Some q → i ≤ j → p.chunk ≤ q.chunk
+
+-- numbers fall along the parts, or stay
+pub record IsFalling (ps : List Part) : Type 0 where
+  pub each : (i j : ℕ) (p q : Part) → slice_get ps i ≡ Some p → slice_get ps j ≡ Some q → i ≤ j → q.chunk ≤ p.chunk
+
+-- each is the chunk of a region
+pub record AreChunks (ps : List Part) : Type 0 where
+  pub each : (k : ℕ) (p : Part) → slice_get ps k ≡ Some p → p.chunk < 1024
+
+-- no part is left of a lesser number
+abbrev pub IsLeast : Part → List Part → Type 0
+IsLeast p ps = (k : ℕ) (q : Part) → slice_get ps k ≡ Some q → p.chunk ≤ q.chunk
+
+-- the chunk is noted as drawn for the class, and nothing else
+pub record IsNoted (chunk class : ℕ) (old new : List (Option ℕ)) : Type 0 where
+  pub noted : class_at new chunk ≡ Some class
+  pub others : (k : ℕ) → k ≢ chunk → class_at new k ≡ class_at old k
+
+-- the part of least number was taken out, and its class noted
+pub record GivesPart (old : StockState) (class : ℕ) (p : Part) (new : StockState) : Type 0 where
+  pub left : old.left ≡ new.left ++ p ∷ []
+  pub least : IsLeast p new.left
+  pub noted : IsNoted p.chunk class old.drawn new.drawn
+
+-- What lies under the stock's lock: the chunks that the book gave and those that are left are the chunks that the stock began with.
+pub record IsStore (n : Names) (s : StockState) (book : PageState) : Type 0 where
+  pub key : book.key ≡ n.ledger
+  pub none_got : book.got ≡ []
+  pub parts : book.parts + n.count ≡ whole
+  pub some_part : 0 < book.parts
+  pub chunks : (g : ℕ → ℕ) → weigh g book.gave + weigh (of_part g) s.left ≡ weigh g n.chunks

@@ -1,0 +1,103 @@
+//! What all workers share.
+ghost use Rattle.std.specs.Prelude.{◌≡◌, ◌<◌, [], ◌++◌, map, length, MatchResult};
+ghost use Rattle.pool_fabric.specs.Seats.{seat_of, AreSeatsBy, AreBoxes};
+ghost use Rattle.pool_fabric.specs.Posts.{Posts, TakesSome, sent_at};
+
+use crate::ledger::Ledger;
+use crate::naming::Naming;
+use crate::shelf::Shelf;
+use crate::store::Store;
+use batch_inbox::{Mail, Mailbox, Receiver, Sender};
+use digit_route::Batch;
+use pool_desk::Desk;
+use std::marker::PhantomData;
+use std::sync::{Mutex, Wait};
+
+/// How many batches a worker takes at a time.
+pub const MOST_TAKEN: u32 = 64;
+
+/// The inboxes, that of each desk at its number, beside the shelf and the stock.
+#[derive(Drop)]
+pub struct Fabric<'r, M: Mailbox, T: Receiver, S: Sender, J: Naming> {
+    pub(crate) inboxes: Vec<M>,
+    pub(crate) ledger: Ledger,
+    pub(crate) shelf: Mutex<Shelf<'r, T, S, J>>,
+    pub(crate) stock: Mutex<Store<'r, J>>,
+    pub(crate) of: PhantomData<J>,
+    ghost boxes: { AreBoxes J.names (map M.id inboxes.items) },
+    ghost ledger_is: { ledger ≡ J.names.ledger },
+}
+
+impl<'r, T: Receiver, S: Sender, M: Mail<'r, TakeSeat = T, SendSeat = S>, J: Naming> Fabric<
+    'r,
+    M,
+    T,
+    S,
+    J,
+> {
+    // Posts a batch to its address. It comes back where the inbox refuses it, or there is none.
+    fn post_one<R: Wait>(&self, rt: &R, seats: &mut [S], batch: Batch<'r>) -> Result<(), Batch<'r>>
+        requires seats { AreSeatsBy J.names batch.sender (map (seat_of S.inbox S.number S.sent S.resting) seats.old) }
+        requires digits { batch.digits ≡ J.names.digits }
+        ensures { let seat = seat_of S.inbox S.number S.sent S.resting in let b = batch.entry in MatchResult result
+            (λ _. (b.address < length seats.old) × (map seat seats.new ≡ sent_at b.address b (map seat seats.old)))
+            (λ x. (x ≡ b) × (map seat seats.new ≡ map seat seats.old)) }
+    {
+        let at = usize::from(batch.address());
+        let inboxes = &self.inboxes;
+        if at >= inboxes.len() || at >= seats.len() {
+            return Err(batch);
+        }
+        let inbox = &inboxes[at];
+        let seat = &mut seats[at];
+        match inbox.post(rt, seat, batch) {
+            Ok(()) => Ok(()),
+            Err((batch, _)) => Err(batch),
+        }
+    }
+
+    /// Posts all of a desk's cache, round by round. It ends where a batch is refused, or where its
+    /// address has no inbox; that batch and the rest stay in the cache.
+    pub fn post_all<R: Wait>(&self, rt: &R, desk: Desk<'r>, seats: &mut [S]) -> Desk<'r>
+        requires digits { desk.digits ≡ J.names.digits }
+        requires seats { AreSeatsBy J.names desk.number (map (seat_of S.inbox S.number S.sent S.resting) seats.old) }
+        ensures same { result ≡ record desk.entry { cached = result.cached } }
+        ensures seats { AreSeatsBy J.names desk.entry.number (map (seat_of S.inbox S.number S.sent S.resting) seats.new) }
+        ensures posts { Posts
+            desk.entry.cached (map (seat_of S.inbox S.number S.sent S.resting) seats.old)
+            result.cached (map (seat_of S.inbox S.number S.sent S.resting) seats.new) }
+    {
+        let mut posting = desk.posting();
+        while let Some(batch) = posting.next_batch() {
+            if let Err(batch) = self.post_one(rt, seats, batch) {
+                return posting.refused(batch);
+            }
+        }
+        posting.end()
+    }
+
+    /// Takes batches from the desk's inbox and handles each, until it is given none, but not more
+    /// than 64. Says how many.
+    pub fn take_some<R: Wait>(&self, rt: &R, desk: &mut Desk<'r>, seat: &mut T) -> u32
+        requires digits { desk.old.digits ≡ J.names.digits }
+        requires seat { T.inbox seat.old ≡ J.names.boxes desk.old.number }
+        ensures { TakesSome
+            desk.old (record { inbox = T.inbox seat.old; senders = T.senders seat.old; taken = T.taken seat.old })
+            result
+            desk.new (record { inbox = T.inbox seat.new; senders = T.senders seat.new; taken = T.taken seat.new }) }
+    {
+        let at = usize::from(desk.number());
+        let inboxes = &self.inboxes;
+        if at >= inboxes.len() {
+            return 0;
+        }
+        let inbox = &inboxes[at];
+        for taken in 0..MOST_TAKEN {
+            let Some(batch) = inbox.take(rt, seat) else {
+                return taken;
+            };
+            desk.handle(batch);
+        }
+        MOST_TAKEN
+    }
+}

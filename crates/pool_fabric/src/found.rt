@@ -1,0 +1,211 @@
+//! All that is found in the end.
+ghost use Rattle.std.specs.Prelude.{◌≡◌, ℕ, ◌+◌, ◌<◌, [], length, map, Some, slice_get, IfOk, IfSome};
+ghost use Rattle.pool_fabric.specs.Ledgers.{whole};
+ghost use Rattle.pool_fabric.specs.Accounts.{of_part};
+ghost use Rattle.pool_fabric.specs.Weights.{weigh};
+ghost use Rattle.pool_fabric.specs.Whole.{IsWhole};
+
+use crate::fabric::Fabric;
+use crate::gathered::Gathered;
+use crate::held::HeldStation;
+use crate::ledger::{Ledger, Page};
+use crate::naming::Naming;
+use crate::notes::Notes;
+use crate::shelf::Shelf;
+use crate::stock::Stock;
+use crate::store::Store;
+use batch_inbox::{Mail, Receiver, Sender};
+use digit_route::Batch;
+use pool_desk::Desk;
+use region_cut::Part;
+use slot_chain::Buf;
+use std::alloc::{AllocError, Global};
+use std::sync::Wait;
+use trace_audit::Drawn;
+
+/// Why nothing was gathered. What was handed in is then given up.
+#[derive(Clone, Copy, Debug, PartialEq, Eq)]
+pub enum GatherError {
+    /// Memory was refused.
+    NoMemory,
+    /// The stations are not those of all inboxes, each once.
+    Missing,
+}
+
+/// All that a pool has, once no thread holds a station any more.
+#[derive(Drop)]
+pub struct Found<'r> {
+    /// The desks, by their numbers. What a worker could not post is in its desk's cache.
+    pub desks: Vec<Desk<'r>>,
+    /// The batches that were still in an inbox.
+    pub batches: Vec<Batch<'r>>,
+    /// What was ever lent; only contracts see it.
+    pub lent: Notes<Buf<'r>>,
+    /// What was ever freed; only contracts see it.
+    pub freed: Notes<Buf<'r>>,
+    /// The chunks that nobody drew.
+    pub parts: Vec<Part<'r>>,
+    /// Which chunks were drawn, and for which class.
+    pub drawn: Drawn,
+}
+
+// Takes the station of this number out of the list.
+fn out_of<'r, T: Receiver, S: Sender, J: Naming>(
+    stations: &mut Vec<HeldStation<'r, T, S, J>>,
+    number: usize,
+) -> Option<HeldStation<'r, T, S, J>>
+    ensures { IfSome result (λ s. s.desk.number ≡ number) }
+{
+    for at in 0..stations.len() {
+        if usize::from(stations[at].number()) == number {
+            return Some(stations.swap_remove(at));
+        }
+    }
+    None
+}
+
+// Takes all stations apart, in order of their numbers.
+fn add_all<'r, T: Receiver, S: Sender, J: Naming>(
+    alloc: Global,
+    ledger: &Ledger,
+    stations: Vec<HeldStation<'r, T, S, J>>,
+    columns: usize,
+    page: Page,
+) -> Result<Gathered<'r, T, S, J>, GatherError>
+    requires ledger { ledger.now ≡ J.names.ledger }
+    requires columns { columns ≡ J.names.count }
+    requires page { (page.key ≡ J.names.ledger) × (page.got ≡ []) × (0 < page.parts) }
+    ensures columns { IfOk result (λ g. (g.columns ≡ columns) × (length g.takes ≡ columns) × (length g.rows ≡ columns)) }
+    ensures page { IfOk result (λ g. (g.page.parts ≡ page.parts + columns) × (g.page.gave ≡ page.gave)) }
+{
+    let mut stations = stations;
+    let mut gathered = Gathered::new(alloc, columns, page);
+    for number in 0..columns {
+        let Some(station) = out_of(&mut stations, number) else {
+            return Err(GatherError::Missing);
+        };
+        let Ok(more) = gathered.add(ledger, station) else {
+            return Err(GatherError::NoMemory);
+        };
+        gathered = more;
+    }
+    if !stations.is_empty() {
+        return Err(GatherError::Missing);
+    }
+    Ok(gathered)
+}
+
+// Ends all inboxes, the last one first.
+fn close_all<
+    'r,
+    T: Receiver,
+    S: Sender,
+    M: Mail<'r, TakeSeat = T, SendSeat = S>,
+    J: Naming,
+    R: Wait,
+>(
+    rt: &R,
+    alloc: Global,
+    gathered: Gathered<'r, T, S, J>,
+    inboxes: Vec<M>,
+) -> Result<Gathered<'r, T, S, J>, AllocError>
+    requires columns { (gathered.columns ≡ length inboxes.items) × (length gathered.takes ≡ length inboxes.items)
+        × (length gathered.rows ≡ J.names.count) }
+    requires inboxes { (k : ℕ) (i : M) → slice_get inboxes.items k ≡ Some i → M.id i ≡ J.names.boxes k }
+    ensures { IfOk result (λ g. (g.columns ≡ 0) × (length g.takes ≡ 0) × (g.page ≡ gathered.entry.page)) }
+{
+    let mut gathered = gathered;
+    let mut inboxes = inboxes;
+    while let Some(inbox) = inboxes.pop() {
+        gathered = gathered.close(rt, alloc, inbox)?;
+    }
+    Ok(gathered)
+}
+
+impl<'r, T: Receiver, S: Sender, J: Naming> Gathered<'r, T, S, J> {
+    /// Looks into the ledger and the stock, once all inboxes are ended.
+    pub(crate) fn finish<R: Wait>(self, rt: &R, ledger: &Ledger, stock: Stock<'r>) -> Found<'r>
+        requires columns { (self.columns ≡ 0) × (length self.takes ≡ 0) }
+        requires page { (ledger.now ≡ J.names.ledger) × (self.page.parts ≡ whole) }
+        requires chunks { (g : ℕ → ℕ) → weigh g self.page.gave + weigh (of_part g) stock.left ≡ weigh g J.names.chunks }
+        ensures { IsWhole result.desks.items result.batches.items result.lent.items result.freed.items result.parts.items J.names.chunks }
+    {
+        let Gathered {
+            columns: _,
+            desks,
+            takes: _,
+            rows: _,
+            mut page,
+            lent,
+            freed,
+            batches,
+            of: _,
+        } = self;
+        ledger.close(rt, &mut page);
+        let (parts, drawn) = stock.into_parts();
+        Found {
+            desks,
+            batches,
+            lent,
+            freed,
+            parts,
+            drawn,
+        }
+    }
+}
+
+// All stations: those of the shelf beside those that came back from threads.
+fn all_of<'r, T: Receiver, S: Sender, J: Naming>(
+    shelf: Shelf<'r, T, S, J>,
+    held: Vec<HeldStation<'r, T, S, J>>,
+) -> Result<Vec<HeldStation<'r, T, S, J>>, AllocError> {
+    let mut shelf = shelf;
+    let mut stations = held;
+    for _ in 0..shelf.len() {
+        let Some(station) = shelf.get() else {
+            return Ok(stations);
+        };
+        stations.push(station.adopt(0))?;
+    }
+    Ok(stations)
+}
+
+/// Gathers all that there is, once no thread holds a station any more: the stations on the shelf,
+/// those that are handed in, and what is left in every inbox.
+///
+/// Whatever the schedule was, and whatever was done with the buffers, nothing is lost and nothing is
+/// there twice: all slots found, with all that was lent, are all slots of the drawn chunks, with all
+/// that was freed.
+pub fn gather<
+    'r,
+    T: Receiver,
+    S: Sender,
+    M: Mail<'r, TakeSeat = T, SendSeat = S>,
+    J: Naming,
+    R: Wait,
+>(
+    rt: &R,
+    alloc: Global,
+    fabric: Fabric<'r, M, T, S, J>,
+    held: Vec<HeldStation<'r, T, S, J>>,
+) -> Result<Found<'r>, GatherError>
+    ensures { IfOk result (λ f.
+        IsWhole f.desks.items f.batches.items f.lent.items f.freed.items f.parts.items J.names.chunks) }
+{
+    let Fabric {
+        inboxes,
+        ledger,
+        shelf,
+        stock,
+        of: _,
+    } = fabric;
+    let Ok(stations) = all_of(shelf.into_inner(), held) else {
+        return Err(GatherError::NoMemory);
+    };
+    let Store { stock, book, of: _ } = stock.into_inner();
+    let gathered = add_all(alloc, &ledger, stations, inboxes.len(), book)?;
+    let Ok(gathered) = close_all(rt, alloc, gathered, inboxes) else {
+        return Err(GatherError::NoMemory);
+    };
+    Ok(gathered.finish(rt, &ledger, stock))
+}

@@ -1,0 +1,123 @@
+//! A station that a worker holds.
+ghost use Rattle.std.specs.Prelude.{◌≡◌, ◌≢◌, ◌<◌, ◌^◌, [], MatchResult};
+ghost use Rattle.pool_fabric.specs.Calls.{Lends, TakesBack};
+
+use crate::ledger::Page;
+use crate::naming::Naming;
+use crate::notes::Notes;
+use crate::station::Station;
+use batch_inbox::{Receiver, Sender};
+use digit_route::Digits;
+use pool_desk::{Desk, DeskError, Freed};
+use slot_chain::Buf;
+use std::alloc::Global;
+use std::marker::{Model, PhantomData};
+
+/// A station that a worker holds. Its type keeps the balance of a [`Station`].
+#[derive(Drop)]
+pub struct HeldStation<'r, T: Receiver, S: Sender, J: Naming> {
+    pub(crate) desk: Desk<'r>,
+    pub(crate) take: T,
+    pub(crate) seats: Vec<S>,
+    pub(crate) page: Page,
+    pub(crate) lent: Notes<Buf<'r>>,
+    pub(crate) freed: Notes<Buf<'r>>,
+    pub(crate) of: PhantomData<J>,
+}
+
+impl<'r, T: Receiver, S: Sender, J: Naming> Model for HeldStation<'r, T, S, J> {
+    ghost use Rattle.std.specs.Prelude.{map};
+    ghost use Rattle.pool_fabric.specs.Seats.{seat_of};
+    ghost use Rattle.pool_fabric.specs.Stations.{StationState, IsStation};
+
+    ghost Value = { StationState };
+
+    ghost view = { λ s. record {
+      desk = s.desk;
+      take = record { inbox = T.inbox s.take; senders = T.senders s.take; taken = T.taken s.take };
+      seats = map (seat_of S.inbox S.number S.sent S.resting) s.seats.items;
+      page = s.page;
+      lent = s.lent.items;
+      freed = s.freed.items;
+    } };
+
+    ghost invariant = { λ s. IsStation J.names (record {
+      desk = s.desk;
+      take = record { inbox = T.inbox s.take; senders = T.senders s.take; taken = T.taken s.take };
+      seats = map (seat_of S.inbox S.number S.sent S.resting) s.seats.items;
+      page = s.page;
+      lent = s.lent.items;
+      freed = s.freed.items;
+    }) };
+}
+
+impl<'r, T: Receiver, S: Sender, J: Naming> HeldStation<'r, T, S, J> {
+    /// The desk's number.
+    pub fn number(&self) -> u16
+        ensures { result ≡ self.now.desk.number }
+    {
+        self.desk.number()
+    }
+
+    /// How the numbers of desks are read.
+    pub fn digits(&self) -> Digits
+        ensures { result ≡ self.now.desk.digits }
+    {
+        self.desk.digits()
+    }
+
+    /// Gives out a buffer of at least `size` bytes, as [`Desk::alloc`] does.
+    pub fn alloc(&mut self, alloc: Global, size: usize) -> Result<Buf<'r>, DeskError>
+        ensures { Lends self.old size result self.new }
+    {
+        let buf = self.desk.alloc(alloc, size)?;
+        self.lent = self.lent.and(&buf);
+        Ok(buf)
+    }
+
+    /// Takes a buffer back, as [`Desk::free`] does.
+    pub fn free(&mut self, buf: Buf<'r>) -> Freed
+        requires { buf.owner < 2 ^ self.old.desk.digits.bits }
+        ensures { TakesBack self.old buf.entry result self.new }
+    {
+        self.freed = self.freed.and(&buf);
+        self.desk.free(buf)
+    }
+
+    /// The station without its worker, where the desk's cache is empty. Where it isn't, all stays.
+    pub fn retire(self) -> Result<Station<'r, T, S, J>, HeldStation<'r, T, S, J>>
+        ensures { let s = self.entry in MatchResult result
+            (λ t. (s.desk.cached ≡ []) × (t ≡ record s { desk = record s.desk { worker = 0 } }))
+            (λ t. (s.desk.cached ≢ []) × (t ≡ s)) }
+    {
+        let HeldStation {
+            desk,
+            take,
+            seats,
+            page,
+            lent,
+            freed,
+            of,
+        } = self;
+        match desk.retire() {
+            Ok(desk) => Ok(Station {
+                desk,
+                take,
+                seats,
+                page,
+                lent,
+                freed,
+                of,
+            }),
+            Err(desk) => Err(HeldStation {
+                desk,
+                take,
+                seats,
+                page,
+                lent,
+                freed,
+                of,
+            }),
+        }
+    }
+}

@@ -1,0 +1,220 @@
+//! Who has which chunk, over all threads.
+//!
+//! The stock gives chunks out and desks get them, in any order and in any thread. A [`Ledger`] keeps
+//! that what was given is what was got. It is a token's matter alone: pages take no memory, and what
+//! is written on them only contracts see.
+ghost use Rattle.std.specs.Prelude.{◌≡◌, ℕ, ◌+◌, ◌-◌, ◌<◌, [], ◌∷◌, ◌++◌, IfOk};
+ghost use Rattle.pool_fabric.specs.Ledgers.{whole};
+ghost use Rattle.pool_fabric.specs.Pages.{PageState};
+ghost use Rattle.pool_fabric.specs.Weights.{weigh};
+
+use crossbeam_queue::protocol::{Join, Lesson, Protocol, Split};
+use crossbeam_queue::{RuledSegQueue, SegPass};
+use slot_chain::NoMemory;
+use std::alloc::Global;
+use std::collections::LinkedList;
+use std::marker::{Brand, Model, PhantomData};
+use std::mem;
+use std::sync::Wait;
+
+// What a page knows. No value of it is made.
+pub struct Hand {
+    pub parts: u64,
+    pub gave: LinkedList<u16>,
+    pub got: LinkedList<u16>,
+}
+
+// The rule: what was given is what was got.
+pub struct Fair;
+
+impl Protocol<u16, Hand> for Fair {
+    ghost use Rattle.std.specs.Prelude.{[]};
+    ghost use Rattle.pool_fabric.specs.Ledgers.{IsBalanced, hand, whole};
+
+    ghost holds = { IsBalanced };
+
+    ghost first = { hand whole [] [] };
+}
+
+// A new page with one part, or two pages joined.
+pub struct Cut;
+
+impl Split<Hand> for Cut {
+    ghost use Rattle.std.specs.Prelude.{[], ◌-◌};
+    ghost use Rattle.pool_fabric.specs.Ledgers.{hand};
+
+    ghost left = { λ v. hand (v.parts - 1) v.gave v.got };
+
+    ghost right = { λ v. hand 1 [] [] };
+}
+
+impl Join<Hand> for Cut {
+    ghost use Rattle.std.specs.Prelude.{[], ◌+◌, ◌++◌};
+    ghost use Rattle.pool_fabric.specs.Ledgers.{hand};
+
+    ghost both = { λ v w. hand (v.parts + w.parts) (v.gave ++ w.gave) (v.got ++ w.got) };
+
+    ghost spent = { hand 0 [] [] };
+}
+
+// A page with no part, to stand in another's place for a moment.
+pub struct Spare;
+
+impl Split<Hand> for Spare {
+    ghost use Rattle.std.specs.Prelude.{[]};
+    ghost use Rattle.pool_fabric.specs.Ledgers.{hand};
+
+    ghost left = { λ v. v };
+
+    ghost right = { λ v. hand 0 [] [] };
+}
+
+/// A chunk that a contract can name. The call that deals one picks it.
+pub trait Dealing {
+    ghost use Rattle.std.specs.Prelude.{ℕ};
+
+    ghost chunk: { ℕ };
+}
+
+impl Dealing for Brand {
+    ghost chunk = { 0 };
+}
+
+// The first page gives the chunk, and the second, which has all that was got, gets it.
+pub struct Deals<K> {
+    chunk: PhantomData<K>,
+}
+
+impl<K: Dealing> Split<Hand> for Deals<K> {
+    ghost use Rattle.std.specs.Prelude.{[], ◌∷◌, ◌++◌, ◌-◌};
+    ghost use Rattle.pool_fabric.specs.Ledgers.{hand};
+
+    ghost left = { λ v. hand (v.parts - 1) (v.gave ++ K.chunk ∷ []) [] };
+
+    ghost right = { λ v. hand 1 [] (v.got ++ K.chunk ∷ []) };
+}
+
+// For the page with every part.
+pub struct Ends;
+
+impl Lesson<u16, Hand> for Ends {
+    ghost use Rattle.pool_fabric.specs.Ledgers.{IsTotal};
+
+    ghost fact = { IsTotal };
+}
+
+pub(crate) type Line = RuledSegQueue<u16, Hand, Fair>;
+
+pub(crate) type Pass = SegPass<u16, Hand>;
+
+/// What all pages are of. Threads share it by `&`. A contract sees which one it is.
+pub struct Ledger {
+    queue: Line,
+}
+
+impl Model for Ledger {
+    ghost use Rattle.std.specs.Prelude.{ℕ, List};
+    ghost use Rattle.pool_fabric.specs.Pages.{key_of};
+
+    ghost Value = { List ℕ };
+
+    ghost view = { λ l. key_of l.queue.web };
+}
+
+impl Drop for Ledger {
+    fn drop(self) {
+        let Self { queue } = self;
+        queue.destroy();
+    }
+}
+
+/// What one holder gave and got, and its parts of the right to know the whole.
+#[derive(Drop)]
+pub struct Page {
+    pass: Pass,
+}
+
+impl Model for Page {
+    ghost use Rattle.std.specs.Prelude.{◌≡◌, None};
+    ghost use Rattle.pool_fabric.specs.Pages.{PageState, key_of};
+
+    ghost Value = { PageState };
+
+    ghost view = { λ p. record {
+      key = key_of p.pass.web;
+      parts = p.pass.me.view.client.parts;
+      gave = p.pass.me.view.client.gave;
+      got = p.pass.me.view.client.got;
+    } };
+
+    ghost invariant = { λ p. (p.pass.me.hand ≡ None) × (p.pass.me.spare ≡ None) };
+}
+
+impl Ledger {
+    /// A new ledger, with the page that has every part.
+    pub fn new(alloc: Global) -> Result<(Ledger, Page), NoMemory>
+        ensures { IfOk result (λ r. r.1 ≡ record { key = r.0; parts = whole; gave = []; got = [] }) }
+    {
+        let (queue, pass) = Line::with_rule(alloc)?;
+        Ok((Ledger { queue }, Page { pass }))
+    }
+
+    /// Another page, with one part.
+    pub fn split(&self, page: &mut Page) -> Page
+        requires { (page.old.key ≡ self.now) × (1 < page.old.parts) }
+        ensures left { page.new ≡ record page.old { parts = page.old.parts - 1 } }
+        ensures right { result ≡ record { key = page.old.key; parts = 1; gave = []; got = [] } }
+    {
+        Page {
+            pass: self.queue.another::<Cut>(&mut page.pass),
+        }
+    }
+
+    /// Takes in the page of a holder that has ended.
+    pub fn join(&self, page: &mut Page, other: Page)
+        requires { (page.old.key ≡ self.now) × (other.key ≡ self.now) × (0 < page.old.parts) }
+        ensures { page.new ≡ record {
+          key = page.old.key;
+          parts = page.old.parts + other.parts;
+          gave = page.old.gave ++ other.gave;
+          got = page.old.got ++ other.got;
+        } }
+    {
+        let Page { pass } = other;
+        self.queue.absorb::<Cut>(&mut page.pass, pass);
+    }
+
+    /// The first page gives the chunk, and the second gets it.
+    pub fn deal(&self, book: &mut Page, page: &mut Page, chunk: u16)
+        requires book { (book.old.key ≡ self.now) × (1 < book.old.parts + page.old.parts) × (book.old.got ≡ []) × (0 < book.old.parts) }
+        requires page { (page.old.key ≡ self.now) × (page.old.parts ≡ 1) × (page.old.gave ≡ []) }
+        ensures book { book.new ≡ record book.old { gave = book.old.gave ++ chunk ∷ [] } }
+        ensures page { page.new ≡ record page.old { got = page.old.got ++ chunk ∷ [] } }
+    {
+        self.dealt::<Brand>(book, page, chunk);
+    }
+
+    // The same, of a chunk that is named.
+    fn dealt<K: Dealing>(&self, book: &mut Page, page: &mut Page, chunk: u16)
+        requires chunk { chunk ≡ K.chunk }
+        requires book { (book.old.key ≡ self.now) × (book.old.got ≡ []) × (0 < book.old.parts) }
+        requires page { (page.old.key ≡ self.now) × (page.old.parts ≡ 1) × (page.old.gave ≡ []) }
+        ensures book { book.new ≡ record book.old { gave = book.old.gave ++ chunk ∷ [] } }
+        ensures page { page.new ≡ record page.old { got = page.old.got ++ chunk ∷ [] } }
+    {
+        let _chunk = chunk;
+        let spare = self.queue.another::<Spare>(&mut book.pass);
+        let mine = mem::replace(&mut page.pass, spare);
+        self.queue.absorb::<Cut>(&mut book.pass, mine);
+        page.pass = self.queue.another::<Deals<K>>(&mut book.pass);
+    }
+
+    /// With every part: all that was given was got.
+    pub fn close<R: Wait>(&self, rt: &R, page: &mut Page)
+        requires { (page.old.key ≡ self.now) × (page.old.parts ≡ whole) }
+        ensures page { page.new ≡ page.old }
+        ensures all { (g : ℕ → ℕ) → weigh g page.new.gave ≡ weigh g page.new.got }
+    {
+        self.queue.len_as::<Ends, R>(rt, &mut page.pass);
+    }
+}

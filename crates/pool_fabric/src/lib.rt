@@ -1,0 +1,39 @@
+//! What the desks of a pool share, and what is kept between them.
+//!
+//! A [`Station`] is a desk with its seats at the inboxes. Stations that no worker holds stand on a
+//! [`Shelf`], and the chunks that no desk drew in a [`Stock`]; both lie beside the inboxes in a
+//! [`Fabric`], which threads share by `&`. A worker allocates and frees at its [`HeldStation`]
+//! alone: as in snmalloc ("snmalloc: A Message Passing Allocator", ISMM 2019) no lock is taken for
+//! it, and what goes to another desk goes through an inbox.
+//!
+//! The type of a station keeps a balance of its slots, so that nothing is lost on the way: when all
+//! stations are back and all inboxes drained, [`gather`] finds each slot.
+#![tactic(auto)]
+
+mod column;
+mod drained;
+mod fabric;
+mod found;
+mod gathered;
+mod held;
+mod ledger;
+mod listing;
+mod naming;
+mod notes;
+mod row;
+mod shelf;
+mod station;
+mod stock;
+mod store;
+mod work;
+
+pub use fabric::{Fabric, MOST_TAKEN};
+pub use found::{Found, GatherError, gather};
+pub use held::HeldStation;
+pub use ledger::{Ledger, Page};
+pub use listing::account;
+pub use naming::Naming;
+pub use notes::Notes;
+pub use shelf::{SHELF_ROOM, Shelf};
+pub use station::Station;
+pub use stock::Stock;

@@ -1,0 +1,42 @@
+//! A list that contracts alone see.
+ghost use Rattle.std.specs.Prelude.{◌≡◌, List, [], ◌∷◌, ◌++◌};
+ghost use Rattle.std.specs.Borrow.{ftrue};
+
+use std::marker::{Model, PhantomData};
+
+/// A list that contracts alone see. It takes no memory, and its calls do nothing when they run.
+#[derive(Drop)]
+pub struct Notes<T> {
+    of: PhantomData<T>,
+    pub ghost items: { List T },
+}
+
+impl<T> Model for Notes<T> {
+    ghost also_owns = { λ _. ftrue };
+}
+
+// It owns nothing.
+unsafe impl<T: Send> Send for Notes<T> {}
+
+impl<T> Notes<T> {
+    /// The empty list.
+    pub fn new() -> Notes<T>
+        ensures { result.items ≡ [] }
+    {
+        Notes { of: PhantomData }
+    }
+
+    /// The list with one value more, which stays where it is.
+    pub fn and(&self, value: &T) -> Notes<T>
+        ensures { result.items ≡ self.now.items ++ value.now ∷ [] }
+    {
+        Notes { of: PhantomData }
+    }
+
+    /// This list, and then the other.
+    pub fn with(&self, other: &Notes<T>) -> Notes<T>
+        ensures { result.items ≡ self.now.items ++ other.now.items }
+    {
+        Notes { of: PhantomData }
+    }
+}

@@ -1,0 +1,71 @@
+//! The stations that no worker holds.
+ghost use Rattle.std.specs.Prelude.{◌≡◌, ◌<◌, [], ◌∷◌, ◌++◌, length, IfOk, MatchResult, MatchOption};
+
+use crate::naming::Naming;
+use crate::station::Station;
+use batch_inbox::{Receiver, Sender};
+use slot_chain::NoMemory;
+use std::alloc::Global;
+use std::marker::Model;
+
+/// How many stations a shelf holds at most.
+pub const SHELF_ROOM: usize = 64;
+
+/// Stations that no worker holds, at most 64. Each of them has an empty cache, as its desk is idle.
+///
+/// A contract sees them as a list. The station that was put last is got first.
+#[derive(Drop)]
+pub struct Shelf<'r, T: Receiver, S: Sender, J: Naming> {
+    row: Vec<Station<'r, T, S, J>>,
+}
+
+impl<'r, T: Receiver, S: Sender, J: Naming> Model for Shelf<'r, T, S, J> {
+    ghost use Rattle.std.specs.Prelude.{List, ◌≤◌, length};
+    ghost use Rattle.std.specs.Vec.{vec_capacity};
+    ghost use Rattle.pool_fabric.specs.Stations.{StationState};
+
+    ghost Value = { List StationState };
+
+    ghost view = { λ s. s.row.items };
+
+    ghost invariant = { λ s. (64 ≤ vec_capacity s.row) × (length s.row.items ≤ 64) };
+}
+
+impl<'r, T: Receiver, S: Sender, J: Naming> Shelf<'r, T, S, J> {
+    /// An empty shelf. Only this call takes memory.
+    pub fn new(alloc: Global) -> Result<Shelf<'r, T, S, J>, NoMemory>
+        ensures { IfOk result (λ s. s ≡ []) }
+    {
+        let row = Vec::with_capacity(alloc, SHELF_ROOM)?;
+        Ok(Shelf { row })
+    }
+
+    /// How many stations are on it.
+    pub fn len(&self) -> usize
+        ensures { result ≡ length self.now }
+    {
+        self.row.len()
+    }
+
+    /// Puts a station on the shelf, or hands it back: just where the shelf holds 64, it is full.
+    pub fn put(&mut self, station: Station<'r, T, S, J>) -> Result<(), Station<'r, T, S, J>>
+        ensures { MatchResult result
+            (λ _. (length self.old < 64) × (self.new ≡ self.old ++ station.entry ∷ []))
+            (λ s. (length self.old ≡ 64) × (s ≡ station.entry) × (self.new ≡ self.old)) }
+    {
+        if self.row.len() >= SHELF_ROOM {
+            return Err(station);
+        }
+        self.row.push_reserved(station);
+        Ok(())
+    }
+
+    /// Gets the station that was put last, or says that the shelf is empty.
+    pub fn get(&mut self) -> Option<Station<'r, T, S, J>>
+        ensures { MatchOption result
+            ((self.old ≡ []) × (self.new ≡ []))
+            (λ s. self.old ≡ self.new ++ s ∷ []) }
+    {
+        self.row.pop()
+    }
+}

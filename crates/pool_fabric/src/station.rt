@@ -1,0 +1,88 @@
+//! A desk that nobody holds, with its seats.
+ghost use Rattle.std.specs.Prelude.{◌≡◌};
+ghost use Rattle.pool_fabric.specs.Stations.{resting};
+
+use crate::held::HeldStation;
+use crate::ledger::Page;
+use crate::naming::Naming;
+use crate::notes::Notes;
+use batch_inbox::{Receiver, Sender};
+use pool_desk::IdleDesk;
+use slot_chain::Buf;
+use std::marker::{Model, PhantomData};
+
+/// A desk that no worker holds, with its seats: the one from which it takes, and one at each inbox
+/// from which it posts.
+///
+/// Its type keeps a balance, for the desk's whole life and whatever the program did with its
+/// buffers: what the desk has, what was sent from its seats and what it lent out is all slots of the
+/// chunks that it drew, what it took and what was freed to it.
+#[derive(Drop)]
+pub struct Station<'r, T: Receiver, S: Sender, J: Naming> {
+    pub(crate) desk: IdleDesk<'r>,
+    pub(crate) take: T,
+    pub(crate) seats: Vec<S>,
+    pub(crate) page: Page,
+    pub(crate) lent: Notes<Buf<'r>>,
+    pub(crate) freed: Notes<Buf<'r>>,
+    pub(crate) of: PhantomData<J>,
+}
+
+impl<'r, T: Receiver, S: Sender, J: Naming> Model for Station<'r, T, S, J> {
+    ghost use Rattle.std.specs.Prelude.{map};
+    ghost use Rattle.pool_fabric.specs.Seats.{seat_of};
+    ghost use Rattle.pool_fabric.specs.Stations.{StationState, IsStation, resting};
+
+    ghost Value = { StationState };
+
+    ghost view = { λ s. record {
+      desk = resting s.desk;
+      take = record { inbox = T.inbox s.take; senders = T.senders s.take; taken = T.taken s.take };
+      seats = map (seat_of S.inbox S.number S.sent S.resting) s.seats.items;
+      page = s.page;
+      lent = s.lent.items;
+      freed = s.freed.items;
+    } };
+
+    ghost invariant = { λ s. IsStation J.names (record {
+      desk = resting s.desk;
+      take = record { inbox = T.inbox s.take; senders = T.senders s.take; taken = T.taken s.take };
+      seats = map (seat_of S.inbox S.number S.sent S.resting) s.seats.items;
+      page = s.page;
+      lent = s.lent.items;
+      freed = s.freed.items;
+    }) };
+}
+
+impl<'r, T: Receiver, S: Sender, J: Naming> Station<'r, T, S, J> {
+    /// The desk's number.
+    pub fn number(&self) -> u16
+        ensures { result ≡ self.now.desk.number }
+    {
+        self.desk.number()
+    }
+
+    /// The station in the hands of a worker.
+    pub fn adopt(self, worker: u32) -> HeldStation<'r, T, S, J>
+        ensures { let s = self.entry in result ≡ record s { desk = record s.desk { worker = worker } } }
+    {
+        let Station {
+            desk,
+            take,
+            seats,
+            page,
+            lent,
+            freed,
+            of,
+        } = self;
+        HeldStation {
+            desk: desk.adopt(worker),
+            take,
+            seats,
+            page,
+            lent,
+            freed,
+            of,
+        }
+    }
+}

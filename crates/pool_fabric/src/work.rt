@@ -1,0 +1,77 @@
+//! What a worker does with its station at a fabric.
+ghost use Rattle.std.specs.Prelude.{◌≡◌, ◌<◌, MatchBool};
+ghost use Rattle.region_cut.specs.Classes.{classes_of};
+ghost use Rattle.pool_desk.specs.ByClass.{LacksClass};
+ghost use Rattle.pool_desk.specs.Desks.{profile_at};
+ghost use Rattle.pool_fabric.specs.Calls.{ClaimsPart};
+ghost use Rattle.pool_fabric.specs.Posts.{Posts, TakesSome};
+
+use crate::fabric::Fabric;
+use crate::held::HeldStation;
+use crate::naming::Naming;
+use batch_inbox::{Mail, Receiver, Sender};
+use pool_desk::{Desk, IdleDesk};
+use region_cut::Class;
+use std::mem;
+use std::sync::Wait;
+
+// Takes a desk out of its place, where an empty one of its number stands for a moment.
+fn taken_out<'r>(place: &mut Desk<'r>) -> Desk<'r>
+    ensures { result ≡ place.old }
+{
+    let empty = IdleDesk::new(place.number(), place.digits(), 0);
+    mem::replace(place, empty.adopt(0))
+}
+
+impl<'r, T: Receiver, S: Sender, J: Naming> HeldStation<'r, T, S, J> {
+    /// Takes what is in the desk's inbox, at most 64 batches, and handles it. Says how many.
+    pub fn take<M: Mail<'r, TakeSeat = T, SendSeat = S>, R: Wait>(
+        &mut self,
+        rt: &R,
+        fabric: &Fabric<'r, M, T, S, J>,
+    ) -> u32
+        ensures same { self.new ≡ record self.old { desk = self.new.desk; take = self.new.take } }
+        ensures takes { TakesSome self.old.desk self.old.take result self.new.desk self.new.take }
+    {
+        fabric.take_some(rt, &mut self.desk, &mut self.take)
+    }
+
+    /// Posts all of the desk's cache, until a batch is refused.
+    pub fn post<M: Mail<'r, TakeSeat = T, SendSeat = S>, R: Wait>(
+        &mut self,
+        rt: &R,
+        fabric: &Fabric<'r, M, T, S, J>,
+    )
+        ensures same { self.new ≡ record self.old { desk = self.new.desk; seats = self.new.seats } }
+        ensures desk { self.new.desk ≡ record self.old.desk { cached = self.new.desk.cached } }
+        ensures posts { Posts self.old.desk.cached self.old.seats self.new.desk.cached self.new.seats }
+    {
+        let desk = taken_out(&mut self.desk);
+        self.desk = fabric.post_all(rt, desk, self.seats.as_mut_slice());
+    }
+
+    /// Claims a part of the stock for a class that has no slot at home, or says that the stock is
+    /// empty.
+    pub fn claim<M: Mail<'r, TakeSeat = T, SendSeat = S>, R: Wait>(
+        &mut self,
+        rt: &R,
+        fabric: &Fabric<'r, M, T, S, J>,
+        class: Class,
+    ) -> bool
+        requires class { class < classes_of (profile_at self.old.desk) }
+        requires needed { LacksClass class self.old.desk.home }
+        ensures { MatchBool result (ClaimsPart self.old class self.new) (self.new ≡ self.old) }
+    {
+        let dealt = fabric
+            .stock
+            .lock(rt)
+            .deal(&fabric.ledger, &mut self.page, class);
+        let Some(part) = dealt else {
+            return false;
+        };
+        match self.desk.claim(part, class) {
+            Ok(()) => true,
+            Err(_) => unreachable!(),
+        }
+    }
+}
