@@ -8,3 +8,4 @@ pub mod Cancels
 pub mod Columns
 pub mod Gathers
 pub mod Accounting
+pub mod Opens

@@ -11,3 +11,4 @@ pub mod Stocks
 pub mod Gathered
 pub mod Whole
 pub mod Audited
+pub mod Opened

@@ -27,7 +27,8 @@ pub(crate) fn last_column<S: Sender, J: Naming>(
     last: usize,
 ) -> Result<Column<S, J>, AllocError>
     requires { AreRows J.names (last + 1) rows.items }
-    ensures rows { IfOk result (λ c. AreRows J.names last c.rows.items × (length c.rows.items ≡ length rows.items)) }
+    ensures rows { IfOk result (λ c.
+        AreRows J.names last c.rows.items × (length c.rows.items ≡ length rows.items)) }
     ensures seats { IfOk result (λ c.
         AreAt J.names last (map (seat_of S.inbox S.number S.sent S.resting) c.seats.items)
         × (length c.seats.items ≡ length rows.items)) }

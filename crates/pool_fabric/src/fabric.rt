@@ -6,6 +6,7 @@ ghost use Rattle.pool_fabric.specs.Posts.{Posts, TakesSome, sent_at};
 use crate::ledger::Ledger;
 use crate::naming::Naming;
 use crate::shelf::Shelf;
+use crate::station::Station;
 use crate::store::Store;
 use batch_inbox::{Mail, Mailbox, Receiver, Sender};
 use digit_route::Batch;
@@ -35,6 +36,20 @@ impl<'r, T: Receiver, S: Sender, M: Mail<'r, TakeSeat = T, SendSeat = S>, J: Nam
     S,
     J,
 > {
+    /// Gets a station off the shelf, or says that none is there.
+    pub fn station<R: Wait>(&self, rt: &R) -> Option<Station<'r, T, S, J>> {
+        self.shelf.lock(rt).get()
+    }
+
+    /// Puts a station back on the shelf, or hands it back where the shelf is full.
+    pub fn put_back<R: Wait>(
+        &self,
+        rt: &R,
+        station: Station<'r, T, S, J>,
+    ) -> Result<(), Station<'r, T, S, J>> {
+        self.shelf.lock(rt).put(station)
+    }
+
     // Posts a batch to its address. It comes back where the inbox refuses it, or there is none.
     fn post_one<R: Wait>(&self, rt: &R, seats: &mut [S], batch: Batch<'r>) -> Result<(), Batch<'r>>
         requires seats { AreSeatsBy J.names batch.sender (map (seat_of S.inbox S.number S.sent S.resting) seats.old) }

@@ -75,7 +75,8 @@ fn add_all<'r, T: Receiver, S: Sender, J: Naming>(
     requires ledger { ledger.now ≡ J.names.ledger }
     requires columns { columns ≡ J.names.count }
     requires page { (page.key ≡ J.names.ledger) × (page.got ≡ []) × (0 < page.parts) }
-    ensures columns { IfOk result (λ g. (g.columns ≡ columns) × (length g.takes ≡ columns) × (length g.rows ≡ columns)) }
+    ensures columns { IfOk result (λ g.
+        (g.columns ≡ columns) × (length g.takes ≡ columns) × (length g.rows ≡ columns)) }
     ensures page { IfOk result (λ g. (g.page.parts ≡ page.parts + columns) × (g.page.gave ≡ page.gave)) }
 {
     let mut stations = stations;
@@ -127,8 +128,10 @@ impl<'r, T: Receiver, S: Sender, J: Naming> Gathered<'r, T, S, J> {
     pub(crate) fn finish<R: Wait>(self, rt: &R, ledger: &Ledger, stock: Stock<'r>) -> Found<'r>
         requires columns { (self.columns ≡ 0) × (length self.takes ≡ 0) }
         requires page { (ledger.now ≡ J.names.ledger) × (self.page.parts ≡ whole) }
-        requires chunks { (g : ℕ → ℕ) → weigh g self.page.gave + weigh (of_part g) stock.left ≡ weigh g J.names.chunks }
-        ensures { IsWhole result.desks.items result.batches.items result.lent.items result.freed.items result.parts.items J.names.chunks }
+        requires chunks { (g : ℕ → ℕ)
+            → weigh g self.page.gave + weigh (of_part g) stock.left ≡ weigh g J.names.chunks }
+        ensures { IsWhole result.desks.items result.batches.items result.lent.items result.freed.items
+            result.parts.items J.names.chunks }
     {
         let Gathered {
             columns: _,

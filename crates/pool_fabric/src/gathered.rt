@@ -146,7 +146,8 @@ impl<'r, T: Receiver, S: Sender, J: Naming> Gathered<'r, T, S, J> {
         alloc: Global,
         inbox: M,
     ) -> Result<Gathered<'r, T, S, J>, AllocError>
-        requires columns { (0 < self.columns) × (self.columns ≡ length self.takes) × (length self.rows ≡ J.names.count) }
+        requires columns { (0 < self.columns) × (self.columns ≡ length self.takes)
+            × (length self.rows ≡ J.names.count) }
         requires inbox { M.id inbox ≡ J.names.boxes (self.columns - 1) }
         ensures { IfOk result (λ g. Closes self.entry g) }
     {

@@ -186,7 +186,7 @@ impl Ledger {
 
     /// The first page gives the chunk, and the second gets it.
     pub fn deal(&self, book: &mut Page, page: &mut Page, chunk: u16)
-        requires book { (book.old.key ≡ self.now) × (1 < book.old.parts + page.old.parts) × (book.old.got ≡ []) × (0 < book.old.parts) }
+        requires book { (book.old.key ≡ self.now) × (book.old.got ≡ []) × (0 < book.old.parts) }
         requires page { (page.old.key ≡ self.now) × (page.old.parts ≡ 1) × (page.old.gave ≡ []) }
         ensures book { book.new ≡ record book.old { gave = book.old.gave ++ chunk ∷ [] } }
         ensures page { page.new ≡ record page.old { got = page.old.got ++ chunk ∷ [] } }

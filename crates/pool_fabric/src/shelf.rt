@@ -60,6 +60,14 @@ impl<'r, T: Receiver, S: Sender, J: Naming> Shelf<'r, T, S, J> {
         Ok(())
     }
 
+    /// Puts a station on a shelf that is not full.
+    pub(crate) fn push(&mut self, station: Station<'r, T, S, J>)
+        requires { length self.old < 64 }
+        ensures { self.new ≡ self.old ++ station.entry ∷ [] }
+    {
+        self.row.push_reserved(station);
+    }
+
     /// Gets the station that was put last, or says that the shelf is empty.
     pub fn get(&mut self) -> Option<Station<'r, T, S, J>>
         ensures { MatchOption result

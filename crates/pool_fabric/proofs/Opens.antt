@@ -1,0 +1,57 @@
+-- A new station keeps what its type says, and seats are taken out of columns.
+use Rattle.std.proofs.Common.{◌≡◌, ℕ, suc, ◌+◌, List, [], ◌∷◌, ◌++◌, length, refl, sym, ap, ◌∙◌, arith, Some, length-append}
+use Rattle.std.specs.Prelude.{slice_get, true}
+use Rattle.region_cut.specs.declared.slot.Slot.{Slot}
+use Rattle.batch_inbox.specs.States.{TakeState}
+use Rattle.pool_fabric.specs.Weights.{weigh}
+use Rattle.pool_fabric.specs.Names.{Names}
+use Rattle.pool_fabric.specs.Seats.{SeatState, NoneSent}
+use Rattle.pool_fabric.specs.Accounts.{of_buffer, of_batch, of_home, of_chunk, of_number, of_seats}
+use Rattle.pool_fabric.specs.Stations.{StationState, IsSeated, IsStation, IsFresh}
+use Rattle.pool_fabric.specs.Opened.{IsColumn, AreColumns, AreNewTakes}
+use Rattle.pool_fabric.proofs.Columns.{get_front, get_seam}
+
+none_sent : (h : Slot → ℕ) (xs : List SeatState) → NoneSent xs → of_seats h xs ≡ 0
+none_sent h [] new = refl
+none_sent h (x ∷ xs) new =
+    let one = ap (weigh (of_batch h)) (new 0 x refl) in
+    let rest = none_sent h xs (λ k s at. new (suc k) s at) in omega arith
+
+nothing : {A : Type 0} (f : A → ℕ) (xs : List A) → xs ≡ [] → weigh f xs ≡ 0
+nothing f xs e = ap (weigh f) e
+
+pub fresh_keeps : (n : Names) (s : StationState) → IsFresh s → IsSeated n s → IsStation n s
+fresh_keeps n s f i = record {
+  slots = λ h.
+      let home = nothing (of_home h) s.desk.home f.home in
+      let cached = nothing (of_buffer h) s.desk.cached f.cached in
+      let seats = none_sent h s.seats f.seats in
+      let lent = nothing (of_buffer h) s.lent f.lent in
+      let drawn = nothing (of_chunk h) s.desk.drawn f.drawn in
+      let taken = nothing (of_batch h) s.take.taken f.taken in
+      let freed = nothing (of_buffer h) s.freed f.freed in omega arith;
+  chunks = λ g.
+      let drawn = nothing (of_number g) s.desk.drawn f.drawn in
+      let got = nothing g s.page.got f.got in omega arith;
+  seated = i;
+}
+
+pub column_here : (n : Names) (many : ℕ) (columns done rest : List (List SeatState)) (c : List SeatState) → AreColumns n many columns → done ++ c ∷ rest ≡ columns → IsColumn n many (length done) c
+column_here n many columns done rest c r is = r.each (length done) c (ap (λ l. slice_get l (length done)) (sym is) ∙ get_seam done c rest)
+
+pub column_popped : (n : Names) (k m : ℕ) (c rest : List SeatState) (x : SeatState) → c ≡ rest ++ x ∷ [] → IsColumn n (m + 1) k c
+    → IsColumn n m k rest × (x.inbox ≡ n.boxes k) × (x.sender ≡ m) × (x.resting ≡ true) × (x.sent ≡ [])
+column_popped n k m c rest x is r =
+    let len : length rest ≡ m = let e = ap length is in let f = length-append rest (x ∷ []) in let g = r.0 in omega arith in
+    let up : (j : ℕ) (y : SeatState) → slice_get rest j ≡ Some y → slice_get c j ≡ Some y = λ j y e. ap (λ l. slice_get l j) is ∙ get_front rest (x ∷ []) j y e in
+    let last : slice_get c (length rest) ≡ Some x = ap (λ l. slice_get l (length rest)) is ∙ get_seam rest x [] in
+    let at = r.2 (length rest) x last in
+    ((len, (λ j y e. r.1 j y (up j y e)), (λ j y e. r.2 j y (up j y e))), at.0, at.1 ∙ len, at.2, r.1 (length rest) x last)
+
+-- the last take seat, and the others
+pub take_popped : (n : Names) (ts rest : List TakeState) (t : TakeState) → AreNewTakes n ts → ts ≡ rest ++ t ∷ []
+    → AreNewTakes n rest × ((t.inbox ≡ n.boxes (length rest)) × (t.senders ≡ n.count) × (t.taken ≡ []))
+take_popped n ts rest t i is = (
+  record { each = λ k x e. i.each k x (ap (λ l. slice_get l k) is ∙ get_front rest (t ∷ []) k x e) },
+  i.each (length rest) t (ap (λ l. slice_get l (length rest)) is ∙ get_seam rest t []),
+)

@@ -1,0 +1,31 @@
+use Rattle.std.proofs.Common.{refl, ap, ◌∙◌}
+use Rattle.pool_fabric.specs.Pages.{PageState}
+use Rattle.pool_fabric.specs.Seats.{seat_of}
+use Rattle.pool_fabric.proofs.Posting.{length-mapped}
+use Rattle.pool_fabric.proofs.Opens.{fresh_keeps}
+use Rattle.pool_fabric.proofs.station.Station.new.Goals as goal
+
+pub invariant_of-result : goal.invariant_of-result
+invariant_of-result g c =
+    let as_seat = seat_of g.S.Sender.inbox g.S.Sender.number g.S.Sender.sent g.S.Sender.resting in
+    fresh_keeps _ _
+    (record {
+      home = c.requires.desk.0;
+      cached = refl;
+      drawn = c.requires.desk.1;
+      taken = c.requires.take.2;
+      seats = c.requires.seats.2;
+      got = ap (λ (p : PageState). p.got) c.requires.page;
+      lent = c.new.ensures;
+      freed = c.new-2.ensures;
+    })
+    (record {
+      digits = c.requires.desk.2;
+      take = c.requires.take.0;
+      senders = c.requires.take.1;
+      seats = c.requires.seats.0;
+      number = length-mapped as_seat c.args.seats.items ∙ c.requires.seats.1;
+      page = ap (λ (p : PageState). p.key) c.requires.page;
+      part = ap (λ (p : PageState). p.parts) c.requires.page;
+      none_given = ap (λ (p : PageState). p.gave) c.requires.page;
+    })
