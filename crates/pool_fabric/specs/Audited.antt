@@ -29,7 +29,8 @@ pub record IsAnswer (slots : List Slot) (drawn : List (Option ℕ)) (P : List Sl
   pub each : IsPermutation slots found
   pub is : P found
 
--- Ok: each slot of a drawn chunk is found once, and no other is. A fault but want of memory is there, and none of a lesser number.
+-- Ok: each slot of a drawn chunk is found once, and no other is.
+-- A fault but want of memory is there, and none of a lesser number.
 abbrev pub Audited : List Slot → List (Option ℕ) → Result (Unit {0}) Fault → Type 0
 Audited slots drawn (Ok u) = IsAnswer slots drawn (λ found. ExactlyOnce drawn found)
 Audited slots drawn (Err NoMemory) = Unit {0}

@@ -9,7 +9,9 @@ use Rattle.pool_fabric.specs.Stations.{StationState}
 
 -- the desk gives out a buffer, which is then lent; or it gives none, and all is as before
 abbrev pub Lends : StationState → ℕ → Result Buffer DeskError → StationState → Type 0
-Lends old size (Ok b) new = Allocs old.desk size (Ok b) new.desk × (new ≡ record old { desk = new.desk; lent = old.lent ++ b ∷ [] })
+Lends old size (Ok b) new =
+    Allocs old.desk size (Ok b) new.desk
+    × (new ≡ record old { desk = new.desk; lent = old.lent ++ b ∷ [] })
 Lends old size (Err e) new = Allocs old.desk size (Err e) new.desk × (new ≡ old)
 
 -- the desk takes a buffer back

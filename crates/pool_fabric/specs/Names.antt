@@ -4,7 +4,8 @@ use Rattle.digit_route.specs.Digits.{Scheme}
 use Rattle.batch_inbox.specs.States.{InboxId}
 use Rattle.batch_inbox.specs.Views.{nowhere}
 
--- the inbox of each desk, how the desks' numbers are read, how many desks there are, the ledger, and the chunks that the stock began with
+-- the inbox of each desk, how the desks' numbers are read, how many desks there are, the ledger,
+-- and the chunks that the stock began with
 pub record Names : Type 0 where
   pub boxes : ℕ → InboxId
   pub digits : Scheme
@@ -14,4 +15,10 @@ pub record Names : Type 0 where
 
 -- the names of no fabric
 abbrev pub nothing : Names
-nothing = record { boxes = λ k. record { key = []; place = nowhere }; digits = nowhere.digits; count = 0; ledger = []; chunks = [] }
+nothing = record {
+  boxes = λ k. record { key = []; place = nowhere };
+  digits = nowhere.digits;
+  count = 0;
+  ledger = [];
+  chunks = [];
+}

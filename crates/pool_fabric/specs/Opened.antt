@@ -16,4 +16,5 @@ pub record AreColumns (n : Names) (many : ℕ) (columns : List (List SeatState))
 
 -- the take seats of the named inboxes, in order: nothing was taken
 pub record AreNewTakes (n : Names) (takes : List TakeState) : Type 0 where
-  pub each : (k : ℕ) (t : TakeState) → slice_get takes k ≡ Some t → (t.inbox ≡ n.boxes k) × (t.senders ≡ n.count) × (t.taken ≡ [])
+  pub each : (k : ℕ) (t : TakeState) → slice_get takes k ≡ Some t
+      → (t.inbox ≡ n.boxes k) × (t.senders ≡ n.count) × (t.taken ≡ [])

@@ -23,8 +23,10 @@ abbrev pub sent_all : List SeatState → List BatchState → List SeatState
 sent_all seats [] = seats
 sent_all seats (b ∷ bs) = sent_all (sent_at b.address b seats) bs
 
--- Some batches were posted, each to its address. With the cache that is left they are the cache of before, each buffer the same.
-pub record Posts (cached : List Buffer) (seats : List SeatState) (cached' : List Buffer) (seats' : List SeatState) : Type 0 where
+-- Some batches were posted, each to its address.
+-- With the cache that is left they are the cache of before, each buffer the same.
+pub record Posts (cached : List Buffer) (seats : List SeatState) (cached' : List Buffer) (seats' : List SeatState)
+    : Type 0 where
   pub posted : List BatchState
   pub together : IsPermutation cached (buffers_in posted ++ cached')
   pub addresses : All (λ (b : BatchState). b.address < length seats) posted

@@ -16,7 +16,8 @@ seat_of inbox number sent resting s = record { inbox = inbox s; sender = number 
 
 -- these are the seats of the sender a, one at each inbox, in order, all at rest
 pub record AreSeatsBy (n : Names) (a : ℕ) (seats : List SeatState) : Type 0 where
-  pub each : (k : ℕ) (x : SeatState) → slice_get seats k ≡ Some x → (x.inbox ≡ n.boxes k) × (x.sender ≡ a) × (x.resting ≡ true)
+  pub each : (k : ℕ) (x : SeatState) → slice_get seats k ≡ Some x
+      → (x.inbox ≡ n.boxes k) × (x.sender ≡ a) × (x.resting ≡ true)
 
 -- nothing was sent from these seats
 abbrev pub NoneSent : List SeatState → Type 0
@@ -25,4 +26,5 @@ NoneSent seats = (k : ℕ) (x : SeatState) → slice_get seats k ≡ Some x → 
 -- the inboxes of a fabric, that of each desk at its number
 pub record AreBoxes (n : Names) (boxes : List InboxId) : Type 0 where
   pub count : length boxes ≡ n.count
-  pub each : (k : ℕ) (i : InboxId) → slice_get boxes k ≡ Some i → (i ≡ n.boxes k) × (i.place ≡ record { address = k; digits = n.digits })
+  pub each : (k : ℕ) (i : InboxId) → slice_get boxes k ≡ Some i
+      → (i ≡ n.boxes k) × (i.place ≡ record { address = k; digits = n.digits })

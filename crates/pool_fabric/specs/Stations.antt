@@ -21,9 +21,18 @@ pub record StationState : Type 0 where
 
 -- an idle desk, as one whose cache is empty
 abbrev pub resting : IdleState → DeskState
-resting d = record { number = d.number; digits = d.digits; limit = d.limit; worker = 0; home = d.home; drawn = d.drawn; cached = [] }
+resting d = record {
+  number = d.number;
+  digits = d.digits;
+  limit = d.limit;
+  worker = 0;
+  home = d.home;
+  drawn = d.drawn;
+  cached = [];
+}
 
--- However slots are weighed: what a station has, sent and lent is all slots of the chunks that it drew, what it took and what was freed to it.
+-- However slots are weighed: what a station has, sent and lent is all slots of the chunks that it drew,
+-- what it took and what was freed to it.
 abbrev pub KeepsSlots : StationState → Type 0
 KeepsSlots s = (h : Slot → ℕ)
     → held h s.desk + of_seats h s.seats + weigh (of_buffer h) s.lent

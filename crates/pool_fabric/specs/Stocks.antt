@@ -40,7 +40,8 @@ pub record GivesPart (old : StockState) (class : ℕ) (p : Part) (new : StockSta
   pub least : IsLeast p new.left
   pub noted : IsNoted p.chunk class old.drawn new.drawn
 
--- What lies under the stock's lock: the chunks that the book gave and those that are left are the chunks that the stock began with.
+-- What lies under the stock's lock: the chunks that the book gave and those that are left
+-- are the chunks that the stock began with.
 pub record IsStore (n : Names) (s : StockState) (book : PageState) : Type 0 where
   pub key : book.key ≡ n.ledger
   pub none_got : book.got ≡ []

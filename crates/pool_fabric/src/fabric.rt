@@ -77,7 +77,8 @@ impl<'r, T: Receiver, S: Sender, M: Mail<'r, TakeSeat = T, SendSeat = S>, J: Nam
         requires digits { desk.digits ≡ J.names.digits }
         requires seats { AreSeatsBy J.names desk.number (map (seat_of S.inbox S.number S.sent S.resting) seats.old) }
         ensures same { result ≡ record desk.entry { cached = result.cached } }
-        ensures seats { AreSeatsBy J.names desk.entry.number (map (seat_of S.inbox S.number S.sent S.resting) seats.new) }
+        ensures seats { AreSeatsBy J.names desk.entry.number
+            (map (seat_of S.inbox S.number S.sent S.resting) seats.new) }
         ensures posts { Posts
             desk.entry.cached (map (seat_of S.inbox S.number S.sent S.resting) seats.old)
             result.cached (map (seat_of S.inbox S.number S.sent S.resting) seats.new) }

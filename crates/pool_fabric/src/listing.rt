@@ -67,7 +67,9 @@ pub fn account(
     batches: &[Batch<'_>],
     drawn: &Drawn,
 ) -> Result<(), Fault>
-    ensures { Audited (listed idle_slots idle.now ++ listed held_slots held.now ++ listed batch_slots batches.now) drawn.now result }
+    ensures { Audited
+        (listed idle_slots idle.now ++ listed held_slots held.now ++ listed batch_slots batches.now)
+        drawn.now result }
 {
     let mut slots = Vec::new(alloc);
     match list_all(idle, held, batches, &mut slots) {

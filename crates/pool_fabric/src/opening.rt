@@ -77,7 +77,8 @@ fn shelved<'r, T: Receiver, S: Sender, J: Naming>(
     requires limit { limit ≤ 1048576 }
     requires takes { AreNewTakes J.names (map (taking_of T.inbox T.senders T.taken) takes.items) }
     requires columns { AreColumns J.names J.names.count columns.items × (length columns.items ≡ J.names.count) }
-    requires book { (book.old.key ≡ ledger.now) × (book.old.parts ≡ whole) × (book.old.gave ≡ []) × (book.old.got ≡ []) }
+    requires book { (book.old.key ≡ ledger.now) × (book.old.parts ≡ whole) × (book.old.gave ≡ [])
+        × (book.old.got ≡ []) }
     ensures book { IfOk result (λ s. (book.new.key ≡ ledger.now) × (book.new.parts + J.names.count ≡ whole)
         × (book.new.gave ≡ []) × (book.new.got ≡ [])) }
     ensures shelf { IfOk result (λ s. length s ≡ J.names.count) }
