@@ -9,11 +9,12 @@ use Rattle.region_cut.specs.declared.part.Part.{Part}
 use Rattle.region_cut.specs.Carved.{Carved}
 use Rattle.region_cut.specs.Classes.{slots_of}
 use Rattle.slot_chain.specs.Buffer.{Buffer}
-use Rattle.digit_route.specs.States.{BatchState, Gives}
+use Rattle.digit_route.specs.States.{BatchState}
+use Rattle.digit_route.specs.Route.{GivesBucket}
 use Rattle.pool_desk.specs.Homes as homes
 use Rattle.pool_desk.specs.Homes.{AtHome, slot_at, unused_from, Draws, GivesOne, Names}
 use Rattle.pool_desk.specs.Homes.AtHome.{Kept, Fresh}
-use Rattle.pool_desk.specs.Listed.{places}
+use Rattle.pool_desk.specs.Slots.{places}
 use Rattle.pool_desk.specs.Desks.{DeskState}
 use Rattle.pool_desk.specs.Steps.{Claims, Allocs, Frees, Handles, Caches, freed, passed_on, own, others}
 use Rattle.pool_desk.specs.declared.freed.Freed.{Freed}
@@ -102,7 +103,7 @@ handled h old batch new c =
     let s = weigh-split (of_buffer h) (λ (b : Buffer). b.owner == old.number) batch in
     omega arith
 
-pub sent_off : (h : Slot → ℕ) (old new : DeskState) (b : BatchState) → new ≡ record old { cached = new.cached } → Gives old.digits old.number old.cached b new.cached → held h old ≡ held h new + of_batch h b
+pub sent_off : (h : Slot → ℕ) (old new : DeskState) (b : BatchState) → new ≡ record old { cached = new.cached } → GivesBucket old.digits old.number old.cached b new.cached → held h old ≡ held h new + of_batch h b
 sent_off h old new b same c =
     let p = weigh-permutation (of_buffer h) old.cached (b.items ++ new.cached) c.taken.together in
     let q = weigh-append (of_buffer h) b.items new.cached in

@@ -7,7 +7,7 @@ use Rattle.region_cut.specs.Classes.{slots_of}
 use Rattle.slot_chain.specs.Buffer.{Buffer}
 use Rattle.digit_route.specs.States.{BatchState}
 use Rattle.pool_desk.specs.Homes.{AtHome, slot_at}
-use Rattle.pool_desk.specs.Listed.{places}
+use Rattle.pool_desk.specs.Slots.{places}
 use Rattle.pool_desk.specs.Desks.{DeskState}
 use Rattle.batch_inbox.specs.States.{TakeState}
 use Rattle.pool_fabric.specs.Weights.{weigh}

@@ -3,7 +3,8 @@ use Rattle.std.specs.Prelude.{ℕ, List, [], ◌∷◌, ◌++◌, map, IsPermuta
 use Rattle.region_cut.specs.declared.slot.Slot.{Slot}
 use Rattle.digit_route.specs.States.{BatchState}
 use Rattle.pool_desk.specs.Desks.{DeskState, IdleState}
-use Rattle.pool_desk.specs.Listed.{slot_of, slots_in}
+use Rattle.pool_desk.specs.Slots.{slots_in}
+use Rattle.slot_chain.specs.Slots.{slot_of}
 use Rattle.trace_audit.specs.Audit.{ExactlyOnce, IsFault}
 use Rattle.trace_audit.specs.declared.auditing.fault.Fault.{Fault}
 use Rattle.trace_audit.specs.declared.auditing.fault.Fault.TheVariants.{NoMemory}

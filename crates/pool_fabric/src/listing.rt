@@ -1,6 +1,6 @@
 //! The audit of all that a pool has.
 ghost use Rattle.std.specs.Prelude.{◌++◌, OnOk};
-ghost use Rattle.pool_desk.specs.Listed.{Adds};
+ghost use Rattle.slot_chain.specs.Slots.{AddsSlots};
 ghost use Rattle.pool_fabric.specs.Audited.{idle_slots, held_slots, batch_slots, listed, Audited};
 
 use digit_route::Batch;
@@ -12,7 +12,7 @@ use trace_audit::{Drawn, Fault, audit};
 
 // Adds the slots of idle desks.
 fn list_idle(desks: &[IdleDesk<'_>], slots: &mut Vec<Slot>) -> Result<(), NoMemory>
-    ensures { OnOk result (Adds (listed idle_slots desks.now) slots.old.items slots.new.items) }
+    ensures { OnOk result (AddsSlots (listed idle_slots desks.now) slots.old.items slots.new.items) }
 {
     for desk in desks {
         desk.list_slots(slots)?;
@@ -22,7 +22,7 @@ fn list_idle(desks: &[IdleDesk<'_>], slots: &mut Vec<Slot>) -> Result<(), NoMemo
 
 // Adds the slots of held desks.
 fn list_held(desks: &[Desk<'_>], slots: &mut Vec<Slot>) -> Result<(), NoMemory>
-    ensures { OnOk result (Adds (listed held_slots desks.now) slots.old.items slots.new.items) }
+    ensures { OnOk result (AddsSlots (listed held_slots desks.now) slots.old.items slots.new.items) }
 {
     for desk in desks {
         desk.list_slots(slots)?;
@@ -32,7 +32,7 @@ fn list_held(desks: &[Desk<'_>], slots: &mut Vec<Slot>) -> Result<(), NoMemory>
 
 // Adds the slots of batches.
 fn list_batches(batches: &[Batch<'_>], slots: &mut Vec<Slot>) -> Result<(), NoMemory>
-    ensures { OnOk result (Adds (listed batch_slots batches.now) slots.old.items slots.new.items) }
+    ensures { OnOk result (AddsSlots (listed batch_slots batches.now) slots.old.items slots.new.items) }
 {
     for batch in batches {
         batch.list_slots(slots)?;
@@ -47,7 +47,7 @@ fn list_all(
     batches: &[Batch<'_>],
     slots: &mut Vec<Slot>,
 ) -> Result<(), NoMemory>
-    ensures { OnOk result (Adds
+    ensures { OnOk result (AddsSlots
         (listed idle_slots idle.now ++ listed held_slots held.now ++ listed batch_slots batches.now)
         slots.old.items slots.new.items) }
 {

@@ -1,7 +1,7 @@
 //! What a worker does with its station at a fabric.
 ghost use Rattle.std.specs.Prelude.{◌≡◌, ◌<◌, MatchBool};
 ghost use Rattle.region_cut.specs.Classes.{classes_of};
-ghost use Rattle.pool_desk.specs.ByClass.{LacksClass};
+ghost use Rattle.pool_desk.specs.HomesState.{LacksClass};
 ghost use Rattle.pool_desk.specs.Desks.{profile_at};
 ghost use Rattle.pool_fabric.specs.Calls.{ClaimsPart};
 ghost use Rattle.pool_fabric.specs.Posts.{Posts, TakesSome};

@@ -1,7 +1,7 @@
 use Rattle.std.proofs.Common.{take}
-use Rattle.pool_desk.specs.Listed.{Adds}
+use Rattle.slot_chain.specs.Slots.{AddsSlots}
 use Rattle.pool_fabric.specs.Audited.{idle_slots, listed}
 use Rattle.pool_fabric.proofs.listing.list_idle.Given as goal
 
 abbrev pub invariant-loop-desk : goal.invariant-loop-desk
-invariant-loop-desk l = Adds (listed idle_slots (take l.desk-index l.desks)) l.initial.slots.items l.slots.items
+invariant-loop-desk l = AddsSlots (listed idle_slots (take l.desk-index l.desks)) l.initial.slots.items l.slots.items
