@@ -46,7 +46,7 @@ claimed h old part class new c =
 pub claimed_chunk : (g : ℕ → ℕ) (old : DeskState) (part : Part) (class : ℕ) (new : DeskState) → Claims old part class new → drawn_by g new ≡ g part.chunk + drawn_by g old
 claimed_chunk g old part class new c = draws (of_number g) part class (g part.chunk) old.drawn new.drawn (λ x e k. ap g e) c.drawn
 
-given_slot : (h : Slot → ℕ) (a : AtHome) (b : Buffer) → homes.Gives a b → of_home h a ≡ h b.slot
+given_slot : (h : Slot → ℕ) (a : AtHome) (b : Buffer) → homes.GivenAs a b → of_home h a ≡ h b.slot
 given_slot h (Kept a) b e = ap (λ (x : Buffer). h x.slot) (sym e)
 given_slot h (Fresh u) b e = ap h (sym e.0)
 
