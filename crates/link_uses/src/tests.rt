@@ -90,11 +90,12 @@ fn lend<'r>(rt: &impl Abort, alloc: Global, desk: &mut Desk<'r>) -> Buf<'r> {
     }
 }
 
-fn free<'r>(rt: &impl Abort, desk: &mut Desk<'r>, buf: Buf<'r>) -> Freed {
+// Another desk's buffer goes into the cache.
+fn free<'r>(rt: &impl Abort, desk: &mut Desk<'r>, buf: Buf<'r>) {
     let _number = desk.number();
     assert!(rt; desk.digits() == digits(rt));
     assert!(rt; buf.owner() < 64);
-    desk.free(buf)
+    assert!(rt; desk.free(buf) != Freed::Home);
 }
 
 // A marked buffer of the owner that the sender frees, as a batch of its own.
