@@ -15,7 +15,7 @@ use Rattle.pool_machine.specs.Forwards.{counted, forwards}
 use Rattle.pool_machine.specs.Sound.{Member, GoesNearer, FitsIn, Fits, FitsWaiting, Rising, Sound}
 use Rattle.pool_machine.specs.declared.chunk.DrawnChunk.{DrawnChunk}
 use Rattle.pool_machine.proofs.Basics.{same_slot_eq, none_holds, Member-append_left, Member_last, Member-push_cases, Member-filter, filter_member, Member-map, map_member, FrontOf, front_is, link_keeps, any_witness}
-use Rattle.pool_machine.proofs.DigitLaws.{owners_below, nearer}
+use Rattle.digit_route.proofs.SharedLaws.{shared_by_others, shared_on_the_way}
 
 pub Rising-filter : (p : Waiting → Bool) (ws : List Waiting) → Rising ws → Rising (filter p ws)
 Rising-filter p [] r = tt
@@ -52,7 +52,7 @@ placed_same f (Some p) = refl
 desks_apart : (st : State) (c : Slot → ℕ) → Sound st c → (x y : ℕ) → x < st.desks → y < st.desks → x ≢ y → near st x y < digits_of st
 desks_apart st c h x y l m n =
     let d : st.desks ≤ 2 ^ st.digits.bits = h.desks_fit in
-    owners_below st.digits h.digits_fit x y (lt_of_lt_of_le l d) (lt_of_lt_of_le m d) n
+    shared_by_others st.digits x y h.digits_fit (lt_of_lt_of_le l d) (lt_of_lt_of_le m d) n
 
 -- ---- Adopt and Retire
 
@@ -263,7 +263,7 @@ send_sound st c a t h al tl ne found = record {
         goes : (s : Slot) → nat_lt (near st a t) (near st (owner_of st s) t) ≡ true → near st (owner_of st s) a < near st (owner_of st s) t
         goes s e =
             let l = ltb-true (near st a t) (near st (owner_of st s) t) e in
-            let k = nearer st.digits (owner_of st s) a t l in
+            let k = shared_on_the_way st.digits (owner_of st s) a t l in
             subst (λ x. x < near st (owner_of st s) t) (sym k) l
 
     fits_at : (s : Slot) (b : Bool) → nat_lt (near st a t) (near st (owner_of st s) t) ≡ b → (p : Option Place) → Fits st (owner_of st s) (c s) p →

@@ -4,7 +4,6 @@ pub mod Basics
 pub mod Checks
 pub mod ClaimStep
 pub mod ClassLaws
-pub mod DigitLaws
 pub mod Enumerate
 pub mod FloorSteps
 pub mod FreeStep
