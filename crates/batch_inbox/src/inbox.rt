@@ -1,9 +1,10 @@
 //! The inbox.
-ghost use Rattle.std.specs.Prelude.{◌≡◌, ℕ, ◌≤◌, [], ◌∷◌, ◌++◌, length, Some, slice_get, IfOk, IfNone, MatchResult, MatchOption};
+ghost use Rattle.std.specs.Prelude.{◌≡◌, ℕ, ◌≤◌, [], ◌∷◌, ◌++◌, length, Some, slice_get, IfOk, IfErr, IfNone, MatchResult, MatchOption};
 ghost use Rattle.crossbeam_queue.specs.Fifo.{Learns};
 ghost use Rattle.batch_inbox.specs.Order.{IsInOrder};
 ghost use Rattle.batch_inbox.specs.States.{SendState, AreSeatsOf, AreNew, left, view_of};
 ghost use Rattle.batch_inbox.specs.Views.{batches_of, place_of};
+ghost use Rattle.batch_inbox.specs.declared.error.PostError.TheVariants.{NoRoom};
 
 use crate::opening::{opened, seated};
 use crate::rule::{Line, View};
@@ -101,6 +102,7 @@ impl<'r> Inbox<'r> {
         ensures batch { MatchResult result
             (λ _. seat.new.sent ≡ seat.old.sent ++ batch.entry ∷ [])
             (λ e. (e.0 ≡ batch.entry) × (seat.new ≡ seat.old)) }
+        ensures error { IfErr result (λ e. e.1 ≡ NoRoom) }
     {
         match self.queue.push_as::<Posts, R>(rt, &mut seat.pass, batch) {
             Ok(()) => Ok(()),

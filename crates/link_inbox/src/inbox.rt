@@ -1,6 +1,7 @@
 //! The inbox.
-ghost use Rattle.std.specs.Prelude.{◌≡◌, ℕ, ◌≤◌, [], ◌∷◌, ◌++◌, length, Some, None, IfOk, MatchResult, MatchOption};
+ghost use Rattle.std.specs.Prelude.{◌≡◌, ℕ, ◌≤◌, [], ◌∷◌, ◌++◌, length, Some, None, IfOk, IfErr, MatchResult, MatchOption};
 ghost use Rattle.batch_inbox.specs.Views.{place_of};
+ghost use Rattle.batch_inbox.specs.declared.error.PostError.TheVariants.{NoNode};
 ghost use Rattle.link_inbox.specs.States.{AreSeatsOf, AreNew, AreAtRest};
 
 use crate::opening::{opened, seated};
@@ -98,6 +99,7 @@ impl<'r> LinkInbox<'r> {
         ensures batch { MatchResult result
             (λ a. (seat.new.sent ≡ seat.old.sent ++ batch.entry ∷ []) × (seat.new.half ≡ Some a))
             (λ e. (e.0 ≡ batch.entry) × (seat.new ≡ seat.old)) }
+        ensures error { IfErr result (λ e. e.1 ≡ NoNode) }
     {
         let words = &self.nodes.shared;
         let node = seat.sender as u64 * NODES + 1 + seat.turn;
@@ -142,6 +144,7 @@ impl<'r> LinkInbox<'r> {
         ensures batch { MatchResult result
             (λ _. seat.new.sent ≡ seat.old.sent ++ batch.entry ∷ [])
             (λ e. (e.0 ≡ batch.entry) × (seat.new ≡ seat.old)) }
+        ensures error { IfErr result (λ e. e.1 ≡ NoNode) }
     {
         let attached = self.attach(seat, batch)?;
         self.link(seat, attached);
