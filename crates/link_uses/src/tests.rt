@@ -6,6 +6,7 @@
 mod deep;
 mod dropped;
 mod half;
+mod held;
 mod nodes;
 mod order;
 mod refused;

@@ -24,7 +24,7 @@ const SENDERS: u16 = 8;
 const CHUNKS: usize = 313;
 
 // So many batches of this sender to the owner, with the marks from 0 on.
-fn batches<'r>(
+pub(crate) fn batches<'r>(
     rt: &impl Abort,
     alloc: Global,
     owner: &mut Desk<'r>,
@@ -84,7 +84,7 @@ fn what_a_joined_thread_posted_is_taken(rt: HostRuntime) {
     joined(&rt, rt.alloc(), parts);
 }
 
-fn tally(rt: &impl Abort, alloc: Global, senders: u16) -> Tally {
+pub(crate) fn tally(rt: &impl Abort, alloc: Global, senders: u16) -> Tally {
     let taken = Vec::from_elem(alloc, 0, senders as usize)
         .ok()
         .expect(rt, "memory");
