@@ -89,7 +89,8 @@ impl<'r> Inbox<'r> {
 
     /// Posts a batch, which goes last.
     ///
-    /// It is refused where the queue needs memory and gets none. The batch then comes back.
+    /// It is refused where the queue needs memory, once in 31 posts, and gets none. The batch then
+    /// comes back, and the same call may be made again.
     pub fn post<R: Wait>(
         &self,
         rt: &R,

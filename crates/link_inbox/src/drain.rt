@@ -45,7 +45,7 @@ fn gathered<'r>(
 
 impl<'r> LinkInbox<'r> {
     /// Ends the inbox, given all its seats. What was sent and not taken is left, of each sender in
-    /// its order, half-linked batches too.
+    /// its order, half-linked batches too. It takes no memory.
     pub fn drain(self, seat: TakeSeat<'r>, seats: Vec<SendSeat<'r>>) -> Rest<'r>
         requires seat { seat.inbox ≡ self }
         requires seats { AreSeatsOf self seats.items × (length seats.items ≡ seat.senders) }

@@ -43,8 +43,8 @@ impl<'r> LinkInbox<'r> {
     /// An empty inbox of the desk `address`, with the seats of its senders, numbered from 0.
     ///
     /// Owner numbers are read as `digits` says: in its profile, and with digits of its width. All the
-    /// memory that the inbox ever has is taken here: a node has a word and room for a batch, and each
-    /// sender has 16 nodes.
+    /// memory that the inbox ever has is taken here: 16 nodes for each sender and one more, each with
+    /// a word of 8 bytes and room for a batch. It is refused where an allocation is.
     pub fn new(
         alloc: Global,
         address: u16,
@@ -87,7 +87,8 @@ impl<'r> LinkInbox<'r> {
     ///
     /// It is refused with [`PostError::NoNode`] where the sender's next node isn't free: 16 of its
     /// batches are in the inbox, or all but one, and the front rests on the node of the last that
-    /// was taken. The batch then comes back. The call takes no memory and waits for nobody.
+    /// was taken. The batch then comes back. The call takes no memory and waits for nobody: it is one
+    /// compare-exchange and one exchange.
     pub fn attach(
         &self,
         seat: &mut SendSeat<'r>,
@@ -118,7 +119,7 @@ impl<'r> LinkInbox<'r> {
     }
 
     /// Links the batch that was attached from this seat, which is at rest then. The call takes no
-    /// memory and waits for nobody.
+    /// memory and waits for nobody: it is one store.
     pub fn link(&self, seat: &mut SendSeat<'r>, attached: Attached)
         requires seat { (seat.old.inbox ≡ self.now) × (seat.old.half ≡ Some attached) }
         ensures seat { (seat.new.inbox ≡ seat.old.inbox) × (seat.new.sender ≡ seat.old.sender) }
@@ -131,7 +132,8 @@ impl<'r> LinkInbox<'r> {
         seat.rests = true;
     }
 
-    /// Posts a batch, which goes last: attaches and links it.
+    /// Posts a batch, which goes last: attaches and links it. It is refused where
+    /// [`LinkInbox::attach`] is.
     pub fn post(
         &self,
         seat: &mut SendSeat<'r>,
@@ -155,7 +157,8 @@ impl<'r> LinkInbox<'r> {
     ///
     /// It goes from the front to the node that the front's next word names, and to no other. So
     /// `None` is answered only where that word named none at that step: the inbox was empty then, or
-    /// its first batch was half-linked. The call takes no memory and waits for nobody.
+    /// its first batch was half-linked. The call takes no memory and waits for nobody: it is one load,
+    /// and one store where there is a batch.
     pub fn take(&self, seat: &mut TakeSeat<'r>) -> Option<Batch<'r>>
         requires { seat.old.inbox ≡ self.now }
         ensures seat { (seat.new.inbox ≡ seat.old.inbox) × (seat.new.senders ≡ seat.old.senders) }

@@ -27,7 +27,8 @@ impl<'r> Model for Rest<'r> {
 }
 
 impl<'r> Rest<'r> {
-    /// Hands out the first batch that is left of some sender, or says that nothing is left.
+    /// Hands out the first batch that is left of some sender, or says that nothing is left. All calls
+    /// together read each of the inbox's nodes once.
     pub fn next(&mut self) -> Option<Batch<'r>>
         ensures { MatchOption result
             ((k : ℕ) → left self.old k ≡ [])
