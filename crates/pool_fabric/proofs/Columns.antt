@@ -1,7 +1,7 @@
 -- Rows of seats, and the seats at one inbox.
 use Rattle.std.proofs.Common.{◌≡◌, ◌⊎◌, ℕ, zero, suc, ◌+◌, List, [], ◌∷◌, ◌++◌, length, refl, sym, ap, ◌∙◌, arith, subst, Some, inl, inr, ⊎_elim, length-append, map}
 use Rattle.std.specs.Prelude.{slice_get}
-use Rattle.pool_fabric.specs.Names.{Names}
+use Rattle.pool_fabric.specs.Names.{Names, box_at}
 use Rattle.pool_fabric.specs.Seats.{SeatState, AreSeatsBy}
 use Rattle.pool_fabric.specs.Gathered.{AreRows}
 
@@ -28,12 +28,12 @@ module _ {A : Type 0} where
 
 -- a row without its last seat, and that seat
 pub row_popped : (n : Names) (a k : ℕ) (row rest : List SeatState) (x : SeatState) → row ≡ rest ++ x ∷ [] → AreSeatsBy n a row × (length row ≡ k + 1)
-    → (AreSeatsBy n a rest × (length rest ≡ k)) × (x.inbox ≡ n.boxes k) × (x.sender ≡ a)
+    → (AreSeatsBy n a rest × (length rest ≡ k)) × (x.inbox ≡ box_at n k) × (x.sender ≡ a)
 row_popped n a k row rest x is r =
     let len : length rest ≡ k = let e = ap length is in let f = length-append rest (x ∷ []) in let g = r.1 in omega arith in
     let at = r.0.each (length rest) x (ap (λ l. slice_get l (length rest)) is ∙ get_seam rest x []) in (
       (record { each = λ j y e. r.0.each j y (ap (λ l. slice_get l j) is ∙ get_front rest (x ∷ []) j y e) }, len),
-      at.0 ∙ ap n.boxes len,
+      at.0 ∙ ap (box_at n) len,
       at.1,
     )
 

@@ -7,7 +7,7 @@ use Rattle.slot_chain.specs.Buffer.{Buffer}
 use Rattle.digit_route.specs.States.{BatchState}
 use Rattle.batch_inbox.specs.States.{InboxId, TakeState}
 use Rattle.pool_fabric.specs.Weights.{weigh}
-use Rattle.pool_fabric.specs.Names.{Names}
+use Rattle.pool_fabric.specs.Names.{Names, box_at}
 use Rattle.pool_fabric.specs.Pages.{PageState}
 use Rattle.pool_fabric.specs.Seats.{SeatState, AreSeatsBy}
 use Rattle.pool_fabric.specs.Accounts.{of_buffer, of_batch, of_seats, of_part, of_taking, held, owed, drawn_by}
@@ -48,21 +48,21 @@ adds_keeps n s t takes page lent freed i k at_row at_take columns m e l f = reco
       omega arith;
   rows = record { each = each_more (λ a r. AreSeatsBy n a r × (length r ≡ s.columns)) s.rows t.seats i.rows.each (subst (λ a. AreSeatsBy n a t.seats × (length t.seats ≡ s.columns)) at_row (k.seated.seats, k.seated.number ∙ sym columns)) };
   takes = record {
-    each = subst (λ ts. (j : ℕ) (x : TakeState) → slice_get ts j ≡ Some x → (x.inbox ≡ n.boxes j) × (x.senders ≡ n.count)) (sym m)
-        (each_more (λ j (x : TakeState). (x.inbox ≡ n.boxes j) × (x.senders ≡ n.count)) s.takes t.take i.takes.each (k.seated.take ∙ ap n.boxes at_take, k.seated.senders));
+    each = subst (λ ts. (j : ℕ) (x : TakeState) → slice_get ts j ≡ Some x → (x.inbox ≡ box_at n j) × (x.senders ≡ n.count)) (sym m)
+        (each_more (λ j (x : TakeState). (x.inbox ≡ box_at n j) × (x.senders ≡ n.count)) s.takes t.take i.takes.each (k.seated.take ∙ ap (box_at n) at_take, k.seated.senders));
   };
   page = ap (λ (z : PageState). z.key) e ∙ i.page;
 }
 
 -- the last receiver's seat, and the others
-pub last_take : (n : Names) (takes rest : List TakeState) (t : TakeState) (columns : ℕ) (box : InboxId) → AreTakes n takes → takes ≡ rest ++ t ∷ [] → columns ≡ length takes → box ≡ n.boxes (columns - 1)
+pub last_take : (n : Names) (takes rest : List TakeState) (t : TakeState) (columns : ℕ) (box : InboxId) → AreTakes n takes → takes ≡ rest ++ t ∷ [] → columns ≡ length takes → box ≡ box_at n (columns - 1)
     → (t.inbox ≡ box) × (t.senders ≡ n.count) × AreTakes n rest
 last_take n takes rest t columns box i is len at =
     let here = i.each (length rest) t (ap (λ l. slice_get l (length rest)) is ∙ get_seam rest t []) in
     let place : length rest ≡ columns - 1 = let e = ap length is in let f = length-append rest (t ∷ []) in omega arith in
-    (here.0 ∙ ap n.boxes place ∙ sym at, here.1, record { each = λ k x e. i.each k x (ap (λ l. slice_get l k) is ∙ get_front rest (t ∷ []) k x e) })
+    (here.0 ∙ ap (box_at n) place ∙ sym at, here.1, record { each = λ k x e. i.each k x (ap (λ l. slice_get l k) is ∙ get_front rest (t ∷ []) k x e) })
 
-pub seats_of : (n : Names) (k : ℕ) (box : InboxId) (seats : List SeatState) → AreOf (n.boxes k) seats → box ≡ n.boxes k → AreOf box seats
+pub seats_of : (n : Names) (k : ℕ) (box : InboxId) (seats : List SeatState) → AreOf (box_at n k) seats → box ≡ box_at n k → AreOf box seats
 seats_of n k box seats i at = subst (λ b. AreOf b seats) (sym at) i
 
 pub closes_keeps : (n : Names) (s : GatheredState) (take : TakeState) (takes : List TakeState) (seats : List SeatState) (rows : List (List SeatState)) (more batches : List BatchState) (columns : ℕ)

@@ -9,3 +9,4 @@ pub mod Columns
 pub mod Gathers
 pub mod Accounting
 pub mod Opens
+pub mod NewBoxes

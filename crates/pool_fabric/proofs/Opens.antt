@@ -4,7 +4,7 @@ use Rattle.std.specs.Prelude.{slice_get, true}
 use Rattle.region_cut.specs.declared.slot.Slot.{Slot}
 use Rattle.batch_inbox.specs.States.{TakeState}
 use Rattle.pool_fabric.specs.Weights.{weigh}
-use Rattle.pool_fabric.specs.Names.{Names}
+use Rattle.pool_fabric.specs.Names.{Names, box_at}
 use Rattle.pool_fabric.specs.Seats.{SeatState, NoneSent}
 use Rattle.pool_fabric.specs.Accounts.{of_buffer, of_batch, of_home, of_chunk, of_number, of_seats}
 use Rattle.pool_fabric.specs.Stations.{StationState, IsSeated, IsStation, IsFresh}
@@ -40,7 +40,7 @@ pub column_here : (n : Names) (many : ℕ) (columns done rest : List (List SeatS
 column_here n many columns done rest c r is = r.each (length done) c (ap (λ l. slice_get l (length done)) (sym is) ∙ get_seam done c rest)
 
 pub column_popped : (n : Names) (k m : ℕ) (c rest : List SeatState) (x : SeatState) → c ≡ rest ++ x ∷ [] → IsColumn n (m + 1) k c
-    → IsColumn n m k rest × (x.inbox ≡ n.boxes k) × (x.sender ≡ m) × (x.resting ≡ true) × (x.sent ≡ [])
+    → IsColumn n m k rest × (x.inbox ≡ box_at n k) × (x.sender ≡ m) × (x.resting ≡ true) × (x.sent ≡ [])
 column_popped n k m c rest x is r =
     let len : length rest ≡ m = let e = ap length is in let f = length-append rest (x ∷ []) in let g = r.0 in omega arith in
     let up : (j : ℕ) (y : SeatState) → slice_get rest j ≡ Some y → slice_get c j ≡ Some y = λ j y e. ap (λ l. slice_get l j) is ∙ get_front rest (x ∷ []) j y e in
@@ -50,7 +50,7 @@ column_popped n k m c rest x is r =
 
 -- the last take seat, and the others
 pub take_popped : (n : Names) (ts rest : List TakeState) (t : TakeState) → AreNewTakes n ts → ts ≡ rest ++ t ∷ []
-    → AreNewTakes n rest × ((t.inbox ≡ n.boxes (length rest)) × (t.senders ≡ n.count) × (t.taken ≡ []))
+    → AreNewTakes n rest × ((t.inbox ≡ box_at n (length rest)) × (t.senders ≡ n.count) × (t.taken ≡ []))
 take_popped n ts rest t i is = (
   record { each = λ k x e. i.each k x (ap (λ l. slice_get l k) is ∙ get_front rest (t ∷ []) k x e) },
   i.each (length rest) t (ap (λ l. slice_get l (length rest)) is ∙ get_seam rest t []),

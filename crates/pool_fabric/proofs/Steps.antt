@@ -7,7 +7,7 @@ use Rattle.pool_desk.specs.Desks.{DeskState}
 use Rattle.pool_desk.specs.Steps.{Claims, Allocs, Frees}
 use Rattle.pool_desk.specs.declared.freed.Freed.{Freed}
 use Rattle.pool_fabric.specs.Weights.{weigh}
-use Rattle.pool_fabric.specs.Names.{Names}
+use Rattle.pool_fabric.specs.Names.{Names, box_at}
 use Rattle.pool_fabric.specs.Pages.{PageState}
 use Rattle.pool_fabric.specs.Seats.{SeatState, AreSeatsBy}
 use Rattle.batch_inbox.specs.States.{TakeState}
@@ -24,7 +24,7 @@ pub reseat : (n : Names) (s : StationState) (d : DeskState) (lent freed : List B
     → IsSeated n (record s { desk = d; lent = lent; freed = freed })
 reseat n s d lent freed number digits i = record {
   digits = digits ∙ i.digits;
-  take = i.take ∙ ap n.boxes (sym number);
+  take = i.take ∙ ap (box_at n) (sym number);
   senders = i.senders;
   seats = subst (λ a. AreSeatsBy n a s.seats) (sym number) i.seats;
   number = i.number;

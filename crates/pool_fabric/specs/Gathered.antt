@@ -6,7 +6,7 @@ use Rattle.digit_route.specs.States.{BatchState}
 use Rattle.pool_desk.specs.Desks.{DeskState}
 use Rattle.batch_inbox.specs.States.{InboxId, TakeState}
 use Rattle.pool_fabric.specs.Weights.{weigh}
-use Rattle.pool_fabric.specs.Names.{Names}
+use Rattle.pool_fabric.specs.Names.{Names, box_at}
 use Rattle.pool_fabric.specs.Pages.{PageState}
 use Rattle.pool_fabric.specs.Seats.{SeatState, AreSeatsBy}
 use Rattle.pool_fabric.specs.Accounts.{of_buffer, of_batch, of_seats, of_taking, held, owed, drawn_by}
@@ -37,11 +37,11 @@ pub record AreRows (n : Names) (columns : ℕ) (rows : List (List SeatState)) : 
 
 -- these are the seats at the inbox k, of the senders in order
 abbrev pub AreAt : Names → ℕ → List SeatState → Type 0
-AreAt n k seats = AreOf (n.boxes k) seats
+AreAt n k seats = AreOf (box_at n k) seats
 
 -- the receivers' seats, each of the inbox of its place
 pub record AreTakes (n : Names) (takes : List TakeState) : Type 0 where
-  pub each : (k : ℕ) (t : TakeState) → slice_get takes k ≡ Some t → (t.inbox ≡ n.boxes k) × (t.senders ≡ n.count)
+  pub each : (k : ℕ) (t : TakeState) → slice_get takes k ≡ Some t → (t.inbox ≡ box_at n k) × (t.senders ≡ n.count)
 
 pub record IsGathered (n : Names) (s : GatheredState) : Type 0 where
   pub slots : (h : Slot → ℕ)

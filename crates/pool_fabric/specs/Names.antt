@@ -1,13 +1,13 @@
 -- What all stations of one fabric agree on.
-use Rattle.std.specs.Prelude.{ℕ, List, []}
+use Rattle.std.specs.Prelude.{ℕ, List, [], slice_index_or}
 use Rattle.digit_route.specs.Digits.{Scheme}
 use Rattle.batch_inbox.specs.States.{InboxId}
 use Rattle.batch_inbox.specs.Views.{nowhere}
 
--- the inbox of each desk, how the desks' numbers are read, how many desks there are, the ledger,
--- and the chunks that the stock began with
+-- the inbox of each desk, in order of their numbers from 0, how the desks' numbers are read, how many desks there are,
+-- the ledger, and the chunks that the stock began with
 pub record Names : Type 0 where
-  pub boxes : ℕ → InboxId
+  pub boxes : List InboxId
   pub digits : Scheme
   pub count : ℕ
   pub ledger : List ℕ
@@ -16,9 +16,13 @@ pub record Names : Type 0 where
 -- the names of no fabric
 abbrev pub nothing : Names
 nothing = record {
-  boxes = λ k. record { key = []; place = nowhere };
+  boxes = [];
   digits = nowhere.digits;
   count = 0;
   ledger = [];
   chunks = [];
 }
+
+-- the inbox of the desk k
+abbrev pub box_at : Names → ℕ → InboxId
+box_at n k = slice_index_or n.boxes k (record { key = []; place = nowhere })

@@ -1,14 +1,24 @@
 -- Inboxes that were opened, and their seats.
-use Rattle.std.specs.Prelude.{◌≡◌, ℕ, true, List, [], length, Some, slice_get}
-use Rattle.batch_inbox.specs.States.{TakeState}
-use Rattle.pool_fabric.specs.Names.{Names}
-use Rattle.pool_fabric.specs.Seats.{SeatState, NoneSent}
+use Rattle.std.specs.Prelude.{◌≡◌, ℕ, ◌≤◌, ◌^◌, true, List, [], length, map, reverse, Some, slice_get}
+use Rattle.region_cut.specs.Parts.{number_of}
+use Rattle.region_cut.specs.declared.part.Part.{Part}
+use Rattle.digit_route.specs.Digits.{Scheme}
+use Rattle.digit_route.specs.Limits.{largest_limit}
+use Rattle.batch_inbox.specs.States.{InboxId, TakeState}
+use Rattle.pool_fabric.specs.Ledgers.{whole}
+use Rattle.pool_fabric.specs.Names.{Names, box_at}
+use Rattle.pool_fabric.specs.Pages.{PageState}
+use Rattle.pool_fabric.specs.Seats.{SeatState, NoneSent, AreBoxes}
+
+-- the most desks that a fabric has
+abbrev pub most_desks : ℕ
+most_desks = 64
 
 -- the seats at the inbox k, of this many senders in order: at rest, and nothing was sent
 abbrev pub IsColumn : Names → ℕ → ℕ → List SeatState → Type 0
 IsColumn n many k c =
     (length c ≡ many) × NoneSent c
-    × ((a : ℕ) (s : SeatState) → slice_get c a ≡ Some s → (s.inbox ≡ n.boxes k) × (s.sender ≡ a) × (s.resting ≡ true))
+    × ((a : ℕ) (s : SeatState) → slice_get c a ≡ Some s → (s.inbox ≡ box_at n k) × (s.sender ≡ a) × (s.resting ≡ true))
 
 -- such seats at each named inbox, in order
 pub record AreColumns (n : Names) (many : ℕ) (columns : List (List SeatState)) : Type 0 where
@@ -17,4 +27,37 @@ pub record AreColumns (n : Names) (many : ℕ) (columns : List (List SeatState))
 -- the take seats of the named inboxes, in order: nothing was taken
 pub record AreNewTakes (n : Names) (takes : List TakeState) : Type 0 where
   pub each : (k : ℕ) (t : TakeState) → slice_get takes k ≡ Some t
-      → (t.inbox ≡ n.boxes k) × (t.senders ≡ n.count) × (t.taken ≡ [])
+      → (t.inbox ≡ box_at n k) × (t.senders ≡ n.count) × (t.taken ≡ [])
+
+-- inboxes and their seats, where nothing was sent or taken: each seat is of the inbox at its place in the lists
+pub record AreOpened (digits : Scheme) (senders : ℕ)
+    (boxes : List InboxId) (takes : List TakeState) (columns : List (List SeatState)) : Type 0 where
+  pub inbox : (k : ℕ) (i : InboxId) → slice_get boxes k ≡ Some i
+      → i.place ≡ record { address = k; digits = digits }
+  pub take : (k : ℕ) (t : TakeState) → slice_get takes k ≡ Some t
+      → (slice_get boxes k ≡ Some t.inbox) × (t.senders ≡ senders) × (t.taken ≡ [])
+  pub column : (k : ℕ) (c : List SeatState) → slice_get columns k ≡ Some c
+      → (length c ≡ senders) × NoneSent c
+      × ((a : ℕ) (s : SeatState) → slice_get c a ≡ Some s
+      → (slice_get boxes k ≡ Some s.inbox) × (s.sender ≡ a) × (s.resting ≡ true))
+
+-- what the stations of a fabric agree on that is made of these inboxes, this ledger, and a stock with these parts left
+abbrev pub names_of : List InboxId → Scheme → List ℕ → List Part → Names
+names_of boxes digits ledger left = record {
+  boxes = boxes;
+  digits = digits;
+  count = length boxes;
+  ledger = ledger;
+  chunks = map number_of (reverse left);
+}
+
+-- What a fabric of these names is made of: its inboxes, a new take seat and new send seats at each,
+-- and the page with every part of its ledger.
+pub record IsOpening (n : Names) (boxes : List InboxId) (takes : List TakeState) (columns : List (List SeatState))
+    (book : PageState) (limit : ℕ) : Type 0 where
+  pub are_boxes : AreBoxes n boxes
+  pub are_takes : AreNewTakes n takes × (length takes ≡ n.count)
+  pub are_columns : AreColumns n n.count columns × (length columns ≡ n.count)
+  pub few : (n.count ≤ most_desks) × (n.count ≤ 2 ^ n.digits.bits)
+  pub low : limit ≤ largest_limit
+  pub whole_book : book ≡ record { key = n.ledger; parts = whole; gave = []; got = [] }

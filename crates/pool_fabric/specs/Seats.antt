@@ -2,7 +2,7 @@
 use Rattle.std.specs.Prelude.{◌≡◌, ℕ, Bool, true, List, [], length, Some, slice_get}
 use Rattle.digit_route.specs.States.{BatchState}
 use Rattle.batch_inbox.specs.States.{InboxId}
-use Rattle.pool_fabric.specs.Names.{Names}
+use Rattle.pool_fabric.specs.Names.{Names, box_at}
 
 -- a send seat: of which inbox, of which sender, what was sent from it, and whether it is at rest
 pub record SeatState : Type 0 where
@@ -17,7 +17,7 @@ seat_of inbox number sent resting s = record { inbox = inbox s; sender = number 
 -- these are the seats of the sender a, one at each inbox, in order, all at rest
 pub record AreSeatsBy (n : Names) (a : ℕ) (seats : List SeatState) : Type 0 where
   pub each : (k : ℕ) (x : SeatState) → slice_get seats k ≡ Some x
-      → (x.inbox ≡ n.boxes k) × (x.sender ≡ a) × (x.resting ≡ true)
+      → (x.inbox ≡ box_at n k) × (x.sender ≡ a) × (x.resting ≡ true)
 
 -- nothing was sent from these seats
 abbrev pub NoneSent : List SeatState → Type 0
@@ -27,4 +27,4 @@ NoneSent seats = (k : ℕ) (x : SeatState) → slice_get seats k ≡ Some x → 
 pub record AreBoxes (n : Names) (boxes : List InboxId) : Type 0 where
   pub count : length boxes ≡ n.count
   pub each : (k : ℕ) (i : InboxId) → slice_get boxes k ≡ Some i
-      → (i ≡ n.boxes k) × (i.place ≡ record { address = k; digits = n.digits })
+      → (i ≡ box_at n k) × (i.place ≡ record { address = k; digits = n.digits })

@@ -5,7 +5,7 @@ use Rattle.slot_chain.specs.Buffer.{Buffer}
 use Rattle.pool_desk.specs.Desks.{DeskState, IdleState}
 use Rattle.batch_inbox.specs.States.{TakeState}
 use Rattle.pool_fabric.specs.Weights.{weigh}
-use Rattle.pool_fabric.specs.Names.{Names}
+use Rattle.pool_fabric.specs.Names.{Names, box_at}
 use Rattle.pool_fabric.specs.Pages.{PageState}
 use Rattle.pool_fabric.specs.Seats.{SeatState, AreSeatsBy, NoneSent}
 use Rattle.pool_fabric.specs.Accounts.{of_buffer, of_batch, of_seats, held, owed, drawn_by}
@@ -44,7 +44,7 @@ KeepsChunks s = (g : ℕ → ℕ) → drawn_by g s.desk ≡ weigh g s.page.got
 
 pub record IsSeated (n : Names) (s : StationState) : Type 0 where
   pub digits : s.desk.digits ≡ n.digits
-  pub take : s.take.inbox ≡ n.boxes s.desk.number
+  pub take : s.take.inbox ≡ box_at n s.desk.number
   pub senders : s.take.senders ≡ n.count
   pub seats : AreSeatsBy n s.desk.number s.seats
   pub number : length s.seats ≡ n.count

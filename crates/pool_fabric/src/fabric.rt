@@ -1,5 +1,6 @@
 //! What all workers share.
 ghost use Rattle.std.specs.Prelude.{◌≡◌, ◌<◌, [], ◌++◌, map, length, MatchResult};
+ghost use Rattle.pool_fabric.specs.Names.{box_at};
 ghost use Rattle.pool_fabric.specs.Seats.{seat_of, AreSeatsBy, AreBoxes};
 ghost use Rattle.pool_fabric.specs.Posts.{Posts, TakesSome, sent_at};
 
@@ -96,7 +97,7 @@ impl<'r, T: Receiver, S: Sender, M: Mail<'r, TakeSeat = T, SendSeat = S>, J: Nam
     /// than 64. Says how many.
     pub fn take_some<R: Wait>(&self, rt: &R, desk: &mut Desk<'r>, seat: &mut T) -> u32
         requires digits { desk.old.digits ≡ J.names.digits }
-        requires seat { T.inbox seat.old ≡ J.names.boxes desk.old.number }
+        requires seat { T.inbox seat.old ≡ box_at J.names desk.old.number }
         ensures { TakesSome
             desk.old (record { inbox = T.inbox seat.old; senders = T.senders seat.old; taken = T.taken seat.old })
             result

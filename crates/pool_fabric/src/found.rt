@@ -1,5 +1,6 @@
 //! All that is found in the end.
 ghost use Rattle.std.specs.Prelude.{◌≡◌, ℕ, ◌+◌, ◌<◌, [], length, map, Some, slice_get, IfOk, IfSome};
+ghost use Rattle.pool_fabric.specs.Names.{box_at};
 ghost use Rattle.pool_fabric.specs.Ledgers.{whole};
 ghost use Rattle.pool_fabric.specs.Accounts.{of_part};
 ghost use Rattle.pool_fabric.specs.Weights.{weigh};
@@ -112,7 +113,7 @@ fn close_all<
 ) -> Result<Gathered<'r, T, S, J>, AllocError>
     requires columns { (gathered.columns ≡ length inboxes.items) × (length gathered.takes ≡ length inboxes.items)
         × (length gathered.rows ≡ J.names.count) }
-    requires inboxes { (k : ℕ) (i : M) → slice_get inboxes.items k ≡ Some i → M.id i ≡ J.names.boxes k }
+    requires inboxes { (k : ℕ) (i : M) → slice_get inboxes.items k ≡ Some i → M.id i ≡ box_at J.names k }
     ensures { IfOk result (λ g. (g.columns ≡ 0) × (length g.takes ≡ 0) × (g.page ≡ gathered.entry.page)) }
 {
     let mut gathered = gathered;

@@ -1,5 +1,6 @@
 //! What is gathered from the stations.
 ghost use Rattle.std.specs.Prelude.{◌≡◌, ℕ, ◌+◌, ◌-◌, ◌<◌, [], length, IfOk};
+ghost use Rattle.pool_fabric.specs.Names.{box_at};
 ghost use Rattle.pool_fabric.specs.Gathered.{AddsStation, Closes};
 
 use crate::column::{Column, last_column};
@@ -148,7 +149,7 @@ impl<'r, T: Receiver, S: Sender, J: Naming> Gathered<'r, T, S, J> {
     ) -> Result<Gathered<'r, T, S, J>, AllocError>
         requires columns { (0 < self.columns) × (self.columns ≡ length self.takes)
             × (length self.rows ≡ J.names.count) }
-        requires inbox { M.id inbox ≡ J.names.boxes (self.columns - 1) }
+        requires inbox { M.id inbox ≡ box_at J.names (self.columns - 1) }
         ensures { IfOk result (λ g. Closes self.entry g) }
     {
         let Gathered {

@@ -10,6 +10,7 @@
 //! stations are back and all inboxes drained, [`gather`] finds each slot.
 #![tactic(auto)]
 
+mod boxes;
 mod column;
 mod drained;
 mod fabric;
@@ -19,10 +20,12 @@ mod held;
 mod ledger;
 mod listing;
 mod naming;
+mod new_mail;
 mod notes;
 mod opening;
 mod row;
 mod shelf;
+mod shelving;
 mod station;
 mod stock;
 mod store;
@@ -34,8 +37,9 @@ pub use held::HeldStation;
 pub use ledger::{Ledger, Page};
 pub use listing::account;
 pub use naming::Naming;
+pub use new_mail::NewMail;
 pub use notes::Notes;
-pub use row::Row;
+pub use opening::Opening;
 pub use shelf::{SHELF_ROOM, Shelf};
 pub use station::Station;
 pub use stock::Stock;

@@ -1,141 +1,82 @@
-//! How a fabric is opened: each desk gets its seats, and a place on the shelf.
-ghost use Rattle.std.specs.Prelude.{◌≡◌, ℕ, ◌+◌, ◌<◌, ◌≤◌, ◌^◌, [], length, map, IfOk};
-ghost use Rattle.pool_fabric.specs.Accounts.{of_part};
-ghost use Rattle.pool_fabric.specs.Ledgers.{whole};
-ghost use Rattle.pool_fabric.specs.Opened.{AreColumns, AreNewTakes};
-ghost use Rattle.pool_fabric.specs.Gathered.{taking_of};
-ghost use Rattle.pool_fabric.specs.Seats.{seat_of, AreSeatsBy, AreBoxes, NoneSent};
-ghost use Rattle.pool_fabric.specs.Weights.{weigh};
+//! All that a fabric is made of.
+ghost use Rattle.std.specs.Prelude.{◌≡◌, ◌≤◌, ◌^◌, map, IfOk};
+ghost use Rattle.region_cut.specs.Parts.{number_of};
+ghost use Rattle.digit_route.specs.Limits.{largest_limit};
+ghost use Rattle.event_floor.specs.Chunks.{AreNumbered};
+ghost use Rattle.pool_fabric.specs.Opened.{most_desks};
 
-use crate::fabric::Fabric;
+use crate::boxes::{Boxes, open_boxes};
 use crate::ledger::{Ledger, Page};
-use crate::naming::Naming;
-use crate::row::Row;
-use crate::shelf::Shelf;
-use crate::station::Station;
+use crate::new_mail::NewMail;
 use crate::stock::Stock;
-use crate::store::Store;
 use batch_inbox::{Mailbox, Receiver, Sender};
 use digit_route::Digits;
-use pool_desk::IdleDesk;
+use region_cut::Part;
 use slot_chain::NoMemory;
-use std::alloc::{AllocError, Global};
-use std::marker::PhantomData;
-use std::sync::Mutex;
+use std::alloc::Global;
+use std::marker::Model;
 
-/// The seats of the last sender, and those of the others.
+/// All that a fabric is made of: the inboxes with their seats, a full stock, and a new ledger.
+///
+/// A contract sees the names that the stations of this fabric will agree on. So the call that opens
+/// the fabric is one that is generic over [`Naming`](crate::Naming), and who calls it picks these
+/// names.
 #[derive(Drop)]
-pub(crate) struct LastRow<S: Sender, J: Naming> {
-    pub(crate) seats: Vec<S>,
-    pub(crate) columns: Vec<Row<S>>,
-    pub(crate) of: PhantomData<J>,
+pub struct Opening<'r, M: Mailbox, T: Receiver, S: Sender> {
+    pub(crate) boxes: Boxes<M, T, S>,
+    pub(crate) ledger: Ledger,
+    pub(crate) book: Page,
+    pub(crate) stock: Stock<'r>,
+    pub(crate) digits: Digits,
+    pub(crate) limit: u64,
 }
 
-// Takes the last sender's seat out of each column.
-fn last_row<S: Sender, J: Naming>(
-    alloc: Global,
-    columns: Vec<Row<S>>,
-    last: usize,
-) -> Result<LastRow<S, J>, AllocError>
-    requires { AreColumns J.names (last + 1) columns.items }
-    ensures columns { IfOk result (λ c.
-        AreColumns J.names last c.columns.items × (length c.columns.items ≡ length columns.items)) }
-    ensures seats { IfOk result (λ c.
-        AreSeatsBy J.names last (map (seat_of S.inbox S.number S.sent S.resting) c.seats.items)
-        × (length c.seats.items ≡ length columns.items)
-        × NoneSent (map (seat_of S.inbox S.number S.sent S.resting) c.seats.items)) }
-{
-    let mut seats = Vec::new(alloc);
-    let mut others = Vec::new(alloc);
-    for column in columns {
-        let mut column = column;
-        let Some(seat) = column.pop() else {
-            unreachable!();
-        };
-        seats.push(seat)?;
-        others.push(column)?;
-    }
-    Ok(LastRow {
-        seats,
-        columns: others,
-        of: PhantomData,
-    })
+impl<'r, M: Mailbox, T: Receiver, S: Sender> Model for Opening<'r, M, T, S> {
+    ghost use Rattle.std.specs.Prelude.{map};
+    ghost use Rattle.pool_fabric.specs.Names.{Names};
+    ghost use Rattle.pool_fabric.specs.Gathered.{taking_of};
+    ghost use Rattle.pool_fabric.specs.Opened.{names_of, IsOpening};
+
+    ghost Value = { Names };
+
+    ghost view = { λ o. names_of (map M.id o.boxes.inboxes.items) o.digits o.ledger o.stock.left };
+
+    ghost invariant = { λ o. IsOpening
+        (names_of (map M.id o.boxes.inboxes.items) o.digits o.ledger o.stock.left)
+        (map M.id o.boxes.inboxes.items)
+        (map (taking_of T.inbox T.senders T.taken) o.boxes.takes.items)
+        o.boxes.columns.items o.book o.limit };
 }
 
-// Puts a new desk for each take seat on a shelf, with its seats.
-fn shelved<'r, T: Receiver, S: Sender, J: Naming>(
-    alloc: Global,
-    takes: Vec<T>,
-    columns: Vec<Row<S>>,
-    ledger: &Ledger,
-    book: &mut Page,
-    digits: Digits,
-    limit: u64,
-) -> Result<Shelf<'r, T, S, J>, NoMemory>
-    requires names { (J.names.digits ≡ digits) × (J.names.ledger ≡ ledger.now) × (length takes.items ≡ J.names.count) }
-    requires count { (J.names.count ≤ 64) × (J.names.count ≤ 2 ^ digits.bits) }
-    requires limit { limit ≤ 1048576 }
-    requires takes { AreNewTakes J.names (map (taking_of T.inbox T.senders T.taken) takes.items) }
-    requires columns { AreColumns J.names J.names.count columns.items × (length columns.items ≡ J.names.count) }
-    requires book { (book.old.key ≡ ledger.now) × (book.old.parts ≡ whole) × (book.old.gave ≡ [])
-        × (book.old.got ≡ []) }
-    ensures book { IfOk result (λ s. (book.new.key ≡ ledger.now) × (book.new.parts + J.names.count ≡ whole)
-        × (book.new.gave ≡ []) × (book.new.got ≡ [])) }
-    ensures shelf { IfOk result (λ s. length s ≡ J.names.count) }
-{
-    let mut shelf = Shelf::new(alloc)?;
-    let mut takes = takes;
-    let mut columns = columns;
-    while let Some(take) = takes.pop() {
-        let number = takes.len();
-        let LastRow {
-            seats,
-            columns: others,
-            of: _,
-        } = last_row::<S, J>(alloc, columns, number)?;
-        columns = others;
-        let desk = IdleDesk::new(number as u16, digits, limit);
-        let page = ledger.split(book);
-        let station = Station::new(desk, take, seats, page);
-        shelf.push(station);
-    }
-    Ok(shelf)
-}
-
-impl<'r, M: Mailbox, T: Receiver, S: Sender, J: Naming> Fabric<'r, M, T, S, J> {
-    /// The fabric of these inboxes, which `J` names, with a new desk for each on the shelf, and a
-    /// full stock.
+impl<'r, T: Receiver, S: Sender, M: NewMail<T, S>> Opening<'r, M, T, S> {
+    /// What a fabric of so many desks is made of, over the chunks of a region that was cut.
     ///
-    /// The inboxes stand in order of their addresses from 0, each with its take seat at its place,
-    /// and `columns` has the send seats of each. After a want of memory all is given up.
+    /// Numbers of desks are read as `digits` says, and `limit` is that of each desk's cache, in
+    /// bytes. After a want of memory all is given up.
     pub fn new(
         alloc: Global,
-        inboxes: Vec<M>,
-        takes: Vec<T>,
-        columns: Vec<Row<S>>,
-        ledger: Ledger,
-        book: Page,
-        stock: Stock<'r>,
+        parts: Vec<Part<'r>>,
+        desks: u16,
         digits: Digits,
         limit: u64,
-    ) -> Result<Fabric<'r, M, T, S, J>, NoMemory>
-        requires inboxes { AreBoxes J.names (map M.id inboxes.items) }
-        requires names { (J.names.digits ≡ digits) × (J.names.ledger ≡ ledger) × (length takes.items ≡ J.names.count) }
-        requires count { (J.names.count ≤ 64) × (J.names.count ≤ 2 ^ digits.bits) }
-        requires limit { limit ≤ 1048576 }
-        requires takes { AreNewTakes J.names (map (taking_of T.inbox T.senders T.taken) takes.items) }
-        requires columns { AreColumns J.names J.names.count columns.items × (length columns.items ≡ J.names.count) }
-        requires book { book ≡ record { key = ledger; parts = whole; gave = []; got = [] } }
-        requires chunks { (g : ℕ → ℕ) → weigh (of_part g) stock.left ≡ weigh g J.names.chunks }
+    ) -> Result<Opening<'r, M, T, S>, NoMemory>
+        requires desks { (1 ≤ desks) × (desks ≤ most_desks) × (desks ≤ 2 ^ digits.bits) }
+        requires limit { limit ≤ largest_limit }
+        requires parts { AreNumbered parts.items }
+        ensures count { IfOk result (λ o. o.count ≡ desks) }
+        ensures digits { IfOk result (λ o. o.digits ≡ digits) }
+        ensures chunks { IfOk result (λ o. o.chunks ≡ map number_of parts.entry.items) }
     {
-        let mut book = book;
-        let shelf = shelved::<T, S, J>(alloc, takes, columns, &ledger, &mut book, digits, limit)?;
-        Ok(Fabric {
-            inboxes,
+        let (ledger, book) = Ledger::new(alloc)?;
+        let boxes = open_boxes::<T, S, M>(alloc, digits, desks)?;
+        let stock = Stock::new(parts);
+        Ok(Opening {
+            boxes,
             ledger,
-            shelf: Mutex::new(shelf),
-            stock: Mutex::new(Store::new(stock, book)),
-            of: PhantomData,
+            book,
+            stock,
+            digits,
+            limit,
         })
     }
 }

@@ -7,7 +7,7 @@ use std::marker::Model;
 
 /// The seats of one sender, or those at one inbox. A contract sees the list.
 #[derive(Drop)]
-pub struct Row<S: Sender> {
+pub(crate) struct Row<S: Sender> {
     seats: Vec<S>,
 }
 
@@ -22,7 +22,7 @@ impl<S: Sender> Model for Row<S> {
 
 impl<S: Sender> Row<S> {
     /// The row of these seats.
-    pub fn new(seats: Vec<S>) -> Row<S>
+    pub(crate) fn new(seats: Vec<S>) -> Row<S>
         ensures { result ≡ map (seat_of S.inbox S.number S.sent S.resting) seats.items }
     {
         Row { seats }

@@ -1,5 +1,6 @@
 //! A desk that nobody holds, with its seats.
 ghost use Rattle.std.specs.Prelude.{◌≡◌, [], length, map};
+ghost use Rattle.pool_fabric.specs.Names.{box_at};
 ghost use Rattle.pool_fabric.specs.Seats.{seat_of, AreSeatsBy, NoneSent};
 ghost use Rattle.pool_fabric.specs.Stations.{resting};
 
@@ -59,7 +60,7 @@ impl<'r, T: Receiver, S: Sender, J: Naming> Station<'r, T, S, J> {
     /// A station at which nothing was drawn, sent, taken, lent or freed yet.
     pub fn new(desk: IdleDesk<'r>, take: T, seats: Vec<S>, page: Page) -> Station<'r, T, S, J>
         requires desk { (desk.home ≡ []) × (desk.drawn ≡ []) × (desk.digits ≡ J.names.digits) }
-        requires take { (T.inbox take ≡ J.names.boxes desk.number) × (T.senders take ≡ J.names.count)
+        requires take { (T.inbox take ≡ box_at J.names desk.number) × (T.senders take ≡ J.names.count)
             × (T.taken take ≡ []) }
         requires seats { AreSeatsBy J.names desk.number (map (seat_of S.inbox S.number S.sent S.resting) seats.items)
             × (length seats.items ≡ J.names.count)

@@ -1,4 +1,5 @@
 use Rattle.std.proofs.Common.{◌≡◌, ◌+◌, [], ◌∷◌, ◌++◌, length, map, sym, ap, ◌∙◌, subst, arith, length-append, append_assoc}
+use Rattle.pool_fabric.specs.Names.{box_at}
 use Rattle.pool_fabric.specs.Seats.{SeatState, seat_of, AreSeatsBy}
 use Rattle.pool_fabric.specs.Accounts.{of_seat, of_seats}
 use Rattle.pool_fabric.specs.Gathered.{AreAt}
@@ -30,7 +31,7 @@ loop-row-preserved g c =
     let snoc = map-snoc as_seat c.loop-row.seats.items c.in-Some-pop.seat in
     let here : length old ≡ length done = length-mapped as_seat c.loop-row.seats.items ∙ i.count in
     let at : AreAt n c.args.last (old ++ x ∷ []) =
-    record { each = each_more (λ a (y : SeatState). (y.inbox ≡ n.boxes c.args.last) × (y.sender ≡ a)) old x i.at.each (p.1, p.2 ∙ sym here) } in
+    record { each = each_more (λ a (y : SeatState). (y.inbox ≡ box_at n c.args.last) × (y.sender ≡ a)) old x i.at.each (p.1, p.2 ∙ sym here) } in
     rw (c.in_ok-push.ensures.items, c.in_ok-push-2.ensures.items) (record {
       can = tt;
       ends = tt;

@@ -1,5 +1,6 @@
 use Rattle.std.proofs.Common.{◌≡◌, ℕ, length, Some}
 use Rattle.std.specs.Prelude.{slice_get}
+use Rattle.pool_fabric.specs.Names.{box_at}
 use Rattle.pool_fabric.proofs.found.close_all.Given as goal
 
 abbrev pub invariant-loop-inbox : goal.invariant-loop-inbox
@@ -7,7 +8,7 @@ invariant-loop-inbox g l = record {
   columns : l.gathered.columns ≡ length l.inboxes.items;
   takes : length l.gathered.takes ≡ length l.inboxes.items;
   rows : length l.gathered.rows ≡ g.J.Naming.names.count;
-  boxes : (k : ℕ) (i : g.row.M.Denot) → slice_get l.inboxes.items k ≡ Some i → g.M.Mailbox.id i ≡ g.J.Naming.names.boxes k;
+  boxes : (k : ℕ) (i : g.row.M.Denot) → slice_get l.inboxes.items k ≡ Some i → g.M.Mailbox.id i ≡ box_at g.J.Naming.names k;
   page : l.gathered.page ≡ l.fn.gathered.page;
 }
 

@@ -2,6 +2,7 @@ use Rattle.std.proofs.Common.{◌<◌, length, refl, sym, ap, ◌∙◌, arith}
 use Rattle.std.proofs.lemmas.Option.{slice_get_read}
 use Rattle.batch_inbox.specs.declared.place.Place.{Place}
 use Rattle.pool_desk.specs.Desks.{DeskState}
+use Rattle.pool_fabric.specs.Names.{box_at}
 use Rattle.pool_fabric.proofs.Posting.{get_map, takes_more}
 use Rattle.pool_fabric.proofs.fabric.Fabric.take_some.Goals as goal
 
@@ -11,7 +12,7 @@ take-requires g c κs =
     let in_boxes : at < length c.args.self.now.inboxes.items = omega (arith, c.if-at-len.false, c.len.ensures, c.args.self.now.inboxes.ok) in
     let box = c.args.self.now.boxes.each at _ (get_map g.M.Mailbox.id _ at _ (slice_get_read _ _ at _ refl in_boxes c.index-inbox.ensures)) in
     let number = c.from-at.ensures ∙ c.number.ensures.value in
-    ((refl, tt), c.loop-taken.invariant.inbox ∙ c.requires.seat ∙ ap g.J.Naming.names.boxes (sym number) ∙ sym box.0)
+    ((refl, tt), c.loop-taken.invariant.inbox ∙ c.requires.seat ∙ ap (box_at g.J.Naming.names) (sym number) ∙ sym box.0)
 
 pub handle-requires-clause-address : goal.handle-requires-clause-address
 handle-requires-clause-address g c =

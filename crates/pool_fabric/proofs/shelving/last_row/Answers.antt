@@ -1,11 +1,12 @@
 use Rattle.std.proofs.Common.{◌≡◌, ◌+◌, [], ◌∷◌, ◌++◌, length, map, sym, ap, ◌∙◌, subst, arith, length-append, append_assoc}
 use Rattle.std.specs.Prelude.{true}
+use Rattle.pool_fabric.specs.Names.{box_at}
 use Rattle.pool_fabric.specs.Seats.{SeatState, seat_of, AreSeatsBy, NoneSent}
 use Rattle.pool_fabric.specs.Opened.{IsColumn}
 use Rattle.pool_fabric.proofs.Posting.{length-mapped}
 use Rattle.pool_fabric.proofs.Columns.{each_more, map-snoc}
 use Rattle.pool_fabric.proofs.Opens.{column_here, column_popped}
-use Rattle.pool_fabric.proofs.opening.last_row.Goals as goal
+use Rattle.pool_fabric.proofs.shelving.last_row.Goals as goal
 
 pub unreachable-requires : goal.unreachable-requires
 unreachable-requires g c =
@@ -30,7 +31,7 @@ loop-column-preserved g c =
     let snoc = map-snoc as_seat c.loop-column.seats.items c.in-Some-pop.seat in
     let here : length old ≡ length done = length-mapped as_seat c.loop-column.seats.items ∙ i.count in
     let at : AreSeatsBy n c.args.last (old ++ x ∷ []) =
-    record { each = each_more (λ k (y : SeatState). (y.inbox ≡ n.boxes k) × (y.sender ≡ c.args.last) × (y.resting ≡ true)) old x i.at.each (p.1 ∙ ap n.boxes (sym here), p.2, p.3) } in
+    record { each = each_more (λ k (y : SeatState). (y.inbox ≡ box_at n k) × (y.sender ≡ c.args.last) × (y.resting ≡ true)) old x i.at.each (p.1 ∙ ap (box_at n) (sym here), p.2, p.3) } in
     let none : NoneSent (old ++ x ∷ []) = each_more (λ k (y : SeatState). y.sent ≡ []) old x i.none p.4 in
     rw (c.in_ok-push.ensures.items, c.in_ok-push-2.ensures.items) (record {
       can = tt;

@@ -1,12 +1,13 @@
 use Rattle.std.proofs.Common.{[], ◌∷◌, length, map, sym, ap, ◌∙◌, subst, arith, length-append}
 use Rattle.pool_desk.specs.Desks.{IdleState}
+use Rattle.pool_fabric.specs.Names.{box_at}
 use Rattle.pool_fabric.specs.Pages.{PageState}
 use Rattle.pool_fabric.specs.Gathered.{taking_of}
 use Rattle.pool_fabric.specs.Opened.{AreColumns}
 use Rattle.pool_fabric.proofs.Posting.{length-mapped}
 use Rattle.pool_fabric.proofs.Columns.{map-snoc}
 use Rattle.pool_fabric.proofs.Opens.{take_popped}
-use Rattle.pool_fabric.proofs.opening.shelved.Goals as goal
+use Rattle.pool_fabric.proofs.shelving.shelved.Goals as goal
 
 pub new-station-requires-clause-take : goal.new-station-requires-clause-take
 new-station-requires-clause-take g c =
@@ -15,7 +16,7 @@ new-station-requires-clause-take g c =
     let popped = ap (map taking) c.in-Some.ensures.items ∙ map-snoc taking rest.items c.in-Some.take in
     let t = take_popped g.J.Naming.names _ (map taking rest.items) (taking c.in-Some.take) c.loop-take.invariant.takes popped in
     let number = ap (λ (d : IdleState). d.number) c.new-desk.ensures ∙ c.len-number.ensures ∙ rest.ok.0 in
-    (t.1.0 ∙ ap g.J.Naming.names.boxes (length-mapped taking rest.items ∙ sym number), t.1.1, t.1.2)
+    (t.1.0 ∙ ap (box_at g.J.Naming.names) (length-mapped taking rest.items ∙ sym number), t.1.1, t.1.2)
 
 pub loop-take-preserved : goal.loop-take-preserved
 loop-take-preserved g c =

@@ -2,7 +2,7 @@ use Rattle.std.proofs.Common.{◌≡◌, ◌+◌, [], length, map}
 use Rattle.pool_fabric.specs.Ledgers.{whole}
 use Rattle.pool_fabric.specs.Gathered.{taking_of}
 use Rattle.pool_fabric.specs.Opened.{AreColumns, AreNewTakes}
-use Rattle.pool_fabric.proofs.opening.shelved.Given as goal
+use Rattle.pool_fabric.proofs.shelving.shelved.Given as goal
 
 abbrev pub invariant-loop-take : goal.invariant-loop-take
 invariant-loop-take g l = record {

@@ -1,7 +1,7 @@
 use Rattle.std.proofs.Common.{◌≡◌, ◌++◌, length, map}
 use Rattle.pool_fabric.specs.Seats.{seat_of, AreSeatsBy, NoneSent}
 use Rattle.pool_fabric.specs.Opened.{AreColumns}
-use Rattle.pool_fabric.proofs.opening.last_row.Given as goal
+use Rattle.pool_fabric.proofs.shelving.last_row.Given as goal
 
 abbrev pub invariant-loop-column : goal.invariant-loop-column
 invariant-loop-column g l =
