@@ -6,18 +6,18 @@ ghost use Rattle.pool_fabric.specs.Accounts.{of_seats};
 ghost use Rattle.pool_fabric.specs.Seats.{seat_of};
 ghost use Rattle.pool_fabric.specs.Gathered.{AreRows, AreAt};
 
+use crate::named::Named;
 use crate::naming::Naming;
 use crate::row::Row;
 use batch_inbox::Sender;
 use std::alloc::{AllocError, Global};
-use std::marker::PhantomData;
 
 /// The seats at the last inbox, and the others.
 #[derive(Drop)]
 pub(crate) struct Column<S: Sender, J: Naming> {
     pub(crate) seats: Vec<S>,
     pub(crate) rows: Vec<Row<S>>,
-    pub(crate) of: PhantomData<J>,
+    pub(crate) of: Named<J>,
 }
 
 /// Takes the last seat out of each row.
@@ -49,6 +49,6 @@ pub(crate) fn last_column<S: Sender, J: Naming>(
     Ok(Column {
         seats,
         rows: others,
-        of: PhantomData,
+        of: Named::new(),
     })
 }

@@ -5,6 +5,7 @@ ghost use Rattle.pool_fabric.specs.Seats.{seat_of, AreSeatsBy, AreBoxes};
 ghost use Rattle.pool_fabric.specs.Posts.{Posts, TakesSome, sent_at};
 
 use crate::ledger::Ledger;
+use crate::named::Named;
 use crate::naming::Naming;
 use crate::shelf::Shelf;
 use crate::station::Station;
@@ -12,7 +13,6 @@ use crate::store::Store;
 use batch_inbox::{Mail, Mailbox, Receiver, Sender};
 use digit_route::Batch;
 use pool_desk::Desk;
-use std::marker::PhantomData;
 use std::sync::{Mutex, Wait};
 
 /// How many batches a worker takes at a time.
@@ -25,7 +25,7 @@ pub struct Fabric<'r, M: Mailbox, T: Receiver, S: Sender, J: Naming> {
     pub(crate) ledger: Ledger,
     pub(crate) shelf: Mutex<Shelf<'r, T, S, J>>,
     pub(crate) stock: Mutex<Store<'r, J>>,
-    pub(crate) of: PhantomData<J>,
+    pub(crate) of: Named<J>,
     ghost boxes: { AreBoxes J.names (map M.id inboxes.items) },
     ghost ledger_is: { ledger ≡ J.names.ledger },
 }

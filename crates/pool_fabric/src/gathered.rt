@@ -7,6 +7,7 @@ use crate::column::{Column, last_column};
 use crate::drained::drained;
 use crate::held::HeldStation;
 use crate::ledger::{Ledger, Page};
+use crate::named::Named;
 use crate::naming::Naming;
 use crate::notes::Notes;
 use crate::row::Row;
@@ -15,7 +16,7 @@ use digit_route::Batch;
 use pool_desk::Desk;
 use slot_chain::Buf;
 use std::alloc::{AllocError, Global};
-use std::marker::{Model, PhantomData};
+use std::marker::Model;
 use std::sync::Wait;
 
 /// Desks, seats and pages that came back, and what was found in the inboxes.
@@ -29,7 +30,7 @@ pub(crate) struct Gathered<'r, T: Receiver, S: Sender, J: Naming> {
     pub(crate) lent: Notes<Buf<'r>>,
     pub(crate) freed: Notes<Buf<'r>>,
     pub(crate) batches: Vec<Batch<'r>>,
-    pub(crate) of: PhantomData<J>,
+    pub(crate) of: Named<J>,
 }
 
 impl<'r, T: Receiver, S: Sender, J: Naming> Model for Gathered<'r, T, S, J> {
@@ -85,7 +86,7 @@ impl<'r, T: Receiver, S: Sender, J: Naming> Gathered<'r, T, S, J> {
             lent: Notes::new(),
             freed: Notes::new(),
             batches: Vec::new(alloc),
-            of: PhantomData,
+            of: Named::new(),
         }
     }
 

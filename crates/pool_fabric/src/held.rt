@@ -3,6 +3,7 @@ ghost use Rattle.std.specs.Prelude.{◌≡◌, ◌≢◌, ◌<◌, ◌^◌, [], 
 ghost use Rattle.pool_fabric.specs.Calls.{Lends, TakesBack};
 
 use crate::ledger::Page;
+use crate::named::Named;
 use crate::naming::Naming;
 use crate::notes::Notes;
 use crate::station::Station;
@@ -11,7 +12,7 @@ use digit_route::Digits;
 use pool_desk::{Desk, DeskError, Freed};
 use slot_chain::Buf;
 use std::alloc::Global;
-use std::marker::{Model, PhantomData};
+use std::marker::Model;
 
 /// A station that a worker holds. Its type keeps the balance of a [`Station`].
 #[derive(Drop)]
@@ -22,7 +23,7 @@ pub struct HeldStation<'r, T: Receiver, S: Sender, J: Naming> {
     pub(crate) page: Page,
     pub(crate) lent: Notes<Buf<'r>>,
     pub(crate) freed: Notes<Buf<'r>>,
-    pub(crate) of: PhantomData<J>,
+    pub(crate) of: Named<J>,
 }
 
 impl<'r, T: Receiver, S: Sender, J: Naming> Model for HeldStation<'r, T, S, J> {

@@ -19,6 +19,7 @@ mod gathered;
 mod held;
 mod ledger;
 mod listing;
+mod named;
 mod naming;
 mod new_mail;
 mod notes;

@@ -3,6 +3,7 @@ ghost use Rattle.std.specs.Prelude.{◌≡◌, ℕ, true, ◌≤◌, [], length,
 
 use batch_inbox::{Inbox, Mailbox, Receiver, SendSeat, Sender, TakeSeat};
 use digit_route::Digits;
+use link_inbox::LinkInbox;
 use slot_chain::NoMemory;
 use std::alloc::Global;
 
@@ -36,5 +37,23 @@ impl<'r> NewMail<TakeSeat<'r>, SendSeat<'r>> for Inbox<'r> {
         senders: u16,
     ) -> Result<(Inbox<'r>, TakeSeat<'r>, Vec<SendSeat<'r>>), NoMemory> {
         Inbox::new(alloc, address, digits, senders)
+    }
+}
+
+impl<'r> NewMail<link_inbox::TakeSeat<'r>, link_inbox::SendSeat<'r>> for LinkInbox<'r> {
+    fn new_mail(
+        alloc: Global,
+        address: u16,
+        digits: Digits,
+        senders: u16,
+    ) -> Result<
+        (
+            LinkInbox<'r>,
+            link_inbox::TakeSeat<'r>,
+            Vec<link_inbox::SendSeat<'r>>,
+        ),
+        NoMemory,
+    > {
+        LinkInbox::new(alloc, address, digits, senders)
     }
 }

@@ -9,6 +9,7 @@ ghost use Rattle.pool_fabric.specs.Seats.{seat_of, AreSeatsBy, NoneSent};
 use crate::boxes::Boxes;
 use crate::fabric::Fabric;
 use crate::ledger::{Ledger, Page};
+use crate::named::Named;
 use crate::naming::Naming;
 use crate::opening::Opening;
 use crate::row::Row;
@@ -20,7 +21,6 @@ use digit_route::Digits;
 use pool_desk::IdleDesk;
 use slot_chain::NoMemory;
 use std::alloc::{AllocError, Global};
-use std::marker::PhantomData;
 use std::sync::Mutex;
 
 /// The seats of the last sender, and those of the others.
@@ -28,7 +28,7 @@ use std::sync::Mutex;
 pub(crate) struct LastRow<S: Sender, J: Naming> {
     pub(crate) seats: Vec<S>,
     pub(crate) columns: Vec<Row<S>>,
-    pub(crate) of: PhantomData<J>,
+    pub(crate) of: Named<J>,
 }
 
 // Takes the last sender's seat out of each column.
@@ -58,7 +58,7 @@ fn last_row<S: Sender, J: Naming>(
     Ok(LastRow {
         seats,
         columns: others,
-        of: PhantomData,
+        of: Named::new(),
     })
 }
 
@@ -133,7 +133,7 @@ impl<'r, M: Mailbox, T: Receiver, S: Sender, J: Naming> Fabric<'r, M, T, S, J> {
             ledger,
             shelf: Mutex::new(shelf),
             stock: Mutex::new(Store::new(stock, book)),
-            of: PhantomData,
+            of: Named::new(),
         })
     }
 }

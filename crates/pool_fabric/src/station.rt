@@ -6,12 +6,13 @@ ghost use Rattle.pool_fabric.specs.Stations.{resting};
 
 use crate::held::HeldStation;
 use crate::ledger::Page;
+use crate::named::Named;
 use crate::naming::Naming;
 use crate::notes::Notes;
 use batch_inbox::{Receiver, Sender};
 use pool_desk::IdleDesk;
 use slot_chain::Buf;
-use std::marker::{Model, PhantomData};
+use std::marker::Model;
 
 /// A desk that no worker holds, with its seats: the one from which it takes, and one at each inbox
 /// from which it posts.
@@ -27,7 +28,7 @@ pub struct Station<'r, T: Receiver, S: Sender, J: Naming> {
     pub(crate) page: Page,
     pub(crate) lent: Notes<Buf<'r>>,
     pub(crate) freed: Notes<Buf<'r>>,
-    pub(crate) of: PhantomData<J>,
+    pub(crate) of: Named<J>,
 }
 
 impl<'r, T: Receiver, S: Sender, J: Naming> Model for Station<'r, T, S, J> {
@@ -76,7 +77,7 @@ impl<'r, T: Receiver, S: Sender, J: Naming> Station<'r, T, S, J> {
             page,
             lent: Notes::new(),
             freed: Notes::new(),
-            of: PhantomData,
+            of: Named::new(),
         }
     }
 

@@ -6,17 +6,18 @@ ghost use Rattle.pool_fabric.specs.Accounts.{of_part};
 ghost use Rattle.pool_fabric.specs.Weights.{weigh};
 
 use crate::ledger::{Ledger, Page};
+use crate::named::Named;
 use crate::naming::Naming;
 use crate::stock::Stock;
 use region_cut::{Class, Part};
-use std::marker::{Model, PhantomData};
+use std::marker::Model;
 
 /// The stock, with the page of the ledger on which stands what it gave.
 #[derive(Drop)]
 pub(crate) struct Store<'r, J: Naming> {
     pub(crate) stock: Stock<'r>,
     pub(crate) book: Page,
-    pub(crate) of: PhantomData<J>,
+    pub(crate) of: Named<J>,
 }
 
 impl<'r, J: Naming> Model for Store<'r, J> {
@@ -40,7 +41,7 @@ impl<'r, J: Naming> Store<'r, J> {
         Store {
             stock,
             book,
-            of: PhantomData,
+            of: Named::new(),
         }
     }
 
