@@ -1,5 +1,5 @@
 //! The chunks of a region: those that are drawn, and the parts of those that aren't.
-ghost use Rattle.std.specs.Prelude.{◌≡◌, ◌<◌, ◌∷◌, ◌++◌, [], length, IfOk, MatchOption};
+ghost use Rattle.std.specs.Prelude.{◌≡◌, ◌<◌, ◌∷◌, ◌++◌, [], length, IfOk, IfErr, MatchOption};
 ghost use Rattle.std.specs.Prelude.{Some, drop, map, option_map, slice_get};
 ghost use Rattle.event_floor.specs.Chunks.{AreNumbered, class_drawn, ended_part, ended_parts};
 ghost use Rattle.region_cut.specs.Parts.{name_of, bytes_of};
@@ -9,7 +9,6 @@ use crate::part_names::{PartNames, names_of};
 use pool_machine::DrawnChunk;
 use region_cut::endings::Endings;
 use region_cut::{Class, Part};
-use slot_chain::NoMemory;
 use std::alloc::Global;
 use std::marker::Model;
 
@@ -36,17 +35,20 @@ impl<'r> Model for Chunks<'r> {
 }
 
 impl<'r> Chunks<'r> {
-    /// The chunks of these parts, none of them drawn.
-    pub(crate) fn new(alloc: Global, parts: Vec<Part<'r>>) -> Result<Chunks<'r>, NoMemory>
+    /// The chunks of these parts, none of them drawn. Where there is no memory the parts come back.
+    pub(crate) fn new(alloc: Global, parts: Vec<Part<'r>>) -> Result<Chunks<'r>, Vec<Part<'r>>>
         requires { AreNumbered parts.items }
-        ensures { IfOk result (λ c.
+        ensures undrawn { IfOk result (λ c.
             c ≡ record {
               parts = map name_of parts.entry.items;
               drawn = [];
               undrawn = map bytes_of parts.entry.items;
             }) }
+        ensures back { IfErr result (λ back. back ≡ parts.entry) }
     {
-        let drawn = Vec::with_capacity(alloc, parts.len())?;
+        let Ok(drawn) = Vec::with_capacity(alloc, parts.len()) else {
+            return Err(parts);
+        };
         let names = names_of(&parts);
         let mut undrawn = parts;
         undrawn.reverse();
@@ -102,8 +104,8 @@ impl<'r> Chunks<'r> {
     }
 }
 
-// Lets go these parts.
-fn end_parts<'r>(parts: Vec<Part<'r>>, endings: &mut Endings<'r>)
+/// Lets go parts of which nothing was lent, as those that come back from [`crate::Floor::over`]. Each ends as it is.
+pub fn end_parts<'r>(parts: Vec<Part<'r>>, endings: &mut Endings<'r>)
     ensures { endings.new ≡ record endings.old { known = map ended_part parts.entry.items ++ endings.old.known } }
 {
     let mut parts = parts;

@@ -69,10 +69,39 @@ impl<'r> Floor<'r> {
         ensures bytes { IfOk result (λ f.
             (tail : List ℕ) → Holds f (flat_map bytes_of parts.entry.items ++ tail)) }
     {
+        match Floor::over(alloc, parts, desks, digits, limit) {
+            Ok(floor) => Ok(floor),
+            Err(_parts) => Err(NoMemory),
+        }
+    }
+
+    /// The same, for a caller that wants to know what its region ends as: where there is no memory the parts come back.
+    pub fn over(
+        alloc: Global,
+        parts: Vec<Part<'r>>,
+        desks: u32,
+        digits: Digits,
+        limit: u64,
+    ) -> Result<Floor<'r>, Vec<Part<'r>>>
+        requires some { 1 ≤ desks }
+        requires few { desks ≤ 2 ^ digits.bits }
+        requires limit { limit ≤ 1048576 }
+        requires parts { AreNumbered parts.items }
+        ensures opening { IfOk result (λ f. f ≡ opening desks parts.entry.items digits limit) }
+        ensures shows { IfOk result (λ f.
+            Shown (listing_of f) (machine_opening desks (length parts.entry.items) digits limit) (λ slot. 0)) }
+        ensures bytes { IfOk result (λ f.
+            (tail : List ℕ) → Holds f (flat_map bytes_of parts.entry.items ++ tail)) }
+        ensures back { IfErr result (λ back. back ≡ parts.entry) }
+    {
         let _profile = digits.profile();
-        let lists = Lists::new(alloc, parts, desks, digits, limit)?;
-        lists.keeps();
-        Ok(Floor { lists })
+        match Lists::new(alloc, parts, desks, digits, limit) {
+            Ok(lists) => {
+                lists.keeps();
+                Ok(Floor { lists })
+            }
+            Err(parts) => Err(parts),
+        }
     }
 
     /// Does what is asked, or refuses and changes nothing. Only `Alloc` and `Send` take memory. `Send` goes over the buffers of the

@@ -23,5 +23,6 @@ mod sending;
 mod telling;
 mod unlinked;
 
+pub use chunks::end_parts;
 pub use floor::Floor;
 pub use pool_machine::{Refusal, Reply, Request};

@@ -1,7 +1,8 @@
 //! The lists of a floor.
-ghost use Rattle.std.specs.Prelude.{◌≡◌, ◌≤◌, ◌^◌, IfOk, IfErr, OnErr};
+ghost use Rattle.std.specs.Prelude.{◌≡◌, ◌≤◌, ◌*◌, ◌^◌, [], replicate, None, IfOk, IfErr, OnErr};
 ghost use Rattle.event_floor.specs.Chunks.{AreNumbered};
 ghost use Rattle.event_floor.specs.Floors.{desk_count, opening, IsFloor};
+ghost use Rattle.event_floor.specs.Seats.{new_desks};
 ghost use Rattle.event_floor.specs.Steps.{Does, Refuses};
 
 use crate::any_desk::{AnyDesk, idle_desks};
@@ -49,35 +50,71 @@ impl<'r> Model for Lists<'r> {
     ghost invariant = { λ f. IsFloor f.digits f.limit (length f.chunks.parts) f.desks.items f.lent f.inboxes f.next };
 }
 
+// The lists of a floor that hold nothing yet.
+#[derive(Drop)]
+struct EmptyLists<'r> {
+    desks: Vec<AnyDesk<'r>>,
+    lent: Lent<'r>,
+    inboxes: Inboxes<'r>,
+}
+
+impl<'r> EmptyLists<'r> {
+    // Those of so many chunks and desks.
+    fn new(
+        alloc: Global,
+        chunks: usize,
+        desks: u32,
+        digits: Digits,
+        limit: u64,
+    ) -> Result<EmptyLists<'r>, NoMemory>
+        requires chunks { chunks ≤ 1024 }
+        requires few { desks ≤ 2 ^ digits.bits }
+        requires limit { limit ≤ 1048576 }
+        ensures desks { IfOk result (λ empty. empty.desks.items ≡ new_desks digits limit desks) }
+        ensures lent { IfOk result (λ empty. empty.lent ≡ replicate (256 * chunks) None) }
+        ensures inboxes { IfOk result (λ empty. empty.inboxes ≡ replicate desks []) }
+        ensures fewer { desks ≤ 4096 }
+    {
+        let _profile = digits.profile();
+        Ok(EmptyLists {
+            desks: idle_desks(alloc, desks, digits, limit)?,
+            lent: Lent::new(alloc, chunks)?,
+            inboxes: Inboxes::new(alloc, desks)?,
+        })
+    }
+}
+
 impl<'r> Lists<'r> {
-    /// The lists of a new floor.
+    /// The lists of a new floor. Where there is no memory the parts come back.
     pub(crate) fn new(
         alloc: Global,
         parts: Vec<Part<'r>>,
         desks: u32,
         digits: Digits,
         limit: u64,
-    ) -> Result<Lists<'r>, NoMemory>
+    ) -> Result<Lists<'r>, Vec<Part<'r>>>
         requires some { 1 ≤ desks }
         requires few { desks ≤ 2 ^ digits.bits }
         requires limit { limit ≤ 1048576 }
         requires parts { AreNumbered parts.items }
-        ensures { IfOk result (λ f. f ≡ opening desks parts.entry.items digits limit) }
+        ensures opening { IfOk result (λ f. f ≡ opening desks parts.entry.items digits limit) }
+        ensures back { IfErr result (λ back. back ≡ parts.entry) }
     {
-        let _profile = digits.profile();
-        let lent = Lent::new(alloc, parts.len())?;
-        let chunks = Chunks::new(alloc, parts)?;
-        let inboxes = Inboxes::new(alloc, desks)?;
-        let desks = idle_desks(alloc, desks, digits, limit)?;
-        Ok(Lists {
-            digits,
-            limit,
-            desks,
-            chunks,
-            lent,
-            inboxes,
-            next: 1,
-        })
+        let Ok(empty) = EmptyLists::new(alloc, parts.len(), desks, digits, limit) else {
+            return Err(parts);
+        };
+        match Chunks::new(alloc, parts) {
+            Ok(chunks) => Ok(Lists {
+                digits,
+                limit,
+                desks: empty.desks,
+                chunks,
+                lent: empty.lent,
+                inboxes: empty.inboxes,
+                next: 1,
+            }),
+            Err(parts) => Err(parts),
+        }
     }
 
     /// Does what is asked, or refuses and changes nothing.
