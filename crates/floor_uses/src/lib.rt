@@ -10,5 +10,5 @@ mod opening;
 mod tests;
 
 pub use asking::ask;
-pub use ending::lives;
+pub use ending::{Answers, Life, leaves_as_it_was, lives};
 pub use opening::open;

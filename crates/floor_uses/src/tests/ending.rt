@@ -1,6 +1,6 @@
 //! A floor's end: the region is whole again, and holds what it held.
 use super::{bytes_of, digits_of, pool};
-use crate::lives;
+use crate::{Life, leaves_as_it_was, lives};
 use digit_route::Digits;
 use event_floor::Request;
 use region_cut::CHUNK;
@@ -43,15 +43,39 @@ fn are_all(rt: &impl Abort, region: &[u8]) {
     }
 }
 
-// Whether the floor lived to its end.
+// Whether the floor lived, and did all that was asked of it.
 fn lived(rt: &impl Abort, alloc: Global, region: &mut [u8], digits: Digits) -> bool {
     assert!(rt; 2 <= 1 << digits.profile().bits());
-    lives(alloc, region, 2, digits, &REQUESTS).is_some()
+    let Ok(requests) = Vec::from_array(alloc, REQUESTS) else {
+        return false;
+    };
+    let life = Life {
+        desks: 2,
+        digits,
+        requests,
+    };
+    let (answers, _endings) = lives(alloc, region, life);
+    match answers {
+        Some(answers) => answers.iter().all(|answer| answer.is_ok()),
+        None => false,
+    }
+}
+
+fn passes(rt: &impl Abort, alloc: Global, region: &mut [u8], digits: Digits) {
+    assert!(rt; 2 <= 1 << digits.profile().bits());
+    if let Ok(requests) = Vec::from_array(alloc, REQUESTS) {
+        let life = Life {
+            desks: 2,
+            digits,
+            requests,
+        };
+        leaves_as_it_was(alloc, region, life);
+    }
 }
 
 // Where memory was refused, the next floor lives to its end.
 #[test]
-fn a_floor_leaves_the_region_as_it_was(rt: HostRuntime) {
+fn a_floor_lives_and_the_region_is_as_it_was(rt: HostRuntime) {
     let digits = digits_of(&rt, pool(2, 3, 2));
     let mut region = bytes_of(&rt, rt.alloc(), LENGTH, 0);
     write_all(&mut region);
@@ -59,5 +83,14 @@ fn a_floor_leaves_the_region_as_it_was(rt: HostRuntime) {
         are_all(&rt, &region);
         assert!(rt; lived(&rt, rt.alloc(), &mut region, digits));
     }
+    are_all(&rt, &region);
+}
+
+#[test]
+fn a_region_goes_on_as_it_was(rt: HostRuntime) {
+    let digits = digits_of(&rt, pool(2, 3, 2));
+    let mut region = bytes_of(&rt, rt.alloc(), LENGTH, 0);
+    write_all(&mut region);
+    passes(&rt, rt.alloc(), &mut region, digits);
     are_all(&rt, &region);
 }
