@@ -6,7 +6,7 @@
 takes the public function NAME of `crates/CRATE/src/FILE` (or those of several names, counted together), the names in
 its clauses, and follows them through the `ghost use` and `use` lines into the `specs/` of the crates of this
 repository. `NAME:CLAUSE` takes the clause of that name alone. The kit's words are known to a reader and not counted,
-nor are the types of the code.
+nor are the types of the code, the fields of a record, and what a definition binds.
 
 Prints how many definitions are reached and how many lines they have, then the files with their counts. With
 `--list` it prints each definition.
@@ -81,6 +81,18 @@ def read(path):
     return FILES[path]
 
 
+def free_words(name, lines):
+    """The words of a definition that may name another one: none that it binds, and no field."""
+    text = re.sub(r"(?<=[\w)\]])\.\w+", "", "\n".join(lines))
+    bound = {word for names in re.findall(r"[({]([\w ]+) : ", text) for word in names.split()}
+    bound |= {word for names in re.findall(r"λ ([\w ]+)\.", text) for word in names.split()}
+    bound |= set(re.findall(r"^ +pub (\w+) : ", text, re.M)) | set(re.findall(r"(\w+) = ", text))
+    for line in lines[1:]:
+        if line.startswith(name + " ") and " = " in line:
+            bound |= set(re.findall(r"\w+", line.partition(" = ")[0]))
+    return [word for word in WORD.findall(text) if word not in bound and word != name]
+
+
 def clauses(path, name):
     """The clauses of the function's contract, or the one that is named behind a colon."""
     text = without_comments(path.read_text())
@@ -116,8 +128,8 @@ def reached(path, names):
                 left.append(uses[name])
             continue
         found.add((file, name))
-        for word in WORD.findall("\n".join(own[name])):
-            if word in own and word != name:
+        for word in free_words(name, own[name]):
+            if word in own:
                 left.append((file, word))
             elif word in uses:
                 left.append(uses[word])
