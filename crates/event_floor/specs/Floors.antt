@@ -1,10 +1,11 @@
 -- What a contract sees of a floor.
-use Rattle.std.specs.Prelude.{ℕ, ◌≡◌, ◌<◌, ◌≤◌, ◌+◌, ◌*◌, ◌^◌, List, [], Option, None, IfSome, map, length, replicate, slice_index_or, slice_set, All}
+use Rattle.std.specs.Prelude.{ℕ, ◌≡◌, ◌<◌, ◌≤◌, ◌+◌, ◌*◌, ◌^◌, List, [], Option, None, IfSome, map, length, replicate}
+use Rattle.std.specs.Prelude.{slice_index_or, slice_set, All}
 use Rattle.std.specs.Borrow.{GName}
 use Rattle.region_cut.specs.Parts.{name_of, bytes_of}
 use Rattle.region_cut.specs.declared.part.Part.{Part}
 use Rattle.region_cut.specs.declared.profile.Profile.{Profile}
-use Rattle.slot_chain.specs.Buffer.{Buffer}
+use Rattle.slot_chain.specs.Buffer.{Buffer, owner_limit}
 use Rattle.digit_route.specs.Digits.{Scheme}
 use Rattle.digit_route.specs.Profiles.{profile_of}
 use Rattle.pool_desk.specs.Desks.{IdleState, DeskState}
@@ -12,11 +13,12 @@ use Rattle.pool_machine.specs.declared.chunk.DrawnChunk.{DrawnChunk}
 use Rattle.event_floor.specs.declared.any_desk.AnyDesk.{AnyDesk}
 use Rattle.event_floor.specs.declared.any_desk.AnyDesk.TheVariants.{Idle, Held}
 use Rattle.event_floor.specs.Seats.{new_desks, new_desk, home_of, cached_of, IsNumbered, HasPlace}
+use Rattle.event_floor.specs.Lent.{chunk_places}
 use Rattle.event_floor.specs.Posted.{BatchSeen, inbox_at}
 
--- how the numbers of desks are read, the limit in bytes of each desk's cache, how many chunks there are, the names of their parts,
--- the chunks that are drawn, and the bytes of the parts of the others, all in the order of their numbers, the desks, the table of
--- the lent buffers, the inbox of each desk, and the number of the next batch
+-- how the numbers of desks are read, the limit in bytes of each desk's cache, how many chunks there are, the names of
+-- their parts, the chunks that are drawn, and the bytes of the parts of the others, all in the order of their numbers,
+-- the desks, the table of the lent buffers, the inbox of each desk, and the number of the next batch
 pub record FloorSeen : Type 0 where
   pub digits : Scheme
   pub limit : ℕ
@@ -76,7 +78,7 @@ opening desks parts digits limit = record {
   drawn = [];
   undrawn = map bytes_of parts;
   desks = new_desks digits limit desks;
-  lent = replicate (256 * length parts) None;
+  lent = replicate (chunk_places * length parts) None;
   inboxes = replicate desks [];
   next = 1;
 }
@@ -89,15 +91,17 @@ AreOwned desks lent = (i : ℕ) → IfSome (slice_index_or lent i None) (λ (b :
 pub record IsKnown (desks chunks : ℕ) (b : Buffer) : Type 0 where
   pub owner : b.owner < desks
   pub chunk : b.slot.chunk < chunks
-  pub index : b.slot.index < 256
+  pub index : b.slot.index < chunk_places
 
--- desk a of so many: it has its number, and the floor's digits and limit; its slots at home and the buffers in its cache are known
+-- desk a of so many: it has its number, and the floor's digits and limit; its slots at home and the buffers in its
+-- cache are known
 pub record IsSeated (digits : Scheme) (limit desks chunks a : ℕ) (s : AnyDesk) : Type 0 where
   pub numbered : IsNumbered digits limit a s
   pub placed : All (HasPlace chunks) (home_of s)
   pub known : All (IsKnown desks chunks) (cached_of s)
 
--- a batch in the inbox of b: it was numbered before, it is addressed to b, it has the floor's digits, and its buffers are known
+-- a batch in the inbox of b: it was numbered before, it is addressed to b, it has the floor's digits, and its buffers
+-- are known
 pub record IsPostedTo (digits : Scheme) (desks chunks next b : ℕ) (p : BatchSeen) : Type 0 where
   pub numbered : p.number < next
   pub address : p.address ≡ b
@@ -109,13 +113,15 @@ pub record IsPostedTo (digits : Scheme) (desks chunks next b : ℕ) (p : BatchSe
 abbrev pub last_number : ℕ
 last_number = 4294967295
 
--- A floor of n desks, each with its inbox. There are no more desks than numbers, and the table has 256 places for each chunk.
-pub record IsFloorOf (n : ℕ) (digits : Scheme) (limit chunks : ℕ) (desks : List AnyDesk) (lent : List (Option Buffer)) (inboxes : List (List BatchSeen)) (next : ℕ)
+-- A floor of n desks, each with its inbox. There are no more desks than numbers, and the table has the places of
+-- each chunk.
+pub record IsFloorOf (n : ℕ) (digits : Scheme) (limit chunks : ℕ) (desks : List AnyDesk) (lent : List (Option Buffer))
+    (inboxes : List (List BatchSeen)) (next : ℕ)
     : Type 0 where
   pub count : length desks ≡ n
   pub few : n ≤ 2 ^ digits.bits
-  pub fewer : n ≤ 4096
-  pub table : length lent ≡ 256 * chunks
+  pub fewer : n ≤ owner_limit
+  pub table : length lent ≡ chunk_places * chunks
   pub owned : AreOwned n lent
   pub seated : (a : ℕ) → a < n → IsSeated digits limit n chunks a (slice_index_or desks a no_desk)
   pub boxes : length inboxes ≡ n
@@ -124,4 +130,5 @@ pub record IsFloorOf (n : ℕ) (digits : Scheme) (limit chunks : ℕ) (desks : L
   pub next_high : next ≤ last_number + 1
 
 abbrev pub IsFloor : Scheme → ℕ → ℕ → List AnyDesk → List (Option Buffer) → List (List BatchSeen) → ℕ → Type 0
-IsFloor digits limit chunks desks lent inboxes next = IsFloorOf (length desks) digits limit chunks desks lent inboxes next
+IsFloor digits limit chunks desks lent inboxes next =
+    IsFloorOf (length desks) digits limit chunks desks lent inboxes next

@@ -5,17 +5,24 @@ use Rattle.std.specs.Option.{option_to_list}
 use Rattle.region_cut.specs.declared.slot.Slot.{Slot}
 use Rattle.slot_chain.specs.Buffer.{Buffer}
 
--- where the buffer of a slot lies: a chunk has 256 places, one for each slot that it could have
+-- how many places a chunk has in the table, one for each slot that it could have
+abbrev pub chunk_places : ℕ
+chunk_places = 256
+
+-- where the buffer of a slot lies
 abbrev pub place_of : Slot → ℕ
-place_of s = 256 * s.chunk + s.index
+place_of s = chunk_places * s.chunk + s.index
 
 -- the lent buffer of the slot with these numbers
 abbrev pub lent_at : List (Option Buffer) → ℕ → ℕ → Option Buffer
-lent_at places chunk index = if nat_lt index 256 then slice_index_or places (256 * chunk + index) None else None
+lent_at places chunk index =
+    if nat_lt index chunk_places then slice_index_or places (chunk_places * chunk + index) None else None
 
 -- each buffer lies in the place of its slot
 abbrev pub AreInPlace : List (Option Buffer) → Type 0
-AreInPlace places = (i : ℕ) → IfSome (slice_index_or places i None) (λ (b : Buffer). (place_of b.slot ≡ i) × (b.slot.index < 256))
+AreInPlace places =
+    (i : ℕ) → IfSome (slice_index_or places i None)
+    (λ (b : Buffer). (place_of b.slot ≡ i) × (b.slot.index < chunk_places))
 
 -- the lent buffers, in the order of their places
 abbrev pub buffers_lent : List (Option Buffer) → List Buffer

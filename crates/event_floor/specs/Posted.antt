@@ -1,5 +1,6 @@
 -- The batches that wait in the inboxes.
-use Rattle.std.specs.Prelude.{ℕ, ◌≡◌, ◌<◌, Bool, true, false, List, [], ◌∷◌, ◌++◌, length, slice_index_or, slice_set, All, Any}
+use Rattle.std.specs.Prelude.{ℕ, ◌≡◌, ◌<◌, Bool, true, false, List, [], ◌∷◌, ◌++◌, length, slice_index_or, slice_set}
+use Rattle.std.specs.Prelude.{All, Any}
 use Rattle.std.specs.List.{flat_map, AllPairs}
 use Rattle.slot_chain.specs.Buffer.{Buffer}
 use Rattle.digit_route.specs.Digits.{Scheme}
@@ -8,7 +9,8 @@ use Rattle.digit_route.specs.States.{BatchState}
 use Rattle.digit_route.specs.Route.{GivesBucket}
 use Rattle.pool_desk.specs.Desks.{DeskState}
 
--- a batch that waits: its number on the floor, who sent it, whose inbox it is in, how numbers are read, whether it is linked, its buffers
+-- a batch that waits: its number on the floor, who sent it, whose inbox it is in, how numbers are read, whether it is
+-- linked, its buffers
 pub record BatchSeen : Type 0 where
   pub number : ℕ
   pub sender : ℕ
@@ -19,14 +21,28 @@ pub record BatchSeen : Type 0 where
 
 -- a batch as it was sent, and the same batch once it is linked
 abbrev pub sent_as : ℕ → BatchState → BatchSeen
-sent_as number b = record { number = number; sender = b.sender; address = b.address; digits = b.digits; linked = false; buffers = b.items }
+sent_as number b = record {
+  number = number;
+  sender = b.sender;
+  address = b.address;
+  digits = b.digits;
+  linked = false;
+  buffers = b.items;
+}
 
 abbrev pub as_linked : BatchSeen → BatchSeen
 as_linked p = record p { linked = true }
 
 -- a batch that no desk stands for
 abbrev pub no_batch : BatchSeen
-no_batch = record { number = 0; sender = 0; address = 0; digits = record { width = 0; bits = 0 }; linked = false; buffers = [] }
+no_batch = record {
+  number = 0;
+  sender = 0;
+  address = 0;
+  digits = record { width = 0; bits = 0 };
+  linked = false;
+  buffers = [];
+}
 
 -- the inbox of a desk, in order of arrival
 abbrev pub inbox_at : List (List BatchSeen) → ℕ → List BatchSeen
@@ -54,7 +70,8 @@ NonePosted P inboxes = (b : ℕ) → b < length inboxes → All (λ (p : BatchSe
 -- the batch at a place of an inbox has this number, and still has to be linked
 abbrev pub IsHalfAt : List (List BatchSeen) → ℕ → ℕ → ℕ → Type 0
 IsHalfAt inboxes number inbox place =
-    (inbox < length inboxes) × (place < length (inbox_at inboxes inbox)) × IsHalf number (slice_index_or (inbox_at inboxes inbox) place no_batch)
+    (inbox < length inboxes) × (place < length (inbox_at inboxes inbox))
+    × IsHalf number (slice_index_or (inbox_at inboxes inbox) place no_batch)
 
 -- each batch has a greater number than those before it
 abbrev pub NumbersRise : List BatchSeen → Type 0
@@ -66,7 +83,8 @@ HasNoFront [] = Unit {0}
 HasNoFront (p ∷ ps) = p.linked ≡ false
 
 -- the desk's bucket for t left its cache and waits behind all others, as a batch of this number with so many buffers
-pub record SendsInto (before : DeskState) (t number count : ℕ) (old : List BatchSeen) (after : DeskState) (new : List BatchSeen) : Type 0 where
+pub record SendsInto (before : DeskState) (t number count : ℕ) (old : List BatchSeen) (after : DeskState)
+    (new : List BatchSeen) : Type 0 where
   pub batch : BatchState
   pub address : batch.address ≡ t
   pub gives : GivesBucket before.digits before.number before.cached batch after.cached
@@ -84,7 +102,8 @@ pub record LeavesFront (b : BatchState) (old new : List BatchSeen) : Type 0 wher
   pub items : b.items ≡ front.buffers
 
 -- the same of the inboxes of all desks: the batch waits in that of t, and the others stay
-pub record SendsTo (before : DeskState) (t number count : ℕ) (old : List (List BatchSeen)) (after : DeskState) (new : List (List BatchSeen)) : Type 0 where
+pub record SendsTo (before : DeskState) (t number count : ℕ) (old : List (List BatchSeen)) (after : DeskState)
+    (new : List (List BatchSeen)) : Type 0 where
   pub inbox : List BatchSeen
   pub sends : SendsInto before t number count (inbox_at old t) after inbox
   pub same : new ≡ slice_set old t inbox
@@ -100,4 +119,5 @@ pub record LinksHalf (number : ℕ) (old new : List (List BatchSeen)) : Type 0 w
   pub inbox : ℕ
   pub place : ℕ
   pub half : IsHalfAt old number inbox place
-  pub same : new ≡ slice_set old inbox (slice_set (inbox_at old inbox) place (as_linked (slice_index_or (inbox_at old inbox) place no_batch)))
+  pub same : new ≡ slice_set old inbox
+      (slice_set (inbox_at old inbox) place (as_linked (slice_index_or (inbox_at old inbox) place no_batch)))

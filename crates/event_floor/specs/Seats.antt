@@ -4,6 +4,7 @@ use Rattle.slot_chain.specs.Buffer.{Buffer}
 use Rattle.digit_route.specs.Digits.{Scheme}
 use Rattle.pool_desk.specs.Homes.{AtHome, slot_at}
 use Rattle.pool_desk.specs.Desks.{IdleState, DeskState}
+use Rattle.event_floor.specs.Lent.{chunk_places}
 use Rattle.event_floor.specs.declared.any_desk.AnyDesk.{AnyDesk}
 use Rattle.event_floor.specs.declared.any_desk.AnyDesk.TheVariants.{Idle, Held}
 
@@ -18,7 +19,15 @@ new_desks digits limit (suc n) = new_desks digits limit n ++ Idle (new_desk digi
 
 -- the desk in the hands of a worker, with nothing in its cache
 abbrev pub adopted : ℕ → IdleState → DeskState
-adopted worker d = record { number = d.number; digits = d.digits; limit = d.limit; worker = worker; home = d.home; drawn = d.drawn; cached = [] }
+adopted worker d = record {
+  number = d.number;
+  digits = d.digits;
+  limit = d.limit;
+  worker = worker;
+  home = d.home;
+  drawn = d.drawn;
+  cached = [];
+}
 
 -- the desk without its worker
 abbrev pub retired : DeskState → IdleState
@@ -39,7 +48,7 @@ IsNumbered digits limit number (Held d) = (d.number ≡ number) × (d.limit ≡ 
 
 -- the slot has a place in a table for so many chunks
 abbrev pub HasPlace : ℕ → AtHome → Type 0
-HasPlace chunks s = ((slot_at s).chunk < chunks) × ((slot_at s).index < 256)
+HasPlace chunks s = ((slot_at s).chunk < chunks) × ((slot_at s).index < chunk_places)
 
 -- the others' buffers that were freed here
 abbrev pub cached_of : AnyDesk → List Buffer

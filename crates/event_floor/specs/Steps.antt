@@ -1,5 +1,6 @@
 -- What a request does to a floor, and why it is refused.
-use Rattle.std.specs.Prelude.{ℕ, ◌≡◌, ◌≢◌, ◌<◌, ◌≤◌, ◌+◌, ◌∷◌, ◌++◌, ◌⊎◌, [], true, List, length, slice_get, slice_index_or, slice_set, Option, Some, None, Result, Ok, Err}
+use Rattle.std.specs.Prelude.{ℕ, ◌≡◌, ◌≢◌, ◌<◌, ◌≤◌, ◌+◌, ◌∷◌, ◌++◌, ◌⊎◌, [], true, List, length, slice_get}
+use Rattle.std.specs.Prelude.{slice_index_or, slice_set, Option, Some, None, Result, Ok, Err}
 use Rattle.region_cut.specs.declared.part.Part.{Part}
 use Rattle.region_cut.specs.declared.slot.Slot.{Slot}
 use Rattle.region_cut.specs.Classes.{classes_of, largest_of}
@@ -10,7 +11,9 @@ use Rattle.digit_route.specs.Route.{RouteFault}
 use Rattle.digit_route.specs.States.{BatchState}
 use Rattle.digit_route.specs.Route.{GivesBucket}
 use Rattle.digit_route.specs.declared.error.RouteError.{RouteError}
-use Rattle.digit_route.specs.declared.error.RouteError.TheVariants.{ToSelf as RouteToSelf, NothingFor as RouteNothingFor, NotAnOwner as RouteNotAnOwner}
+use Rattle.digit_route.specs.declared.error.RouteError.TheVariants.{ToSelf as RouteToSelf}
+use Rattle.digit_route.specs.declared.error.RouteError.TheVariants.{NothingFor as RouteNothingFor}
+use Rattle.digit_route.specs.declared.error.RouteError.TheVariants.{NotAnOwner as RouteNotAnOwner}
 use Rattle.pool_desk.specs.HomesState.{HasClass}
 use Rattle.pool_desk.specs.Desks.{IdleState, DeskState}
 use Rattle.pool_desk.specs.Steps.{Claims, Allocs, AllocFault, Frees, Handles, Counted}
@@ -20,14 +23,20 @@ use Rattle.pool_desk.specs.declared.freed.Freed.TheVariants.{Home as FreedHome, 
 use Rattle.pool_machine.specs.declared.request.Request.{Request}
 use Rattle.pool_machine.specs.declared.request.Request.TheVariants.{Adopt, Retire, Claim, Alloc, Free, Send, Link, Take}
 use Rattle.pool_machine.specs.declared.reply.Reply.{Reply}
-use Rattle.pool_machine.specs.declared.reply.Reply.TheVariants.{Done, Chunk, Slot as Lent, Home, Cached, Due, Batch, Counts}
+use Rattle.pool_machine.specs.declared.reply.Reply.TheVariants.{Done, Chunk, Slot as Lent, Home, Cached, Due, Batch}
+use Rattle.pool_machine.specs.declared.reply.Reply.TheVariants.{Counts}
 use Rattle.pool_machine.specs.declared.refusal.Refusal.{Refusal}
-use Rattle.pool_machine.specs.declared.refusal.Refusal.TheVariants.{NoDesk, Idle, TooLarge, NeedChunk, NotNeeded, NoChunk, NotLent, NothingFor, NotAnOwner, ToSelf, NoBatch, Nothing, Unsettled, Held, NoMemory, BadClass, Spent}
+use Rattle.pool_machine.specs.declared.refusal.Refusal.TheVariants.{NoDesk, Idle, TooLarge, NeedChunk, NotNeeded}
+use Rattle.pool_machine.specs.declared.refusal.Refusal.TheVariants.{NoChunk, NotLent, NothingFor, NotAnOwner, ToSelf}
+use Rattle.pool_machine.specs.declared.refusal.Refusal.TheVariants.{NoBatch, Nothing, Unsettled, Held, NoMemory}
+use Rattle.pool_machine.specs.declared.refusal.Refusal.TheVariants.{BadClass, Spent}
 use Rattle.event_floor.specs.declared.any_desk.AnyDesk.TheVariants.{Idle as IdleSeat}
 use Rattle.event_floor.specs.Seats.{adopted, retired}
 use Rattle.event_floor.specs.Lent.{lent_at, place_of}
-use Rattle.event_floor.specs.Posted.{BatchSeen, inbox_at, sent_as, as_linked, no_batch, IsHalf, IsHalfOf, IsHalfAt, SomePosted, NonePosted, HasNoFront}
-use Rattle.event_floor.specs.Floors.{FloorSeen, desk_count, profile_seen, IsIdle, IsHeld, with_seat, with_desk, with_inbox, last_number}
+use Rattle.event_floor.specs.Posted.{BatchSeen, inbox_at, sent_as, as_linked, no_batch, IsHalf, IsHalfOf, IsHalfAt}
+use Rattle.event_floor.specs.Posted.{SomePosted, NonePosted, HasNoFront}
+use Rattle.event_floor.specs.Floors.{FloorSeen, desk_count, profile_seen, IsIdle, IsHeld, with_seat, with_desk}
+use Rattle.event_floor.specs.Floors.{with_inbox, last_number}
 
 -- ---- refusals, each with all that was looked at before
 
@@ -77,11 +86,13 @@ Refuses v (Claim a class) NoDesk = desk_count v ≤ a
 Refuses v (Claim a class) Idle = MeetsIdle v a
 Refuses v (Claim a class) BadClass = MeetsHeld v a × (class_limit v ≤ class)
 Refuses v (Claim a class) NotNeeded = (d : DeskState) × IsHeld v a d × (class < class_limit v) × HasHome d class
-Refuses v (Claim a class) NoChunk = (d : DeskState) × IsHeld v a d × (class < class_limit v) × (HasHome d class → ⊥) × (length v.drawn ≡ v.chunks)
+Refuses v (Claim a class) NoChunk = (d : DeskState) × IsHeld v a d × (class < class_limit v) × (HasHome d class → ⊥)
+    × (length v.drawn ≡ v.chunks)
 Refuses v (Alloc a size) NoDesk = desk_count v ≤ a
 Refuses v (Alloc a size) Idle = MeetsIdle v a
 Refuses v (Alloc a size) TooLarge = MeetsHeld v a × (size_limit v < size)
-Refuses v (Alloc a size) NeedChunk = (d : DeskState) × (class : ℕ) × IsHeld v a d × AllocFault d size (DeskNeedChunk class)
+Refuses v (Alloc a size) NeedChunk = (d : DeskState) × (class : ℕ) × IsHeld v a d
+    × AllocFault d size (DeskNeedChunk class)
 Refuses v (Alloc a size) NoMemory = (d : DeskState) × IsHeld v a d × AllocFault d size DeskNoMemory
 Refuses v (Free a slot) NoDesk = desk_count v ≤ a
 Refuses v (Free a slot) Idle = MeetsIdle v a
@@ -114,7 +125,10 @@ pub record DrawsChunk (old : FloorSeen) (a class chunk : ℕ) (new : FloorSeen) 
   pub has_name : slice_get old.parts chunk ≡ Some (name_of part)
   pub first : old.undrawn ≡ bytes_of part ∷ new.undrawn
   pub claims : Claims before part class after
-  pub same : new ≡ record (with_desk old a after) { drawn = old.drawn ++ record { owner = a; class = class } ∷ []; undrawn = new.undrawn }
+  pub same : new ≡ record (with_desk old a after) {
+    drawn = old.drawn ++ record { owner = a; class = class } ∷ [];
+    undrawn = new.undrawn;
+  }
 
 -- the desk gave out the buffer of a slot at home, and it lies in its place in the table
 pub record LendsSlot (old : FloorSeen) (a size : ℕ) (slot : Slot) (new : FloorSeen) : Type 0 where
@@ -137,7 +151,8 @@ pub record TakesBack (old : FloorSeen) (a chunk index : ℕ) (freed : Freed) (ne
   pub frees : Frees before buffer freed after
   pub same : new ≡ record (with_desk old a after) { lent = slice_set old.lent (place_of buffer.slot) None }
 
--- the desk's bucket for t left its cache, and waits in the inbox of t, behind all others, as a batch with the next number
+-- the desk's bucket for t left its cache, and waits in the inbox of t, behind all others, as a batch with the next
+-- number
 pub record SendsBatch (old : FloorSeen) (a t number count : ℕ) (new : FloorSeen) : Type 0 where
   pub before : DeskState
   pub after : DeskState
@@ -149,7 +164,9 @@ pub record SendsBatch (old : FloorSeen) (a t number count : ℕ) (new : FloorSee
   pub gives : GivesBucket old.digits a before.cached batch after.cached
   pub same_desk : after ≡ record before { cached = after.cached }
   pub counted : count ≡ capped (length batch.items)
-  pub same : new ≡ record (with_inbox (with_desk old a after) t (inbox_at old.inboxes t ++ sent_as number batch ∷ [])) { next = old.next + 1 }
+  pub same : new ≡ record (with_inbox (with_desk old a after) t (inbox_at old.inboxes t ++ sent_as number batch ∷ [])) {
+    next = old.next + 1;
+  }
 
 -- the batch of this number, which still had to be linked, is linked
 pub record LinksBatch (old : FloorSeen) (number : ℕ) (new : FloorSeen) : Type 0 where
@@ -157,7 +174,8 @@ pub record LinksBatch (old : FloorSeen) (number : ℕ) (new : FloorSeen) : Type 
   pub place : ℕ
   pub half : IsHalfAt old.inboxes number inbox place
   pub same : new ≡ with_inbox old inbox
-      (slice_set (inbox_at old.inboxes inbox) place (as_linked (slice_index_or (inbox_at old.inboxes inbox) place no_batch)))
+      (slice_set (inbox_at old.inboxes inbox) place
+      (as_linked (slice_index_or (inbox_at old.inboxes inbox) place no_batch)))
 
 -- the front of the inbox of b, a linked batch, left it, and the desk was handed its buffers
 pub record TakesFront (old : FloorSeen) (b home on : ℕ) (new : FloorSeen) : Type 0 where
@@ -174,7 +192,8 @@ pub record TakesFront (old : FloorSeen) (b home on : ℕ) (new : FloorSeen) : Ty
 
 abbrev pub Does : FloorSeen → Request → Reply → FloorSeen → Type 0
 Does old (Adopt a worker) Done new = (d : IdleState) × IsIdle old a d × (new ≡ with_desk old a (adopted worker d))
-Does old (Retire a) Done new = (d : DeskState) × IsHeld old a d × (d.cached ≡ []) × LacksHalfOf old a × (new ≡ with_seat old a (IdleSeat (retired d)))
+Does old (Retire a) Done new = (d : DeskState) × IsHeld old a d × (d.cached ≡ []) × LacksHalfOf old a
+    × (new ≡ with_seat old a (IdleSeat (retired d)))
 Does old (Claim a class) (Chunk k) new = DrawsChunk old a class k new
 Does old (Alloc a size) (Lent slot) new = LendsSlot old a size slot new
 Does old (Free a slot) Home new = TakesBack old a slot.0 slot.1 FreedHome new

@@ -27,7 +27,8 @@ pub record AreCounted (counts : List ℕ) (entries : List (ℕ × Unlinked)) : T
 -- a batch of this number, which this desk sent, still has to be linked: one of these, and in the inbox of a desk
 abbrev pub HasHalf : List BatchSeen → ℕ → ℕ → Type 0
 HasHalf posted number sender =
-    (place : ℕ) × (place < length posted) × IsHalf number (slice_index_or posted place no_batch) × ((slice_index_or posted place no_batch).sender ≡ sender)
+    (place : ℕ) × (place < length posted) × IsHalf number (slice_index_or posted place no_batch)
+    × ((slice_index_or posted place no_batch).sender ≡ sender)
 
 abbrev pub WaitsHalf : List (List BatchSeen) → ℕ → ℕ → ℕ → Type 0
 WaitsHalf inboxes number sender inbox = (inbox < length inboxes) × HasHalf (inbox_at inboxes inbox) number sender
@@ -36,4 +37,5 @@ WaitsHalf inboxes number sender inbox = (inbox < length inboxes) × HasHalf (inb
 pub record IsIndexOf (inboxes : List (List BatchSeen)) (v : UnlinkedSeen) : Type 0 where
   pub desks : v.desks ≡ length inboxes
   pub waits : (number : ℕ) (h : Unlinked) → half_of v number ≡ Some h → WaitsHalf inboxes number h.sender h.inbox
-  pub known : (number sender inbox : ℕ) → WaitsHalf inboxes number sender inbox → half_of v number ≡ Some (record { sender = sender; inbox = inbox })
+  pub known : (number sender inbox : ℕ) → WaitsHalf inboxes number sender inbox
+      → half_of v number ≡ Some (record { sender = sender; inbox = inbox })

@@ -1,6 +1,8 @@
 //! A desk of a floor, in whoever's hands.
 ghost use Rattle.std.specs.Prelude.{◌≡◌, ◌<◌, ◌≤◌, ◌^◌, IfOk, IsPermutation, map};
+ghost use Rattle.slot_chain.specs.Buffer.{owner_limit};
 ghost use Rattle.slot_chain.specs.Slots.{slot_of};
+ghost use Rattle.digit_route.specs.Limits.{largest_limit};
 ghost use Rattle.pool_desk.specs.Homes.{slot_at};
 ghost use Rattle.event_floor.specs.Seats.{new_desks, held_by, home_of, cached_of, Releases};
 
@@ -26,9 +28,9 @@ pub(crate) fn idle_desks<'r>(
     digits: Digits,
     limit: u64,
 ) -> Result<Vec<AnyDesk<'r>>, NoMemory>
-    requires few { count ≤ 4096 }
+    requires few { count ≤ owner_limit }
     requires numbers { count ≤ 2 ^ digits.bits }
-    requires limit { limit ≤ 1048576 }
+    requires limit { limit ≤ largest_limit }
     ensures { IfOk result (λ desks. desks.items ≡ new_desks digits limit count) }
 {
     let mut desks = Vec::with_capacity(alloc, count as usize)?;

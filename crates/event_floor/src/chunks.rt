@@ -28,7 +28,11 @@ impl<'r> Model for Chunks<'r> {
 
     ghost Value = { ChunksSeen };
 
-    ghost view = { λ c. record { parts = c.names.all; drawn = c.drawn.items; undrawn = reverse (map bytes_of c.undrawn.items) } };
+    ghost view = { λ c. record {
+      parts = c.names.all;
+      drawn = c.drawn.items;
+      undrawn = reverse (map bytes_of c.undrawn.items);
+    } };
 
     ghost invariant = { λ c. AreUndrawn (length c.drawn.items) c.names.all c.undrawn.items
         × (length c.drawn.items + length c.undrawn.items ≤ vec_capacity c.drawn) };
@@ -63,9 +67,13 @@ impl<'r> Chunks<'r> {
     pub(crate) fn draw(&mut self, owner: u32, class: Class) -> Option<Part<'r>>
         ensures { MatchOption result
             ((length self.old.drawn ≡ length self.old.parts) × (self.new ≡ self.old))
-            (λ (p : Part). (p.chunk ≡ length self.old.drawn) × (slice_get self.old.parts p.chunk ≡ Some (name_of p)) × (length self.old.drawn < length self.old.parts)
+            (λ (p : Part). (p.chunk ≡ length self.old.drawn) × (slice_get self.old.parts p.chunk ≡ Some (name_of p))
+            × (length self.old.drawn < length self.old.parts)
             × (self.old.undrawn ≡ bytes_of p ∷ self.new.undrawn)
-            × (self.new ≡ record self.old { drawn = self.old.drawn ++ record { owner = owner; class = class } ∷ []; undrawn = self.new.undrawn })) }
+            × (self.new ≡ record self.old {
+              drawn = self.old.drawn ++ record { owner = owner; class = class } ∷ [];
+              undrawn = self.new.undrawn;
+            })) }
     {
         let part = self.undrawn.pop()?;
         self.drawn.push_reserved(DrawnChunk { owner, class });

@@ -1,6 +1,8 @@
 //! The floor.
-ghost use Rattle.std.specs.Prelude.{ℕ, List, [], ◌≡◌, ◌<◌, ◌≤◌, ◌^◌, ◌++◌, length, map, flat_map, is_some, count_by, IfOk, IfErr, OnErr, IsPermutation};
+ghost use Rattle.std.specs.Prelude.{ℕ, List, [], ◌≡◌, ◌<◌, ◌≤◌, ◌^◌, ◌++◌, length, map, flat_map, is_some, count_by};
+ghost use Rattle.std.specs.Prelude.{IfOk, IfErr, OnErr, IsPermutation};
 ghost use Rattle.region_cut.specs.Parts.{bytes_of};
+ghost use Rattle.digit_route.specs.Limits.{largest_limit};
 ghost use Rattle.slot_chain.specs.Counts.{capped};
 ghost use Rattle.slot_chain.specs.Slots.{slot_of};
 ghost use Rattle.pool_desk.specs.Homes.{slot_at};
@@ -49,9 +51,9 @@ impl<'r> Model for Floor<'r> {
 }
 
 impl<'r> Floor<'r> {
-    /// A floor of so many desks, all idle, over the parts that a cut gave of one region. The profile of `digits` says how many desks
-    /// there may be, 64 or 4,096, which classes are claimed and how large a request may be. A desk's cache is due where it has more
-    /// than `limit` bytes. After a want of memory the parts are given up.
+    /// A floor of so many desks, all idle, over the parts that a cut gave of one region. The profile of `digits` says
+    /// how many desks there may be, 64 or 4,096, which classes are claimed and how large a request may be. A desk's
+    /// cache is due where it has more than `limit` bytes. After a want of memory the parts are given up.
     pub fn new(
         alloc: Global,
         parts: Vec<Part<'r>>,
@@ -61,7 +63,7 @@ impl<'r> Floor<'r> {
     ) -> Result<Floor<'r>, NoMemory>
         requires some { 1 ≤ desks }
         requires few { desks ≤ 2 ^ digits.bits }
-        requires limit { limit ≤ 1048576 }
+        requires limit { limit ≤ largest_limit }
         requires parts { AreNumbered parts.items }
         ensures opening { IfOk result (λ f. f ≡ opening desks parts.entry.items digits limit) }
         ensures shows { IfOk result (λ f.
@@ -85,7 +87,7 @@ impl<'r> Floor<'r> {
     ) -> Result<Floor<'r>, Vec<Part<'r>>>
         requires some { 1 ≤ desks }
         requires few { desks ≤ 2 ^ digits.bits }
-        requires limit { limit ≤ 1048576 }
+        requires limit { limit ≤ largest_limit }
         requires parts { AreNumbered parts.items }
         ensures opening { IfOk result (λ f. f ≡ opening desks parts.entry.items digits limit) }
         ensures shows { IfOk result (λ f.
@@ -95,19 +97,15 @@ impl<'r> Floor<'r> {
         ensures back { IfErr result (λ back. back ≡ parts.entry) }
     {
         let _profile = digits.profile();
-        match Lists::new(alloc, parts, desks, digits, limit) {
-            Ok(lists) => {
-                lists.keeps();
-                Ok(Floor { lists })
-            }
-            Err(parts) => Err(parts),
-        }
+        let lists = Lists::new(alloc, parts, desks, digits, limit)?;
+        lists.keeps();
+        Ok(Floor { lists })
     }
 
-    /// Does what is asked, or refuses and changes nothing. Only `Alloc` and `Send` take memory. `Send` goes over the buffers of the
-    /// cache, and copies an inbox or the index of the batches that still have to be linked where that grows. `Take` goes over the
-    /// buffers of its batch. `Link` looks the number up by its hash, and then takes a time that grows with the logarithm of how many
-    /// batches wait in that inbox. All other requests take constant time.
+    /// Does what is asked, or refuses and changes nothing. Only `Alloc` and `Send` take memory. `Send` goes over the
+    /// buffers of the cache, and copies an inbox or the index of the batches that still have to be linked where that
+    /// grows. `Take` goes over the buffers of its batch. `Link` looks the number up by its hash, and then takes a time
+    /// that grows with the logarithm of how many batches wait in that inbox. All other requests take constant time.
     pub fn apply(&mut self, alloc: Global, request: Request) -> Result<Reply, Refusal>
         ensures applies { Applies self.old request result self.new }
         ensures named { IsNamed self.new }
@@ -134,8 +132,8 @@ impl<'r> Floor<'r> {
         answer
     }
 
-    /// Applies one request after the other, and gives the answers in order. The list of the answers is made first: where there is no
-    /// memory for it, nothing is applied.
+    /// Applies one request after the other, and gives the answers in order. The list of the answers is made first:
+    /// where there is no memory for it, nothing is applied.
     pub fn run(
         &mut self,
         alloc: Global,
@@ -159,8 +157,8 @@ impl<'r> Floor<'r> {
         Ok(answers)
     }
 
-    /// Ends the floor: all its buffers, cursors and parts are let go, and what is known of them afterwards tells what the region
-    /// holds. Takes a walk over all of them, and no memory.
+    /// Ends the floor: all its buffers, cursors and parts are let go, and what is known of them afterwards tells what
+    /// the region holds. Takes a walk over all of them, and no memory.
     pub fn end(self) -> Endings<'r>
         ensures known { EndsKnown self.entry result.known }
         ensures bytes { EndsAsHeld self.entry result.known }
@@ -199,7 +197,8 @@ impl<'r> Floor<'r> {
     /// The slots of all buffers that wait in the desk's inbox, linked or not, each as often as it is there.
     pub fn queued(&self, alloc: Global, a: u32) -> Result<Vec<Slot>, NoMemory>
         requires { a < desk_count self.now }
-        ensures { IfOk result (λ slots. IsPermutation (map slot_of (buffers_in (inbox_at self.now.inboxes a))) slots.items) }
+        ensures { IfOk result (λ slots.
+            IsPermutation (map slot_of (buffers_in (inbox_at self.now.inboxes a))) slots.items) }
     {
         self.lists.queued(alloc, a)
     }

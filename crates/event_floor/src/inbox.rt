@@ -1,10 +1,12 @@
 //! A desk's inbox.
-ghost use Rattle.std.specs.Prelude.{◌≡◌, ◌<◌, ◌≤◌, ℕ, ◌∷◌, ◌++◌, [], length, slice_index_or, slice_set, All, IfOk, OnErr, None, MatchOption, IsPermutation, map};
+ghost use Rattle.std.specs.Prelude.{◌≡◌, ◌<◌, ◌≤◌, ℕ, ◌∷◌, ◌++◌, [], length, slice_index_or, slice_set, All, IfOk};
+ghost use Rattle.std.specs.Prelude.{OnErr, None, MatchOption, IsPermutation, map};
 ghost use Rattle.slot_chain.specs.Buffer.{ended_of};
 ghost use Rattle.slot_chain.specs.Counts.{capped};
 ghost use Rattle.digit_route.specs.Route.{RouteFault};
 ghost use Rattle.slot_chain.specs.Slots.{slot_of};
-ghost use Rattle.event_floor.specs.Posted.{BatchSeen, as_linked, no_batch, IsHalf, NumbersRise, buffers_in, HasNoFront, LeavesFront, SendsInto};
+ghost use Rattle.event_floor.specs.Posted.{BatchSeen, as_linked, no_batch, IsHalf, NumbersRise, buffers_in, HasNoFront};
+ghost use Rattle.event_floor.specs.Posted.{LeavesFront, SendsInto};
 
 use crate::queued_batch::QueuedBatch;
 use digit_route::Batch;
@@ -46,15 +48,16 @@ impl<'r> Inbox<'r> {
     // The place of the first batch whose number isn't below this one.
     fn place_of(&self, number: u32) -> usize
         ensures below { (k : ℕ) (d : BatchSeen) → k < result → (slice_index_or self.now k d).number < number }
-        ensures above { (k : ℕ) (d : BatchSeen) → result ≤ k → k < length self.now → number ≤ (slice_index_or self.now k d).number }
+        ensures above { (k : ℕ) (d : BatchSeen) → result ≤ k → k < length self.now
+            → number ≤ (slice_index_or self.now k d).number }
         ensures rising { NumbersRise self.now }
     {
         self.batches
             .partition_point(|queued| queued.number() < number)
     }
 
-    /// The place of the batch of this number, where it waits here and still has to be linked. The numbers rise along the inbox, so it
-    /// takes a time that grows with the logarithm of how many wait.
+    /// The place of the batch of this number, where it waits here and still has to be linked. The numbers rise along
+    /// the inbox, so it takes a time that grows with the logarithm of how many wait.
     pub(crate) fn find_half(&self, number: u32) -> Option<usize>
         ensures found { MatchOption result
             (All (λ (p : BatchSeen). IsHalf number p → ⊥) self.now)
@@ -76,8 +79,8 @@ impl<'r> Inbox<'r> {
         self.batches[place].link();
     }
 
-    /// Takes out of the desk's cache all that goes to `t`, and puts it behind all that waits here, as a batch of this number. Room for it
-    /// is made first, so a refusal changes nothing.
+    /// Takes out of the desk's cache all that goes to `t`, and puts it behind all that waits here, as a batch of this
+    /// number. Room for it is made first, so a refusal changes nothing.
     pub(crate) fn send(&mut self, desk: &mut Desk<'r>, t: u16, number: u32) -> Result<u64, NoMemory>
         requires routes { RouteFault desk.old.digits desk.old.number t desk.old.cached None }
         requires later { All (λ (p : BatchSeen). p.number < number) self.old }
@@ -99,7 +102,9 @@ impl<'r> Inbox<'r> {
 
     /// Takes the front, or None where there is none or it still has to be linked.
     pub(crate) fn take(&mut self) -> Option<Batch<'r>>
-        ensures { MatchOption result (HasNoFront self.old × (self.new ≡ self.old)) (λ b. LeavesFront b self.old self.new) }
+        ensures { MatchOption result
+            (HasNoFront self.old × (self.new ≡ self.old))
+            (λ b. LeavesFront b self.old self.new) }
     {
         match self.batches.front() {
             Some(front) => {
@@ -115,7 +120,9 @@ impl<'r> Inbox<'r> {
 
     /// Lets go all buffers that wait here.
     pub(crate) fn end(self, endings: &mut Endings<'r>)
-        ensures { endings.new ≡ record endings.old { known = map ended_of (buffers_in self.entry) ++ endings.old.known } }
+        ensures { endings.new ≡ record endings.old {
+          known = map ended_of (buffers_in self.entry) ++ endings.old.known;
+        } }
     {
         let Inbox { batches } = self;
         let mut batches = batches;

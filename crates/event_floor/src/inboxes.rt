@@ -1,10 +1,12 @@
 //! The inboxes of all desks.
-ghost use Rattle.std.specs.Prelude.{◌≡◌, ◌<◌, ℕ, [], ◌++◌, length, replicate, map, flat_map, All, IfOk, OnErr, None, MatchOption, MatchBool, IsPermutation};
+ghost use Rattle.std.specs.Prelude.{◌≡◌, ◌<◌, ℕ, [], ◌++◌, length, replicate, map, flat_map, All, IfOk, OnErr, None};
+ghost use Rattle.std.specs.Prelude.{MatchOption, MatchBool, IsPermutation};
 ghost use Rattle.slot_chain.specs.Buffer.{ended_of};
 ghost use Rattle.slot_chain.specs.Counts.{capped};
 ghost use Rattle.digit_route.specs.Route.{RouteFault};
 ghost use Rattle.slot_chain.specs.Slots.{slot_of};
-ghost use Rattle.event_floor.specs.Posted.{BatchSeen, inbox_at, buffers_in, IsHalf, IsHalfOf, SomePosted, NonePosted, HasNoFront, SendsTo, TakesFrom, LinksHalf};
+ghost use Rattle.event_floor.specs.Posted.{BatchSeen, inbox_at, buffers_in, IsHalf, IsHalfOf, SomePosted, NonePosted};
+ghost use Rattle.event_floor.specs.Posted.{HasNoFront, SendsTo, TakesFrom, LinksHalf};
 
 use crate::inbox::Inbox;
 use crate::unlinked::{Unlinked, UnlinkedIndex};
@@ -48,13 +50,14 @@ impl<'r> Inboxes<'r> {
         Ok(Inboxes { inboxes, unlinked })
     }
 
-    /// Takes out of the desk's cache all that goes to `t`, and puts it behind all that waits in the inbox of `t`, as a batch of this
-    /// number. A refusal changes nothing.
+    /// Takes out of the desk's cache all that goes to `t`, and puts it behind all that waits in the inbox of `t`, as a
+    /// batch of this number. A refusal changes nothing.
     pub(crate) fn send(&mut self, desk: &mut Desk<'r>, t: u16, number: u32) -> Result<u64, NoMemory>
         requires routes { RouteFault desk.old.digits desk.old.number t desk.old.cached None }
         requires sender { desk.old.number < length self.old }
         requires there { t < length self.old }
-        requires later { (b : ℕ) → b < length self.old → All (λ (p : BatchSeen). p.number < number) (inbox_at self.old b) }
+        requires later { (b : ℕ) → b < length self.old
+            → All (λ (p : BatchSeen). p.number < number) (inbox_at self.old b) }
         ensures sends { IfOk result (λ count. SendsTo desk.old t number count self.old desk.new self.new) }
         ensures refused { OnErr result (self.new ≡ self.old) }
         ensures refused_desk { OnErr result (desk.new ≡ desk.old) }
@@ -73,8 +76,8 @@ impl<'r> Inboxes<'r> {
         }
     }
 
-    /// Links the batch of this number, where it still has to be linked. The index tells the inbox, so it takes a time that grows with the
-    /// logarithm of how many wait there.
+    /// Links the batch of this number, where it still has to be linked. The index tells the inbox, so it takes a time
+    /// that grows with the logarithm of how many wait there.
     pub(crate) fn link(&mut self, number: u32) -> bool
         ensures { MatchBool result (LinksHalf number self.old self.new)
             (NonePosted (IsHalf number) self.old × (self.new ≡ self.old)) }
@@ -128,7 +131,9 @@ impl<'r> Inboxes<'r> {
 
 /// Lets go all buffers that wait in some inbox.
 pub(crate) fn end_inboxes<'r>(inboxes: Inboxes<'r>, endings: &mut Endings<'r>)
-    ensures { endings.new ≡ record endings.old { known = map ended_of (flat_map buffers_in inboxes.entry) ++ endings.old.known } }
+    ensures { endings.new ≡ record endings.old {
+      known = map ended_of (flat_map buffers_in inboxes.entry) ++ endings.old.known;
+    } }
 {
     let Inboxes {
         inboxes,

@@ -1,10 +1,12 @@
 //! The lent buffers, each found by the numbers of its slot.
-ghost use Rattle.std.specs.Prelude.{◌≡◌, ◌<◌, ◌≤◌, ◌*◌, ◌+◌, length, replicate, slice_set, IfOk, MatchOption, Some, None, is_some, map, ◌++◌};
+ghost use Rattle.std.specs.Prelude.{◌≡◌, ◌<◌, ◌≤◌, ◌*◌, ◌+◌, length, replicate, slice_set, IfOk, MatchOption, Some};
+ghost use Rattle.std.specs.Prelude.{None, is_some, map, ◌++◌};
 ghost use Rattle.std.specs.Option.{option_to_list};
 ghost use Rattle.slot_chain.specs.Buffer.{ended_of};
 ghost use Rattle.std.specs.Prelude.{count_by};
 ghost use Rattle.slot_chain.specs.Slots.{slot_of};
-ghost use Rattle.event_floor.specs.Lent.{lent_at, place_of, buffers_lent};
+ghost use Rattle.region_cut.specs.Limits.{chunk_limit};
+ghost use Rattle.event_floor.specs.Lent.{chunk_places, lent_at, place_of, buffers_lent};
 
 use region_cut::Slot;
 use region_cut::endings::Endings;
@@ -37,8 +39,8 @@ impl<'r> Model for Lent<'r> {
 impl<'r> Lent<'r> {
     /// A table for so many chunks, with no buffer.
     pub(crate) fn new(alloc: Global, chunks: usize) -> Result<Lent<'r>, NoMemory>
-        requires { chunks ≤ 1024 }
-        ensures { IfOk result (λ l. l ≡ replicate (256 * chunks) None) }
+        requires { chunks ≤ chunk_limit }
+        ensures { IfOk result (λ l. l ≡ replicate (chunk_places * chunks) None) }
     {
         let count = PLACES * chunks;
         let mut places = Vec::with_capacity(alloc, count)?;
@@ -51,7 +53,7 @@ impl<'r> Lent<'r> {
     /// Puts a lent buffer into the place of its slot.
     pub(crate) fn put(&mut self, buf: Buf<'r>)
         requires within { place_of buf.slot < length self.old }
-        requires index { buf.slot.index < 256 }
+        requires index { buf.slot.index < chunk_places }
         ensures { self.new ≡ slice_set self.old (place_of buf.entry.slot) (Some buf.entry) }
     {
         let slot = buf.slot();
@@ -64,7 +66,8 @@ impl<'r> Lent<'r> {
         ensures { MatchOption result
             ((lent_at self.old chunk index ≡ None) × (self.new ≡ self.old))
             (λ b. (lent_at self.old chunk index ≡ Some b) × (b.slot ≡ record { chunk = chunk; index = index })
-            × (index < 256) × (place_of b.slot < length self.old) × (self.new ≡ slice_set self.old (place_of b.slot) None)) }
+            × (index < chunk_places) × (place_of b.slot < length self.old)
+            × (self.new ≡ slice_set self.old (place_of b.slot) None)) }
     {
         let place = PLACES * chunk as usize + index as usize;
         if index as usize >= PLACES || place >= self.places.len() {
@@ -75,7 +78,9 @@ impl<'r> Lent<'r> {
 
     /// Lets go all lent buffers.
     pub(crate) fn end(self, endings: &mut Endings<'r>)
-        ensures { endings.new ≡ record endings.old { known = map ended_of (buffers_lent self.entry) ++ endings.old.known } }
+        ensures { endings.new ≡ record endings.old {
+          known = map ended_of (buffers_lent self.entry) ++ endings.old.known;
+        } }
     {
         let Lent { places } = self;
         let mut places = places;
@@ -107,7 +112,9 @@ impl<'r> Lent<'r> {
 
 // Lets go the buffer of a place, where one is there.
 fn end_place<'r>(place: Option<Buf<'r>>, endings: &mut Endings<'r>)
-    ensures { endings.new ≡ record endings.old { known = map ended_of (option_to_list place.entry) ++ endings.old.known } }
+    ensures { endings.new ≡ record endings.old {
+      known = map ended_of (option_to_list place.entry) ++ endings.old.known;
+    } }
 {
     if let Some(buf) = place {
         endings.close(buf.into_front());

@@ -1,7 +1,7 @@
 //! The floor: all desks of a pool over one region, driven one request at a time.
 //!
-//! It is the pool without threads: each request is one whole step, so a run of requests can be written down, repeated and
-//! checked. A request is accepted and answered, or it is refused by name and changes nothing.
+//! It is the pool without threads: each request is one whole step, so a run of requests can be written down, repeated
+//! and checked. A request is accepted and answered, or it is refused by name and changes nothing.
 #![tactic(auto)]
 
 mod answers;

@@ -1,7 +1,11 @@
 //! The lists of a floor.
 ghost use Rattle.std.specs.Prelude.{◌≡◌, ◌≤◌, ◌*◌, ◌^◌, [], replicate, None, IfOk, IfErr, OnErr};
+ghost use Rattle.region_cut.specs.Limits.{chunk_limit};
+ghost use Rattle.slot_chain.specs.Buffer.{owner_limit};
+ghost use Rattle.digit_route.specs.Limits.{largest_limit};
 ghost use Rattle.event_floor.specs.Chunks.{AreNumbered};
 ghost use Rattle.event_floor.specs.Floors.{desk_count, opening, IsFloor};
+ghost use Rattle.event_floor.specs.Lent.{chunk_places};
 ghost use Rattle.event_floor.specs.Seats.{new_desks};
 ghost use Rattle.event_floor.specs.Steps.{Does, Refuses};
 
@@ -67,13 +71,13 @@ impl<'r> EmptyLists<'r> {
         digits: Digits,
         limit: u64,
     ) -> Result<EmptyLists<'r>, NoMemory>
-        requires chunks { chunks ≤ 1024 }
+        requires chunks { chunks ≤ chunk_limit }
         requires few { desks ≤ 2 ^ digits.bits }
-        requires limit { limit ≤ 1048576 }
+        requires limit { limit ≤ largest_limit }
         ensures desks { IfOk result (λ empty. empty.desks.items ≡ new_desks digits limit desks) }
-        ensures lent { IfOk result (λ empty. empty.lent ≡ replicate (256 * chunks) None) }
+        ensures lent { IfOk result (λ empty. empty.lent ≡ replicate (chunk_places * chunks) None) }
         ensures inboxes { IfOk result (λ empty. empty.inboxes ≡ replicate desks []) }
-        ensures fewer { desks ≤ 4096 }
+        ensures fewer { desks ≤ owner_limit }
     {
         let _profile = digits.profile();
         Ok(EmptyLists {
@@ -95,7 +99,7 @@ impl<'r> Lists<'r> {
     ) -> Result<Lists<'r>, Vec<Part<'r>>>
         requires some { 1 ≤ desks }
         requires few { desks ≤ 2 ^ digits.bits }
-        requires limit { limit ≤ 1048576 }
+        requires limit { limit ≤ largest_limit }
         requires parts { AreNumbered parts.items }
         ensures opening { IfOk result (λ f. f ≡ opening desks parts.entry.items digits limit) }
         ensures back { IfErr result (λ back. back ≡ parts.entry) }
@@ -103,18 +107,16 @@ impl<'r> Lists<'r> {
         let Ok(empty) = EmptyLists::new(alloc, parts.len(), desks, digits, limit) else {
             return Err(parts);
         };
-        match Chunks::new(alloc, parts) {
-            Ok(chunks) => Ok(Lists {
-                digits,
-                limit,
-                desks: empty.desks,
-                chunks,
-                lent: empty.lent,
-                inboxes: empty.inboxes,
-                next: 1,
-            }),
-            Err(parts) => Err(parts),
-        }
+        let chunks = Chunks::new(alloc, parts)?;
+        Ok(Lists {
+            digits,
+            limit,
+            desks: empty.desks,
+            chunks,
+            lent: empty.lent,
+            inboxes: empty.inboxes,
+            next: 1,
+        })
     }
 
     /// Does what is asked, or refuses and changes nothing.

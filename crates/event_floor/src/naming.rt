@@ -3,8 +3,8 @@ ghost use Rattle.event_floor.specs.headline.Lying.{NamedBuffersLie, UnusedSlotsL
 
 use region_cut::laws::{slices_lie_in_order, slots_lie_at_their_ranges, slots_share_no_byte};
 
-/// When the borrow of a region ends, the slice of a buffer that has the name of its place is what the region holds at the range of
-/// its slot.
+/// When the borrow of a region ends, the slice of a buffer that has the name of its place is what the region holds at
+/// the range of its slot.
 pub fn named_buffers_lie_at_their_ranges()
     ensures { NamedBuffersLie }
 {

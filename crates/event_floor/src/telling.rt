@@ -58,7 +58,8 @@ impl<'r> Lists<'r> {
     /// The slots of all buffers that wait in the desk's inbox, linked or not, each as often as it is there.
     pub(crate) fn queued(&self, alloc: Global, a: u32) -> Result<Vec<Slot>, NoMemory>
         requires { a < desk_count self.now }
-        ensures { IfOk result (λ slots. IsPermutation (map slot_of (buffers_in (inbox_at self.now.inboxes a))) slots.items) }
+        ensures { IfOk result (λ slots.
+            IsPermutation (map slot_of (buffers_in (inbox_at self.now.inboxes a))) slots.items) }
     {
         self.inboxes.slots(alloc, a as usize)
     }

@@ -1,5 +1,6 @@
 //! An index of the batches that still have to be linked.
-ghost use Rattle.std.specs.Prelude.{◌≡◌, ◌≢◌, ◌<◌, ℕ, [], Some, None, nat_eq, OnOk, IfOk, OnErr, MatchBool, if◌then◌else◌};
+ghost use Rattle.std.specs.Prelude.{◌≡◌, ◌≢◌, ◌<◌, ℕ, [], Some, None, nat_eq, OnOk, IfOk, OnErr, MatchBool};
+ghost use Rattle.std.specs.Prelude.{if◌then◌else◌};
 ghost use Rattle.event_floor.specs.declared.unlinked.Unlinked.{Unlinked as EntrySeen};
 ghost use Rattle.event_floor.specs.Unlinked.{half_of};
 
@@ -15,7 +16,8 @@ pub(crate) struct Unlinked {
     pub(crate) inbox: u32,
 }
 
-/// The batches that still have to be linked, by number, and how many of them each desk sent. All its calls take constant time.
+/// The batches that still have to be linked, by number, and how many of them each desk sent. All its calls take
+/// constant time.
 #[derive(Drop)]
 pub(crate) struct UnlinkedIndex {
     by_number: HashMap<u32, Unlinked>,
@@ -53,7 +55,8 @@ impl UnlinkedIndex {
         requires sender { half.sender < self.old.desks }
         requires absent { half_of self.old number ≡ None }
         ensures desks { self.new.desks ≡ self.old.desks }
-        ensures adds { OnOk result ((n : ℕ) → half_of self.new n ≡ (if nat_eq number n then Some half else half_of self.old n)) }
+        ensures adds { OnOk result ((n : ℕ)
+            → half_of self.new n ≡ (if nat_eq number n then Some half else half_of self.old n)) }
         ensures refused { OnErr result (self.new ≡ self.old) }
     {
         // no desk sent more of them than there are, so its count has room for one more

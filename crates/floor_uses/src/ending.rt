@@ -29,8 +29,8 @@ pub struct Life {
     pub requests: Vec<Request>,
 }
 
-// A floor over the parts lives and is ended, or there was no memory for it. Either way the parts are let go, and joined in order they end
-// as they were.
+// A floor over the parts lives and is ended, or there was no memory for it. Either way the parts are let go, and joined
+// in order they end as they were.
 fn parts_live<'r>(alloc: Global, parts: Vec<Part<'r>>, life: Life) -> (Answers, Endings<'r>)
     requires some { 1 ≤ life.desks }
     requires few { life.desks ≤ 2 ^ life.digits.bits }
@@ -55,8 +55,8 @@ fn parts_live<'r>(alloc: Global, parts: Vec<Part<'r>>, life: Life) -> (Answers, 
     }
 }
 
-/// A floor of so many desks lives over the region, whatever is asked of it, and is ended. Then the region is let go, and it is known
-/// that it ends as it began, byte by byte, also where there was no memory for the floor.
+/// A floor of so many desks lives over the region, whatever is asked of it, and is ended. Then the region is let go,
+/// and it is known that it ends as it began, byte by byte, also where there was no memory for the floor.
 pub fn lives<'r>(alloc: Global, region: &'r mut [u8], life: Life) -> (Answers, Endings<'r>)
     requires some { 1 ≤ life.desks }
     requires few { life.desks ≤ 2 ^ life.digits.bits }
@@ -98,8 +98,8 @@ fn ended<'r>(
     None
 }
 
-/// The same, for a caller that goes on with its region: it holds what it held, byte by byte, whatever was asked of the floor, and also
-/// where there was no memory for it.
+/// The same, for a caller that goes on with its region: it holds what it held, byte by byte, whatever was asked of the
+/// floor, and also where there was no memory for it.
 pub fn leaves_as_it_was(alloc: Global, region: &mut [u8], life: Life)
     requires some { 1 ≤ life.desks }
     requires few { life.desks ≤ 2 ^ life.digits.bits }

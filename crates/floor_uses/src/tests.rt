@@ -1,5 +1,5 @@
-//! What no contract says: which slot comes next, that requests succeed where there is memory, and runs whose answers are
-//! known from outside. Class 0 has 256 slots of 16 bytes, class 2 has 85 of 48, class 15 has 8 of 512.
+//! What no contract says: which slot comes next, that requests succeed where there is memory, and runs whose answers
+//! are known from outside. Class 0 has 256 slots of 16 bytes, class 2 has 85 of 48, class 15 has 8 of 512.
 use crate::{ask, open};
 use digit_route::Digits;
 use event_floor::{Floor, Refusal, Reply, Request};
@@ -35,7 +35,8 @@ use slot;
 /// A desk's number, and how many slots it has at home, in its cache and in its inbox.
 type Closing = (u32, u64, u64, u64);
 
-/// How a floor is made: the profile, so many desks and chunks, digits of so many bits, and the limit of a cache in bytes.
+/// How a floor is made: the profile, so many desks and chunks, digits of so many bits, and the limit of a cache in
+/// bytes.
 #[derive(Clone, Copy)]
 struct Made {
     profile: Profile,

@@ -21,8 +21,8 @@ LieAt region s class bytes = StandsAt bytes (start_of s class) region
 abbrev pub RestLies : List ℕ → Carved → Type 0
 RestLies region c = StandsAt c.rest (CHUNK * c.chunk + length c.taken * size_of c.class) region
 
--- The floor holds the bytes of this region, each slot those of its range: each buffer, and each slot that was never handed out. What is
--- left of a drawn chunk, and the chunks that aren't drawn, are the region's too.
+-- The floor holds the bytes of this region, each slot those of its range: each buffer, and each slot that was never
+-- handed out. What is left of a drawn chunk, and the chunks that aren't drawn, are the region's too.
 pub record Holds (v : FloorSeen) (region : List ℕ) : Type 0 where
   pub buffers : All (λ (b : Buffer). LieAt region b.slot b.class b.bytes.now) (buffers_of v)
   pub fresh : All (λ (u : Unused). LieAt region u.slot u.class u.bytes) (fresh_of v)
@@ -37,8 +37,8 @@ IsSameSlice b c = (c.slot ≡ b.slot) × (c.class ≡ b.class) × (c.owner ≡ b
 abbrev pub IsKept : List Buffer → Buffer → Type 0
 IsKept olds b = Any (IsSameSlice b) olds ⊎ All (λ (c : Buffer). c.slot ≢ b.slot) olds
 
--- No byte is changed: each buffer is one of the old ones, or that of a slot that was never handed out, and the floor still holds the
--- bytes of whatever region it held.
+-- No byte is changed: each buffer is one of the old ones, or that of a slot that was never handed out, and the floor
+-- still holds the bytes of whatever region it held.
 pub record KeepsBytes (old new : FloorSeen) : Type 0 where
   pub buffers : All (IsKept (buffers_of old)) (buffers_of new)
   pub region : (region : List ℕ) → Holds old region → Holds new region

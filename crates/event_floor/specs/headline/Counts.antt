@@ -1,5 +1,6 @@
 -- What a floor's calls count is what the machine counts.
 use Rattle.std.specs.Prelude.{ℕ, ◌≡◌, ◌≤◌, length, count_by, is_some}
+use Rattle.region_cut.specs.Limits.{chunk_limit}
 use Rattle.region_cut.specs.declared.slot.Slot.{Slot}
 use Rattle.slot_chain.specs.Counts.{capped}
 use Rattle.event_floor.specs.Floors.{FloorSeen, desk_at}
@@ -20,4 +21,5 @@ pub record TellsCounts (v : FloorSeen) (st : State) : Type 0 where
 
 -- so it is of each state that a floor shows
 abbrev pub FloorsTellCounts : Type 0
-FloorsTellCounts = (v : FloorSeen) (st : State) (count : Slot → ℕ) → v.chunks ≤ 1024 → Shown (listing_of v) st count → TellsCounts v st
+FloorsTellCounts = (v : FloorSeen) (st : State) (count : Slot → ℕ) → v.chunks ≤ chunk_limit
+    → Shown (listing_of v) st count → TellsCounts v st

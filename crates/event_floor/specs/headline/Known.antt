@@ -37,17 +37,21 @@ fresh_of v = flat_map (λ s. fresh_in (home_of s)) v.desks
 abbrev pub undrawn_parts : FloorSeen → List GName
 undrawn_parts v = drop (length v.drawn) v.parts
 
--- a drawn chunk ends as the slots that were ever handed out of it, in order, and behind them as what was left of it, unchanged
+-- a drawn chunk ends as the slots that were ever handed out of it, in order, and behind them as what was left of it,
+-- unchanged
 abbrev pub EndsAsDrawn : List Ended → Carved → Type 0
 EndsAsDrawn known c = end_in known c.whole ≡ flat_map (end_in known) c.taken ++ c.rest
 
--- It is known what each part of the floor ends as, a whole chunk. Where a region begins with what they end as, in order, each buffer of
--- the floor stands at the range of its slot of the region, with the bytes that it has now, and so does each slot that was never handed
--- out: each slot of each drawn chunk. What was left of a drawn chunk ends as it is, and so does a part that isn't drawn.
+-- It is known what each part of the floor ends as, a whole chunk. Where a region begins with what they end as, in
+-- order, each buffer of the floor stands at the range of its slot of the region, with the bytes that it has now, and so
+-- does each slot that was never handed out: each slot of each drawn chunk. What was left of a drawn chunk ends as it
+-- is, and so does a part that isn't drawn.
 pub record EndsKnown (v : FloorSeen) (known : List Ended) : Type 0 where
   pub parts : All (IsKnown known) v.parts
   pub whole : All (λ x. length (end_in known x) ≡ CHUNK) v.parts
-  pub buffers : (tail : List ℕ) → All (λ (b : Buffer). StandsAt b.bytes.now (start_of b.slot b.class) (flat_map (end_in known) v.parts ++ tail)) (buffers_of v)
-  pub fresh : (tail : List ℕ) → All (λ (u : Unused). StandsAt u.bytes (start_of u.slot u.class) (flat_map (end_in known) v.parts ++ tail)) (fresh_of v)
+  pub buffers : (tail : List ℕ) → All (λ (b : Buffer). StandsAt b.bytes.now (start_of b.slot b.class)
+      (flat_map (end_in known) v.parts ++ tail)) (buffers_of v)
+  pub fresh : (tail : List ℕ) → All (λ (u : Unused). StandsAt u.bytes (start_of u.slot u.class)
+      (flat_map (end_in known) v.parts ++ tail)) (fresh_of v)
   pub drawn : All (EndsAsDrawn known) (flat_map chunks_of v.desks)
   pub undrawn : map (end_in known) (undrawn_parts v) ≡ v.undrawn

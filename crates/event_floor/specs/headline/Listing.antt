@@ -21,10 +21,20 @@ entry_at owner (Fresh u) = record { slot = u.slot; class = u.class; owner = owne
 
 abbrev pub desk_of : AnyDesk → DeskListing
 desk_of (Idle d) = record { worker = None; home = map (entry_at d.number) d.home; cache = [] }
-desk_of (Held d) = record { worker = Some d.worker; home = map (entry_at d.number) d.home; cache = map entry_of d.cached }
+desk_of (Held d) = record {
+  worker = Some d.worker;
+  home = map (entry_at d.number) d.home;
+  cache = map entry_of d.cached;
+}
 
 abbrev pub batch_of : BatchSeen → BatchListing
-batch_of p = record { number = p.number; sender = p.sender; address = p.address; linked = p.linked; buffers = map entry_of p.buffers }
+batch_of p = record {
+  number = p.number;
+  sender = p.sender;
+  address = p.address;
+  linked = p.linked;
+  buffers = map entry_of p.buffers;
+}
 
 abbrev pub listing_of : FloorSeen → Listing
 listing_of v = record {

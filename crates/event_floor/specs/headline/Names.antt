@@ -1,5 +1,6 @@
 -- The names by which the bytes of the slots are known when the region's borrow ends.
-use Rattle.std.specs.Prelude.{◌≡◌, ℕ, ◌+◌, ◌-◌, ◌*◌, ◌<◌, ◌≤◌, Bool, false, ◌==◌, List, length, slice_get, slice_index_or, count_by, Option, Some, None, IfSome, All}
+use Rattle.std.specs.Prelude.{◌≡◌, ℕ, ◌+◌, ◌-◌, ◌*◌, ◌<◌, ◌≤◌, Bool, false, ◌==◌, List, length, slice_get}
+use Rattle.std.specs.Prelude.{slice_index_or, count_by, Option, Some, None, IfSome, All}
 use Rattle.std.specs.Borrow.{GName}
 use Rattle.region_cut.specs.declared.TheConstants.{CHUNK}
 use Rattle.region_cut.specs.Carved.{Carved}
@@ -17,7 +18,8 @@ use Rattle.event_floor.specs.Seats.{home_of, cached_of}
 use Rattle.event_floor.specs.Floors.{FloorSeen, desk_at, desk_count}
 use Rattle.pool_machine.specs.Slots.{one_if}
 
--- the buffer of place i of a chunk has the i-th name that was taken of the chunk, the chunk's class, and as many bytes as the class says
+-- the buffer of place i of a chunk has the i-th name that was taken of the chunk, the chunk's class, and as many bytes
+-- as the class says
 pub record HasName (names : List Carved) (b : Buffer) : Type 0 where
   pub chunk : Carved
   pub is_chunk : slice_get names b.slot.chunk ≡ Some chunk
@@ -25,8 +27,8 @@ pub record HasName (names : List Carved) (b : Buffer) : Type 0 where
   pub name : slice_get chunk.taken b.slot.index ≡ Some b.bytes.ghost_name
   pub size : length b.bytes.now ≡ size_of b.class
 
--- a slot of a chunk that was never handed out: no name was taken for its place yet, and its bytes stand in what is left of the chunk,
--- behind those of the slots that are handed out before it
+-- a slot of a chunk that was never handed out: no name was taken for its place yet, and its bytes stand in what is left
+-- of the chunk, behind those of the slots that are handed out before it
 pub record HasNoName (names : List Carved) (u : Unused) : Type 0 where
   pub chunk : Carved
   pub is_chunk : slice_get names u.slot.chunk ≡ Some chunk
@@ -61,8 +63,8 @@ pub record IsNamedDesk (names : List Carved) (drawn : List DrawnChunk) (a : ℕ)
   pub same : All (λ (c : Carved). slice_get names c.chunk ≡ Some c) (chunks_of s)
   pub once : (k : ℕ) → count_by (λ (c : Carved). c.chunk == k) (chunks_of s) ≡ one_if (drew drawn a k)
 
--- chunk k was drawn for its class, over the part of its number; no more names were taken of it than it has slots, and what is left of it
--- are the bytes behind them
+-- chunk k was drawn for its class, over the part of its number; no more names were taken of it than it has slots, and
+-- what is left of it are the bytes behind them
 pub record IsNamedChunk (parts : List GName) (drawn : List DrawnChunk) (k : ℕ) (c : Carved) : Type 0 where
   pub number : c.chunk ≡ k
   pub class : class_drawn drawn k ≡ Some c.class
@@ -70,7 +72,8 @@ pub record IsNamedChunk (parts : List GName) (drawn : List DrawnChunk) (k : ℕ)
   pub few : length c.taken ≤ slots_of c.class
   pub whole : length c.taken * size_of c.class + length c.rest ≡ CHUNK
 
--- these are the drawn chunks of the floor in order, each with its part and the names taken of it, and all buffers have their names
+-- these are the drawn chunks of the floor in order, each with its part and the names taken of it, and all buffers have
+-- their names
 pub record AreNames (names : List Carved) (v : FloorSeen) : Type 0 where
   pub count : length names ≡ length v.drawn
   pub chunks : (k : ℕ) (c : Carved) → slice_get names k ≡ Some c → IsNamedChunk v.parts v.drawn k c

@@ -18,14 +18,15 @@ use Rattle.event_floor.specs.headline.Listing.{listing_of}
 
 -- the slots at home with desk a, those in its cache, and those of the batches that wait for it
 abbrev pub slots_with : FloorSeen → ℕ → List Slot
-slots_with v a = map slot_at (home_of (desk_at v a)) ++ (map slot_of (cached_of (desk_at v a)) ++ map slot_of (buffers_in (inbox_at v.inboxes a)))
+slots_with v a = map slot_at (home_of (desk_at v a)) ++ (map slot_of (cached_of (desk_at v a))
+    ++ map slot_of (buffers_in (inbox_at v.inboxes a)))
 
 -- the lent slots, and those with each desk
 abbrev pub slots_on : FloorSeen → List Slot
 slots_on v = map slot_of (buffers_lent v.lent) ++ flat_map (slots_with v) (range_with_len 0 (desk_count v))
 
--- What `Floor::home`, `cached`, `queued`, `lent` and `class_of` answer is the state's, and all these lists joined have each slot of a
--- drawn chunk once, and no other slot.
+-- What `Floor::home`, `cached`, `queued`, `lent` and `class_of` answer is the state's, and all these lists joined have
+-- each slot of a drawn chunk once, and no other slot.
 pub record ListsSlots (v : FloorSeen) (st : State) : Type 0 where
   pub home : (a : ℕ) → IsPermutation (map slot_at (home_of (desk_at v a))) (home_slots st a)
   pub cached : (a : ℕ) → IsPermutation (map slot_of (cached_of (desk_at v a))) (cached_slots st a)

@@ -1,5 +1,6 @@
 -- What is kept of a floor besides what its type says.
 use Rattle.std.specs.Prelude.{◌≡◌, ◌+◌, ◌≤◌, length, All}
+use Rattle.region_cut.specs.Limits.{chunk_limit}
 use Rattle.region_cut.specs.declared.TheConstants.{CHUNK}
 use Rattle.event_floor.specs.Lent.{AreInPlace}
 use Rattle.event_floor.specs.Floors.{FloorSeen, IsFloor}
@@ -8,9 +9,9 @@ use Rattle.event_floor.specs.Floors.{FloorSeen, IsFloor}
 abbrev pub IsStocked : FloorSeen → Type 0
 IsStocked v = (length v.parts ≡ length v.drawn + length v.undrawn) × All (λ bs. length bs ≡ CHUNK) v.undrawn
 
--- a floor of at most 1,024 chunks, whose lent buffers lie in the places of their slots
+-- a floor of no more chunks than a region has, whose lent buffers lie in the places of their slots
 pub record IsWhole (v : FloorSeen) : Type 0 where
   pub floor : IsFloor v.digits v.limit v.chunks v.desks v.lent v.inboxes v.next
   pub in_place : AreInPlace v.lent
-  pub few_chunks : v.chunks ≤ 1024
+  pub few_chunks : v.chunks ≤ chunk_limit
   pub stocked : IsStocked v

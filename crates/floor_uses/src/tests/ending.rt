@@ -26,7 +26,8 @@ const REQUESTS: [Request; 12] = [
     Request::Send(1, 0),
 ];
 
-/// The byte of a place. 251 is prime, so two neighbours differ, and so do the same places of two slots and of two chunks.
+/// The byte of a place. 251 is prime, so two neighbours differ, and so do the same places of two slots and of two
+/// chunks.
 fn byte_at(place: usize) -> u8 {
     (place % 251) as u8
 }

@@ -1,5 +1,5 @@
-//! Which way batches go. Desks 0, 7, 11 and 27 are read in digits of 2 bits as 0,0,0, 3,1,0, 3,2,0 and 3,2,1, the least digit
-//! first; in digits of 4 bits desks 17 and 33 are 1,1 and 1,2.
+//! Which way batches go. Desks 0, 7, 11 and 27 are read in digits of 2 bits as 0,0,0, 3,1,0, 3,2,0 and 3,2,1, the least
+//! digit first; in digits of 4 bits desks 17 and 33 are 1,1 and 1,2.
 use super::{Answer, Closing, Row, closes, is_answer, on_floor, plays, pool, slot};
 use event_floor::{Floor, Refusal, Reply, Request};
 use std::alloc::Global;

@@ -18,7 +18,7 @@ use Rattle.event_floor.proofs.floor.Floor.over.Goals as goal
 pub invariant_of-result : goal.invariant_of-result
 invariant_of-result c =
     let parts = c.args.parts.items in
-    let e : c.in-Ok.lists ≡ opening c.args.desks parts c.args.digits c.args.limit = c.in-Ok.ensures.opening in
+    let e : c.in_ok-lists.lists ≡ opening c.args.desks parts c.args.digits c.args.limit = c.in_ok-lists.ensures.opening in
     let few : length parts ≤ 1024 = numbered_few parts c.requires.parts in
     subst (λ (v : FloorSeen). IsWhole v × Shows v × IsNamed v) (sym e) (
       opening_whole c.args.desks parts c.args.digits c.args.limit few
@@ -27,15 +27,15 @@ invariant_of-result c =
       opening_named c.args.desks parts c.args.digits c.args.limit,
     )
 
-pub returns-in-Ok-clause-shows : goal.returns-in-Ok-clause-shows
-returns-in-Ok-clause-shows c =
+pub returns-clause-shows : goal.returns-clause-shows
+returns-clause-shows c =
     let parts = c.args.parts.items in
-    let e : c.in-Ok.lists ≡ opening c.args.desks parts c.args.digits c.args.limit = c.in-Ok.ensures.opening in
+    let e : c.in_ok-lists.lists ≡ opening c.args.desks parts c.args.digits c.args.limit = c.in_ok-lists.ensures.opening in
     subst (λ v. Shown (listing_of v) (machine_opening c.args.desks (length parts) c.args.digits c.args.limit) (λ slot. 0)) (sym e)
     (shows_opening c.args.desks parts c.args.digits c.args.limit c.profile-profile.ensures.scheme c.requires.few)
 
-pub returns-in-Ok-clause-bytes : goal.returns-in-Ok-clause-bytes
-returns-in-Ok-clause-bytes c tail =
+pub returns-clause-bytes : goal.returns-clause-bytes
+returns-clause-bytes c tail =
     let parts = c.args.parts.items in
-    let e : c.in-Ok.lists ≡ opening c.args.desks parts c.args.digits c.args.limit = c.in-Ok.ensures.opening in
+    let e : c.in_ok-lists.lists ≡ opening c.args.desks parts c.args.digits c.args.limit = c.in_ok-lists.ensures.opening in
     subst (λ v. Holds v (flat_map bytes_of parts ++ tail)) (sym e) (opening_holds c.args.desks parts c.args.digits c.args.limit tail)

@@ -12,5 +12,5 @@ pub invariant_of-result : goal.invariant_of-result
 invariant_of-result c =
     let parts : c.len.result ≡ length c.args.parts.items = omega (arith, c.len.ensures, c.args.parts.ok) in
     let empty = c.in-Ok.ensures in
-    rw (empty.lent, c.in-Ok-new.ensures.undrawn, empty.desks, empty.inboxes, parts, length-map c.args.parts.items name_of)
+    rw (empty.lent, c.in_ok-chunks.ensures.undrawn, empty.desks, empty.inboxes, parts, length-map c.args.parts.items name_of)
     (floor_settled (opening_is_floor _ _ _ _ c.requires.few empty.fewer))
