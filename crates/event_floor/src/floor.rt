@@ -1,17 +1,10 @@
 //! The floor.
-ghost use Rattle.std.specs.Prelude.{ℕ, List, [], ◌≡◌, ◌<◌, ◌≤◌, ◌^◌, ◌++◌, length, map, flat_map, is_some, count_by};
-ghost use Rattle.std.specs.Prelude.{IfOk, IfErr, OnErr, IsPermutation};
+ghost use Rattle.std.specs.Prelude.{ℕ, List, [], ◌≡◌, ◌≤◌, ◌^◌, ◌++◌, length, flat_map, IfOk, IfErr, OnErr};
 ghost use Rattle.region_cut.specs.Parts.{bytes_of};
 ghost use Rattle.digit_route.specs.Limits.{largest_limit};
-ghost use Rattle.slot_chain.specs.Counts.{capped};
-ghost use Rattle.slot_chain.specs.Slots.{slot_of};
-ghost use Rattle.pool_desk.specs.Homes.{slot_at};
-ghost use Rattle.event_floor.specs.Chunks.{AreNumbered, class_drawn};
-ghost use Rattle.event_floor.specs.Floors.{desk_count, desk_at, opening};
-ghost use Rattle.event_floor.specs.Lent.{buffers_lent};
-ghost use Rattle.event_floor.specs.Posted.{buffers_in, inbox_at};
+ghost use Rattle.event_floor.specs.Chunks.{AreNumbered};
+ghost use Rattle.event_floor.specs.Floors.{desk_count, opening};
 ghost use Rattle.event_floor.specs.Steps.{Answers};
-ghost use Rattle.event_floor.specs.Seats.{home_of, cached_of};
 ghost use Rattle.event_floor.specs.headline.Bytes.{Holds, KeepsBytes, EndsAsHeld};
 ghost use Rattle.event_floor.specs.headline.Headline.{Applies, Headline, Shows};
 ghost use Rattle.event_floor.specs.headline.Known.{EndsKnown};
@@ -23,9 +16,9 @@ ghost use Rattle.pool_machine.specs.State.{opening as machine_opening};
 use crate::lists::Lists;
 use crate::{Refusal, Reply, Request};
 use digit_route::Digits;
+use region_cut::Part;
 use region_cut::endings::Endings;
 use region_cut::laws::{known_ends_stay, slices_lie_in_order, slots_lie_at_their_ranges};
-use region_cut::{Class, Part, Slot};
 use slot_chain::NoMemory;
 use std::alloc::Global;
 use std::marker::Model;
@@ -33,7 +26,7 @@ use std::marker::Model;
 /// All desks of a pool, the chunks that none of them drew, the lent buffers, and the batches that are on their way.
 #[derive(Drop)]
 pub struct Floor<'r> {
-    lists: Lists<'r>,
+    pub(crate) lists: Lists<'r>,
 }
 
 impl<'r> Model for Floor<'r> {
@@ -181,90 +174,5 @@ impl<'r> Floor<'r> {
         ensures named { IsNamed self.now }
     {
         let _lists = &self.lists;
-    }
-
-    /// How many slots the desk has at home, how many buffers are in its cache, and how many wait in its inbox, linked
-    /// or not; each at most the greatest `u64`. Takes a walk over them.
-    pub fn counts(&self, a: u32) -> (u64, u64, u64)
-        requires { a < desk_count self.now }
-        ensures home { result.0 ≡ capped (length (home_of (desk_at self.now a))) }
-        ensures cached { result.1 ≡ capped (length (cached_of (desk_at self.now a))) }
-        ensures queued { result.2 ≡ capped (length (buffers_in (inbox_at self.now.inboxes a))) }
-    {
-        self.lists.counts(a)
-    }
-
-    /// The slots of all buffers that wait in the desk's inbox, linked or not, each as often as it is there.
-    pub fn queued(&self, alloc: Global, a: u32) -> Result<Vec<Slot>, NoMemory>
-        requires { a < desk_count self.now }
-        ensures { IfOk result (λ slots.
-            IsPermutation (map slot_of (buffers_in (inbox_at self.now.inboxes a))) slots.items) }
-    {
-        self.lists.queued(alloc, a)
-    }
-
-    /// The slots of the lent buffers, in order. Takes time in the number of slots.
-    pub fn lent(&self, alloc: Global) -> Result<Vec<Slot>, NoMemory>
-        ensures { IfOk result (λ slots. slots.items ≡ map slot_of (buffers_lent self.now.lent)) }
-    {
-        self.lists.lent(alloc)
-    }
-
-    /// The slots that the desk has at home, each as often as it is there, in no order.
-    pub fn home(&self, alloc: Global, a: u32) -> Result<Vec<Slot>, NoMemory>
-        requires { a < desk_count self.now }
-        ensures { IfOk result (λ slots. IsPermutation (map slot_at (home_of (desk_at self.now a))) slots.items) }
-    {
-        self.lists.home(alloc, a)
-    }
-
-    /// The slots of the buffers in the desk's cache, each as often as it is there, in no order.
-    pub fn cached(&self, alloc: Global, a: u32) -> Result<Vec<Slot>, NoMemory>
-        requires { a < desk_count self.now }
-        ensures { IfOk result (λ slots. IsPermutation (map slot_of (cached_of (desk_at self.now a))) slots.items) }
-    {
-        self.lists.cached(alloc, a)
-    }
-
-    /// How many buffers are lent. Takes time in the number of slots.
-    pub fn lent_count(&self) -> u64
-        ensures { result ≡ count_by is_some self.now.lent }
-    {
-        self.lists.lent_count()
-    }
-
-    /// How many desks it has.
-    pub fn desk_count(&self) -> u32
-        ensures { result ≡ desk_count self.now }
-    {
-        self.lists.desk_count()
-    }
-
-    /// How many chunks are drawn.
-    pub fn drawn_count(&self) -> u64
-        ensures { result ≡ length self.now.drawn }
-    {
-        self.lists.drawn_count()
-    }
-
-    /// The class of a chunk, or None where it isn't drawn.
-    pub fn class_of(&self, chunk: u32) -> Option<Class>
-        ensures { result ≡ class_drawn self.now.drawn chunk }
-    {
-        self.lists.class_of(chunk)
-    }
-
-    /// How the numbers of its desks are read.
-    pub fn digits(&self) -> Digits
-        ensures { result ≡ self.now.digits }
-    {
-        self.lists.digits()
-    }
-
-    /// The bytes above which a desk's cache is due.
-    pub fn limit(&self) -> u64
-        ensures { result ≡ self.now.limit }
-    {
-        self.lists.limit()
     }
 }

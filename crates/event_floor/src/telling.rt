@@ -1,4 +1,4 @@
-//! What a floor's lists tell.
+//! What a floor tells of its lists.
 ghost use Rattle.std.specs.Prelude.{◌≡◌, ◌<◌, length, is_some, map, IfOk, IsPermutation};
 ghost use Rattle.std.specs.Prelude.{count_by};
 ghost use Rattle.slot_chain.specs.Counts.{capped};
@@ -10,106 +10,102 @@ ghost use Rattle.event_floor.specs.Lent.{buffers_lent};
 ghost use Rattle.event_floor.specs.Posted.{buffers_in, inbox_at};
 ghost use Rattle.event_floor.specs.Seats.{home_of, cached_of};
 
+use crate::Floor;
 use crate::any_desk::{AnyDesk, cached, home};
-use crate::lists::Lists;
 use digit_route::Digits;
 use region_cut::{Class, Slot};
 use slot_chain::NoMemory;
 use std::alloc::Global;
 
-impl<'r> Lists<'r> {
+impl<'r> Floor<'r> {
     /// How many slots the desk has at home, how many buffers are in its cache, and how many wait in its inbox, linked
     /// or not; each at most the greatest `u64`. Takes a walk over them.
-    pub(crate) fn counts(&self, a: u32) -> (u64, u64, u64)
+    pub fn counts(&self, a: u32) -> (u64, u64, u64)
         requires { a < desk_count self.now }
         ensures home { result.0 ≡ capped (length (home_of (desk_at self.now a))) }
         ensures cached { result.1 ≡ capped (length (cached_of (desk_at self.now a))) }
         ensures queued { result.2 ≡ capped (length (buffers_in (inbox_at self.now.inboxes a))) }
     {
-        let queued = self.inboxes.count(a as usize);
-        match &self.desks[a as usize] {
-            AnyDesk::Idle(desk) => {
-                let (home, cached) = desk.counts();
-                (home, cached, queued)
-            }
-            AnyDesk::Held(desk) => {
-                let (home, cached) = desk.counts();
-                (home, cached, queued)
-            }
-        }
-    }
-
-    /// The slots that the desk has at home, each as often as it is there, in no order.
-    pub(crate) fn home(&self, alloc: Global, a: u32) -> Result<Vec<Slot>, NoMemory>
-        requires { a < desk_count self.now }
-        ensures { IfOk result (λ slots. IsPermutation (map slot_at (home_of (desk_at self.now a))) slots.items) }
-    {
-        home(&self.desks[a as usize], alloc)
-    }
-
-    /// The slots of the buffers in the desk's cache, each as often as it is there, in no order.
-    pub(crate) fn cached(&self, alloc: Global, a: u32) -> Result<Vec<Slot>, NoMemory>
-        requires { a < desk_count self.now }
-        ensures { IfOk result (λ slots. IsPermutation (map slot_of (cached_of (desk_at self.now a))) slots.items) }
-    {
-        cached(&self.desks[a as usize], alloc)
+        let lists = &self.lists;
+        let queued = lists.inboxes.count(a as usize);
+        let (home, cached) = match &lists.desks[a as usize] {
+            AnyDesk::Idle(desk) => desk.counts(),
+            AnyDesk::Held(desk) => desk.counts(),
+        };
+        (home, cached, queued)
     }
 
     /// The slots of all buffers that wait in the desk's inbox, linked or not, each as often as it is there.
-    pub(crate) fn queued(&self, alloc: Global, a: u32) -> Result<Vec<Slot>, NoMemory>
+    pub fn queued(&self, alloc: Global, a: u32) -> Result<Vec<Slot>, NoMemory>
         requires { a < desk_count self.now }
         ensures { IfOk result (λ slots.
             IsPermutation (map slot_of (buffers_in (inbox_at self.now.inboxes a))) slots.items) }
     {
-        self.inboxes.slots(alloc, a as usize)
+        self.lists.inboxes.slots(alloc, a as usize)
     }
 
     /// The slots of the lent buffers, in order. Takes time in the number of slots.
-    pub(crate) fn lent(&self, alloc: Global) -> Result<Vec<Slot>, NoMemory>
+    pub fn lent(&self, alloc: Global) -> Result<Vec<Slot>, NoMemory>
         ensures { IfOk result (λ slots. slots.items ≡ map slot_of (buffers_lent self.now.lent)) }
     {
-        self.lent.slots(alloc)
+        self.lists.lent.slots(alloc)
+    }
+
+    /// The slots that the desk has at home, each as often as it is there, in no order.
+    pub fn home(&self, alloc: Global, a: u32) -> Result<Vec<Slot>, NoMemory>
+        requires { a < desk_count self.now }
+        ensures { IfOk result (λ slots. IsPermutation (map slot_at (home_of (desk_at self.now a))) slots.items) }
+    {
+        home(&self.lists.desks[a as usize], alloc)
+    }
+
+    /// The slots of the buffers in the desk's cache, each as often as it is there, in no order.
+    pub fn cached(&self, alloc: Global, a: u32) -> Result<Vec<Slot>, NoMemory>
+        requires { a < desk_count self.now }
+        ensures { IfOk result (λ slots. IsPermutation (map slot_of (cached_of (desk_at self.now a))) slots.items) }
+    {
+        cached(&self.lists.desks[a as usize], alloc)
     }
 
     /// How many buffers are lent. Takes time in the number of slots.
-    pub(crate) fn lent_count(&self) -> u64
+    pub fn lent_count(&self) -> u64
         ensures { result ≡ count_by is_some self.now.lent }
     {
-        self.lent.count()
+        self.lists.lent.count()
     }
 
     /// How many desks it has.
-    pub(crate) fn desk_count(&self) -> u32
+    pub fn desk_count(&self) -> u32
         ensures { result ≡ desk_count self.now }
     {
-        self.desks.len() as u32
+        self.lists.desks.len() as u32
     }
 
     /// How many chunks are drawn.
-    pub(crate) fn drawn_count(&self) -> u64
+    pub fn drawn_count(&self) -> u64
         ensures { result ≡ length self.now.drawn }
     {
-        self.chunks.drawn_count()
+        self.lists.chunks.drawn_count()
     }
 
     /// The class of a chunk, or None where it isn't drawn.
-    pub(crate) fn class_of(&self, chunk: u32) -> Option<Class>
+    pub fn class_of(&self, chunk: u32) -> Option<Class>
         ensures { result ≡ class_drawn self.now.drawn chunk }
     {
-        self.chunks.class_of(chunk)
+        self.lists.chunks.class_of(chunk)
     }
 
     /// How the numbers of its desks are read.
-    pub(crate) fn digits(&self) -> Digits
+    pub fn digits(&self) -> Digits
         ensures { result ≡ self.now.digits }
     {
-        self.digits
+        self.lists.digits
     }
 
     /// The bytes above which a desk's cache is due.
-    pub(crate) fn limit(&self) -> u64
+    pub fn limit(&self) -> u64
         ensures { result ≡ self.now.limit }
     {
-        self.limit
+        self.lists.limit
     }
 }
