@@ -1,5 +1,5 @@
 -- A region of which all parts are let go ends as it began.
-use Rattle.std.proofs.Common.{◌≡◌, ℕ, ◌*◌, List, [], ◌∷◌, ◌++◌, flat_map, length, map, take, drop, All, refl, sym, ap, ◌∙◌, subst, arith}
+use Rattle.std.proofs.Common.{◌≡◌, ℕ, ◌*◌, List, [], ◌∷◌, ◌++◌, flat_map, length, map, drop, All, refl, sym, ap, ◌∙◌, subst, arith}
 use Rattle.std.specs.Borrow.{GName}
 use Rattle.std.specs.List.{Contains}
 use Rattle.std.proofs.Math.Nat.{suc-mul}

@@ -1,7 +1,5 @@
-use Rattle.std.proofs.Common.{◌≡◌, List, [], ◌∷◌, ◌++◌, ◌*◌, All, flat_map, map, drop, length, refl, sym, ap, ◌∙◌, subst}
+use Rattle.std.proofs.Common.{◌≡◌, List, ◌∷◌, ◌++◌, ◌*◌, All, flat_map, map, drop, length, sym, ap, ◌∙◌, subst}
 use Rattle.std.specs.Borrow.{GName}
-use Rattle.std.proofs.lemmas.List.{length-map}
-use Rattle.std.proofs.lemmas.List.Elements.{All-nil}
 use Rattle.region_cut.specs.declared.TheConstants.{CHUNK}
 use Rattle.region_cut.specs.Cuts.{names_in, IsCut}
 use Rattle.region_cut.specs.Endings.{Ended, EndingsState, IsKnown, end_in}

@@ -1,8 +1,7 @@
-use Rattle.std.proofs.Common.{◌≡◌, List, [], ◌∷◌, ◌++◌, map, flat_map, length, All, sym, ap, ◌∙◌, subst}
+use Rattle.std.proofs.Common.{◌≡◌, List, ◌++◌, map, flat_map, length, All, sym, ap, ◌∙◌, subst}
 use Rattle.std.specs.Borrow.{GName}
 use Rattle.std.proofs.lemmas.List.{append-nil}
 use Rattle.region_cut.specs.declared.TheConstants.{CHUNK}
-use Rattle.region_cut.specs.declared.part.Part.{Part}
 use Rattle.region_cut.specs.Endings.{Ended, EndingsState, IsKnown, Agrees, end_in}
 use Rattle.region_cut.specs.Laws.{StandsAt}
 use Rattle.region_cut.specs.Parts.{name_of, bytes_of}
