@@ -10,3 +10,4 @@ pub mod Gathers
 pub mod Accounting
 pub mod Opens
 pub mod NewBoxes
+pub mod Travels

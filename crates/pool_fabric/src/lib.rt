@@ -37,6 +37,7 @@ pub use found::{Found, GatherError, gather};
 pub use held::HeldStation;
 pub use ledger::{Ledger, Page};
 pub use listing::account;
+pub use named::Named;
 pub use naming::Naming;
 pub use new_mail::NewMail;
 pub use notes::Notes;

@@ -5,7 +5,7 @@ use std::marker::{Model, PhantomData};
 
 /// What carries the name `J`. It owns nothing, so it goes to any thread, whatever `J` is.
 #[derive(Drop)]
-pub(crate) struct Named<J> {
+pub struct Named<J> {
     of: PhantomData<J>,
 }
 
@@ -20,7 +20,7 @@ unsafe impl<J> Sync for Named<J> {}
 
 impl<J> Named<J> {
     /// It takes no memory.
-    pub(crate) fn new() -> Named<J> {
+    pub fn new() -> Named<J> {
         Named { of: PhantomData }
     }
 }
