@@ -1,5 +1,6 @@
 //! The inbox.
-ghost use Rattle.std.specs.Prelude.{◌≡◌, ℕ, ◌≤◌, [], ◌∷◌, ◌++◌, length, Some, slice_get, IfOk, IfErr, IfNone, MatchResult, MatchOption};
+ghost use Rattle.std.specs.Prelude.{◌≡◌, ℕ, ◌≤◌, [], ◌∷◌, ◌++◌};
+ghost use Rattle.std.specs.Prelude.{length, Some, slice_get, IfOk, IfErr, IfNone, MatchResult, MatchOption};
 ghost use Rattle.crossbeam_queue.specs.Fifo.{Learns};
 ghost use Rattle.batch_inbox.specs.Order.{IsInOrder};
 ghost use Rattle.batch_inbox.specs.States.{SendState, AreSeatsOf, AreNew, left, view_of};

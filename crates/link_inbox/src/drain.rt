@@ -1,5 +1,6 @@
 //! How an inbox is ended.
-ghost use Rattle.std.specs.Prelude.{◌≡◌, ◌*◌, ◌+◌, ◌%◌, ◌<◌, ◌≤◌, ◌++◌, [], ℕ, length, map, Some, slice_get, slice_index_or};
+ghost use Rattle.std.specs.Prelude.{◌≡◌, ◌*◌, ◌+◌, ◌%◌, ◌<◌, ◌≤◌, ◌++◌, [], ℕ};
+ghost use Rattle.std.specs.Prelude.{length, map, Some, slice_get, slice_index_or};
 ghost use Rattle.batch_inbox.specs.States.{left};
 ghost use Rattle.batch_inbox.specs.Views.{batches_of};
 ghost use Rattle.link_inbox.specs.States.{SendState, AreSeatsOf, inbox_of};

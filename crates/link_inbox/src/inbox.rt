@@ -1,5 +1,6 @@
 //! The inbox.
-ghost use Rattle.std.specs.Prelude.{◌≡◌, ℕ, ◌≤◌, [], ◌∷◌, ◌++◌, length, Some, None, IfOk, IfErr, MatchResult, MatchOption};
+ghost use Rattle.std.specs.Prelude.{◌≡◌, ℕ, ◌≤◌, [], ◌∷◌, ◌++◌};
+ghost use Rattle.std.specs.Prelude.{length, Some, None, IfOk, IfErr, MatchResult, MatchOption};
 ghost use Rattle.batch_inbox.specs.Views.{place_of};
 ghost use Rattle.batch_inbox.specs.declared.error.PostError.TheVariants.{NoNode};
 ghost use Rattle.link_inbox.specs.States.{AreSeatsOf, AreNew, AreAtRest};
