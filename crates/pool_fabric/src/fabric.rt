@@ -1,5 +1,5 @@
 //! What all workers share.
-ghost use Rattle.std.specs.Prelude.{◌≡◌, ◌<◌, [], ◌++◌, map, length, MatchResult};
+ghost use Rattle.std.specs.Prelude.{◌≡◌, ◌<◌, [], ◌++◌, map, length, IfErr, MatchResult};
 ghost use Rattle.pool_fabric.specs.Names.{box_at};
 ghost use Rattle.pool_fabric.specs.Seats.{seat_of, AreSeatsBy, AreBoxes};
 ghost use Rattle.pool_fabric.specs.Posts.{Posts, TakesSome, sent_at};
@@ -47,7 +47,9 @@ impl<'r, T: Receiver, S: Sender, M: Mail<'r, TakeSeat = T, SendSeat = S>, J: Nam
         &self,
         rt: &R,
         station: Station<'r, T, S, J>,
-    ) -> Result<(), Station<'r, T, S, J>> {
+    ) -> Result<(), Station<'r, T, S, J>>
+        ensures { IfErr result (λ s. s ≡ station.entry) }
+    {
         self.shelf.lock(rt).put(station)
     }
 

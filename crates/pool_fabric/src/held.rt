@@ -53,9 +53,11 @@ impl<'r, T: Receiver, S: Sender, J: Naming> Model for HeldStation<'r, T, S, J> {
 }
 
 impl<'r, T: Receiver, S: Sender, J: Naming> HeldStation<'r, T, S, J> {
-    /// The desk's number.
+    /// The desk's number, which is one of the fabric's profile.
     pub fn number(&self) -> u16
-        ensures { result ≡ self.now.desk.number }
+        ensures value { result ≡ self.now.desk.number }
+        ensures in_range { self.now.desk.number < 2 ^ J.names.digits.bits }
+        ensures digits { self.now.desk.digits ≡ J.names.digits }
     {
         self.desk.number()
     }

@@ -48,6 +48,15 @@ impl<'r, M: Mailbox, T: Receiver, S: Sender> Model for Opening<'r, M, T, S> {
         o.boxes.columns.items o.book o.limit };
 }
 
+impl<'r, M: Mailbox, T: Receiver, S: Sender> Opening<'r, M, T, S> {
+    /// How many desks there are.
+    pub fn desks(&self) -> usize
+        ensures { result ≡ self.now.count }
+    {
+        self.boxes.inboxes.len()
+    }
+}
+
 impl<'r, T: Receiver, S: Sender, M: NewMail<T, S>> Opening<'r, M, T, S> {
     /// What a fabric of so many desks is made of, over the chunks of a region that was cut.
     ///
