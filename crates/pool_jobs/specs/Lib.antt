@@ -1,0 +1,4 @@
+pub mod Refusals
+pub mod Serving
+pub mod Ends
+pub mod Written

@@ -1,0 +1,46 @@
+-- What an allocator answers.
+use Rattle.std.specs.Prelude.{◌≡◌, ℕ, [], ◌∷◌, ◌++◌, All, Result, Ok, Err}
+use Rattle.region_cut.specs.Classes.{IsLeastFor, NoClassFor}
+use Rattle.slot_chain.specs.Buffer.{Buffer}
+use Rattle.digit_route.specs.Profiles.{profile_of}
+use Rattle.pool_desk.specs.Homes.{AtHome, class_at, IsUnused}
+use Rattle.pool_desk.specs.HomesState.{HasClass, LacksClass}
+use Rattle.pool_fabric.specs.Names.{Names}
+use Rattle.pool_fabric.specs.Stations.{StationState}
+use Rattle.pool_jobs.specs.declared.error.PoolError.{PoolError}
+use Rattle.pool_jobs.specs.declared.error.PoolError.TheVariants.{TooLarge, UsedUp, NoMemory}
+
+-- another state of the same desk's station, still of the fabric
+pub record SameDesk (names : Names) (old new : StationState) : Type 0 where
+  pub number : new.desk.number ≡ old.desk.number
+  pub digits : new.desk.digits ≡ names.digits
+
+-- no buffer was lent out or freed
+pub record Keeps (names : Names) (old new : StationState) : Type 0 where
+  pub desk : SameDesk names old new
+  pub lent : new.lent ≡ old.lent
+  pub freed : new.freed ≡ old.freed
+
+-- this buffer was lent out, and none was freed
+pub record LendsOut (names : Names) (old : StationState) (b : Buffer) (new : StationState) : Type 0 where
+  pub desk : SameDesk names old new
+  pub lent : new.lent ≡ old.lent ++ b ∷ []
+  pub freed : new.freed ≡ old.freed
+
+-- the least class of the pool that holds n bytes
+abbrev pub IsClassFor : Names → ℕ → ℕ → Type 0
+IsClassFor names n c = IsLeastFor (profile_of names.digits.bits) n c
+
+-- only slots of the class are at home that were never handed out
+abbrev pub HasOnlyUnused : ℕ → StationState → Type 0
+HasOnlyUnused c s =
+    HasClass c s.desk.home × All (λ (a : AtHome). class_at a ≡ c → IsUnused a) s.desk.home
+
+-- A buffer of the right class is lent out.
+-- Or none is: no class holds n bytes, or no slot of the class is at home, or each slot there wants memory.
+abbrev pub Serves : Names → StationState → ℕ → Result Buffer PoolError → StationState → Type 0
+Serves names old n (Ok b) new = IsClassFor names n b.class × LendsOut names old b new
+Serves names old n (Err TooLarge) new = NoClassFor (profile_of names.digits.bits) n × Keeps names old new
+Serves names old n (Err UsedUp) new =
+    ((c : ℕ) × IsClassFor names n c × LacksClass c new.desk.home) × Keeps names old new
+Serves names old n (Err NoMemory) new = ((c : ℕ) × IsClassFor names n c × HasOnlyUnused c new) × Keeps names old new

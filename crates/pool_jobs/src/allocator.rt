@@ -1,0 +1,255 @@
+//! The allocator that a worker holds.
+ghost use Rattle.std.specs.Prelude.{◌≡◌, [], ◌∷◌, ◌++◌, IfSome};
+ghost use Rattle.pool_desk.specs.HomesState.{LacksClass};
+ghost use Rattle.pool_jobs.specs.Serving.{IsClassFor, Keeps, SameDesk, Serves};
+
+use crate::buffer::Buffer;
+use crate::error::PoolError;
+use crate::gate::Gate;
+use crate::heap::Heap;
+use batch_inbox::{Mail, Mailbox, Receiver, Sender};
+use pool_desk::{DeskError, Freed};
+use pool_fabric::{Fabric, HeldStation, Naming};
+use region_cut::Class;
+use std::alloc::Global;
+use std::marker::Model;
+use std::sync::Wait;
+
+/// The allocator of one worker: a station of the fabric that all workers share.
+///
+/// Only [`Allocator::alloc`] of a slot that was never handed out takes memory, and posts may. A
+/// contract sees its station.
+#[must_use]
+#[derive(Drop)]
+pub struct Allocator<'a, 'r, M: Mailbox, T: Receiver, S: Sender, G: Gate, J: Naming> {
+    fabric: &'a Fabric<'r, M, T, S, J>,
+    gate: &'a G,
+    alloc: Global,
+    worker: u32,
+    calls: u64,
+    station: HeldStation<'r, T, S, J>,
+}
+
+impl<'a, 'r, M: Mailbox, T: Receiver, S: Sender, G: Gate, J: Naming> Model
+    for Allocator<'a, 'r, M, T, S, G, J> {
+    ghost use Rattle.pool_fabric.specs.Stations.{StationState};
+
+    ghost Value = { StationState };
+
+    ghost view = { λ a. a.station };
+}
+
+impl<
+    'a,
+    'r,
+    T: Receiver,
+    S: Sender,
+    M: Mail<'r, TakeSeat = T, SendSeat = S>,
+    G: Gate,
+    J: Naming,
+> Allocator<'a, 'r, M, T, S, G, J> {
+    // The number of the call that comes next.
+    fn next_call(&mut self) -> u64
+        ensures { self.new ≡ self.old }
+    {
+        self.calls = self.calls.saturating_add(1);
+        self.calls
+    }
+
+    // Asks the desk. The gate is told.
+    fn ask(&mut self, size: usize) -> Result<Buffer<'r, J>, PoolError>
+        ensures { Serves J.names self.old size result self.new }
+    {
+        let call = self.next_call();
+        self.gate.before(self.worker, call);
+        let answer = self.station.alloc(self.alloc, size);
+        self.gate.after(self.worker, call);
+        let _number = self.station.number();
+        match answer {
+            Ok(buf) => Ok(Buffer::new(buf)),
+            Err(DeskError::TooLarge) => Err(PoolError::TooLarge),
+            Err(DeskError::NeedChunk(_)) => Err(PoolError::UsedUp),
+            Err(DeskError::NoMemory) => Err(PoolError::NoMemory),
+            Err(_) => unreachable!(),
+        }
+    }
+
+    // Claims a part of the stock for the class, and asks again.
+    fn ask_after_claiming<R: Wait>(
+        &mut self,
+        rt: &R,
+        class: Class,
+        size: usize,
+    ) -> Result<Buffer<'r, J>, PoolError>
+        requires class { IsClassFor J.names size class }
+        requires needed { LacksClass class self.old.desk.home }
+        ensures { Serves J.names self.old size result self.new }
+    {
+        let _number = self.station.number();
+        if self.station.claim(rt, self.fabric, class) {
+            self.ask(size)
+        } else {
+            Err(PoolError::UsedUp)
+        }
+    }
+
+    // Takes what came in batches, and asks again, at last after a claim.
+    fn ask_after_taking<R: Wait>(
+        &mut self,
+        rt: &R,
+        class: Class,
+        size: usize,
+    ) -> Result<Buffer<'r, J>, PoolError>
+        requires class { IsClassFor J.names size class }
+        ensures { Serves J.names self.old size result self.new }
+    {
+        let _taken = self.station.take(rt, self.fabric);
+        match self.ask(size) {
+            Ok(buffer) => Ok(buffer),
+            Err(PoolError::UsedUp) => self.ask_after_claiming(rt, class, size),
+            Err(error) => Err(error),
+        }
+    }
+
+    /// Gives a buffer of at least `size` bytes. Nothing of it is cleared.
+    ///
+    /// It asks its desk, then takes at most 64 batches from its inbox and asks again, then claims a
+    /// chunk of the stock and asks again. It is [`PoolError::UsedUp`] only where the stock was empty
+    /// then; [`PoolError::NoMemory`] only where the system refused the memory for a new buffer.
+    pub fn alloc<R: Wait>(&mut self, rt: &R, size: usize) -> Result<Buffer<'r, J>, PoolError>
+        ensures { Serves J.names self.old size result self.new }
+    {
+        let _number = self.station.number();
+        let Some(class) = self.station.digits().profile().class_for(size) else {
+            return self.ask(size);
+        };
+        match self.ask(size) {
+            Ok(buffer) => Ok(buffer),
+            Err(PoolError::UsedUp) => self.ask_after_taking(rt, class, size),
+            Err(error) => Err(error),
+        }
+    }
+
+    /// Takes a buffer back, and posts all that is cached where that is due.
+    pub fn free<R: Wait>(&mut self, rt: &R, buffer: Buffer<'r, J>)
+        ensures desk { SameDesk J.names self.old self.new }
+        ensures lent { self.new.lent ≡ self.old.lent }
+        ensures freed { self.new.freed ≡ self.old.freed ++ buffer.entry ∷ [] }
+    {
+        let buf = buffer.into_buf();
+        let _number = self.station.number();
+        let call = self.next_call();
+        self.gate.before(self.worker, call);
+        let freed = self.station.free(buf);
+        self.gate.after(self.worker, call);
+        if let Freed::Due = freed {
+            self.station.post(rt, self.fabric);
+        }
+    }
+
+    /// Posts all that is cached and puts the station on the shelf. It comes back where a post was
+    /// refused, so that something is still cached, or where the shelf is full.
+    pub fn retire<R: Wait>(self, rt: &R) -> Option<HeldStation<'r, T, S, J>>
+        ensures { IfSome result (λ s. Keeps J.names self.entry s) }
+    {
+        let Allocator {
+            fabric,
+            gate: _,
+            alloc: _,
+            worker,
+            calls: _,
+            mut station,
+        } = self;
+        station.post(rt, fabric);
+        match station.retire() {
+            Ok(settled) => match fabric.put_back(rt, settled) {
+                Ok(()) => None,
+                Err(settled) => Some(settled.adopt(worker)),
+            },
+            Err(unsettled) => Some(unsettled),
+        }
+    }
+}
+
+/// One who is about to take up work at a fabric.
+#[derive(Drop)]
+pub struct Entrance<'a, 'r, M: Mailbox, T: Receiver, S: Sender, G: Gate, J: Naming> {
+    fabric: &'a Fabric<'r, M, T, S, J>,
+    gate: &'a G,
+    alloc: Global,
+    worker: u32,
+}
+
+impl<'a, 'r, M: Mailbox, T: Receiver, S: Sender, G: Gate, J: Naming> Entrance<
+    'a,
+    'r,
+    M,
+    T,
+    S,
+    G,
+    J,
+> {
+    /// The worker of this number, before the fabric.
+    pub fn new(
+        alloc: Global,
+        fabric: &'a Fabric<'r, M, T, S, J>,
+        gate: &'a G,
+        worker: u32,
+    ) -> Entrance<'a, 'r, M, T, S, G, J> {
+        Entrance {
+            fabric,
+            gate,
+            alloc,
+            worker,
+        }
+    }
+}
+
+impl<
+    'a,
+    'r,
+    T: Receiver,
+    S: Sender,
+    M: Mail<'r, TakeSeat = T, SendSeat = S>,
+    G: Gate,
+    J: Naming,
+> Entrance<'a, 'r, M, T, S, G, J> {
+    /// Takes a station off the shelf, or says that the shelf is empty.
+    pub fn enter<R: Wait>(self, rt: &R) -> Option<Allocator<'a, 'r, M, T, S, G, J>> {
+        let Entrance {
+            fabric,
+            gate,
+            alloc,
+            worker,
+        } = self;
+        let station = fabric.station(rt)?;
+        Some(Allocator {
+            fabric,
+            gate,
+            alloc,
+            worker,
+            calls: 0,
+            station: station.adopt(worker),
+        })
+    }
+}
+
+impl<
+    'a,
+    'r,
+    T: Receiver,
+    S: Sender,
+    M: Mail<'r, TakeSeat = T, SendSeat = S>,
+    G: Gate,
+    J: Naming,
+> Heap for Allocator<'a, 'r, M, T, S, G, J> {
+    type Buffer = Buffer<'r, J>;
+
+    fn alloc<R: Wait>(&mut self, rt: &R, size: usize) -> Result<Buffer<'r, J>, PoolError> {
+        self.alloc(rt, size)
+    }
+
+    fn free<R: Wait>(&mut self, rt: &R, buffer: Buffer<'r, J>) {
+        self.free(rt, buffer);
+    }
+}

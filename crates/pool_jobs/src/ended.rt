@@ -1,0 +1,57 @@
+//! The end of all work.
+ghost use Rattle.std.specs.Prelude.{◌≡◌, IfOk};
+ghost use Rattle.pool_fabric.specs.Whole.{IsWhole};
+ghost use Rattle.pool_fabric.specs.Audited.{Audited};
+ghost use Rattle.pool_jobs.specs.Ends.{slots_found};
+
+use crate::error::JobError;
+use crate::tally::{Counts, Tally};
+use batch_inbox::{Mail, Receiver, Sender};
+use pool_fabric::{Fabric, Found, GatherError, HeldStation, Naming, account, gather};
+use std::alloc::Global;
+use std::sync::Wait;
+
+/// What there is when all workers have ended.
+#[derive(Drop)]
+pub struct Ended<'r> {
+    pub tally: Tally,
+    /// All that was found, of which the tally has the audit.
+    pub found: Found<'r>,
+}
+
+/// Gathers all that there is, once no thread holds a station any more, and audits it: the stations on
+/// the shelf, those that [`Allocator::retire`](crate::Allocator::retire) gave back, and what is left
+/// in every inbox.
+///
+/// Whatever the schedule was, nothing is lost and nothing is there twice. Where a station is missing
+/// the answer is [`JobError::NoThread`]. After an error all is given up.
+pub fn settle<
+    'r,
+    T: Receiver,
+    S: Sender,
+    M: Mail<'r, TakeSeat = T, SendSeat = S>,
+    J: Naming,
+    R: Wait,
+>(
+    rt: &R,
+    alloc: Global,
+    fabric: Fabric<'r, M, T, S, J>,
+    held: Vec<HeldStation<'r, T, S, J>>,
+    counts: Counts,
+) -> Result<Ended<'r>, JobError>
+    ensures whole { IfOk result (λ e. IsWhole e.found.desks.items e.found.batches.items e.found.lent.items
+        e.found.freed.items e.found.parts.items J.names.chunks) }
+    ensures audit { IfOk result (λ e. Audited (slots_found e.found.desks.items e.found.batches.items)
+        e.found.drawn e.tally.audit) }
+    ensures counts { IfOk result (λ e. e.tally.counts ≡ counts) }
+{
+    match gather(rt, alloc, fabric, held) {
+        Ok(found) => {
+            let audit = account(alloc, &[], &found.desks, &found.batches, &found.drawn);
+            let tally = Tally { counts, audit };
+            Ok(Ended { tally, found })
+        }
+        Err(GatherError::NoMemory) => Err(JobError::NoMemory),
+        Err(GatherError::Missing) => Err(JobError::NoThread),
+    }
+}

@@ -1,0 +1,55 @@
+//! Why there is no buffer, and why there is no tally.
+ghost use Rattle.std.specs.Prelude.{◌≡◌};
+ghost use Rattle.pool_jobs.specs.Refusals.{shortage_number, job_number};
+
+use thiserror::Error;
+
+/// Why an allocator gives no buffer.
+#[derive(Clone, Copy, Debug, PartialEq, Eq, Drop, Error)]
+pub enum PoolError {
+    /// No class is large enough.
+    #[error("too large")]
+    TooLarge,
+    /// No slot of the class is at home, none came in a batch, and every chunk is drawn.
+    #[error("the pool is used up")]
+    UsedUp,
+    /// The system refused the memory for a buffer that was never handed out before.
+    #[error("no memory")]
+    NoMemory,
+}
+
+impl PoolError {
+    /// Its number, from 1.
+    pub fn number(self) -> u32
+        ensures { result ≡ shortage_number self }
+    {
+        match self {
+            PoolError::TooLarge => 1,
+            PoolError::UsedUp => 2,
+            PoolError::NoMemory => 3,
+        }
+    }
+}
+
+/// Why workers gave no tally. What they had is then given up.
+#[derive(Clone, Copy, Debug, PartialEq, Eq, Drop, Error)]
+pub enum JobError {
+    /// Memory was refused, outside the pool.
+    #[error("no memory")]
+    NoMemory,
+    /// A thread couldn't be started, or a station didn't come back from one.
+    #[error("no thread")]
+    NoThread,
+}
+
+impl JobError {
+    /// Its number, from 1.
+    pub fn number(self) -> u32
+        ensures { result ≡ job_number self }
+    {
+        match self {
+            JobError::NoMemory => 1,
+            JobError::NoThread => 2,
+        }
+    }
+}

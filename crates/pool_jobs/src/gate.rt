@@ -1,0 +1,22 @@
+//! Who is told of each call.
+
+/// Told around each `alloc` and `free` of a worker's desk. The calls of a worker are numbered from 1.
+///
+/// A gate may hold a worker back. The worker holds no lock while it is told.
+pub trait Gate {
+    /// The call comes next.
+    fn before(&self, worker: u32, call: u64);
+
+    /// The call was answered.
+    fn after(&self, worker: u32, call: u64);
+}
+
+/// A gate that does nothing.
+#[derive(Clone, Copy, Debug)]
+pub struct NoGate;
+
+impl Gate for NoGate {
+    fn before(&self, _worker: u32, _call: u64) {}
+
+    fn after(&self, _worker: u32, _call: u64) {}
+}

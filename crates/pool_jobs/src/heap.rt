@@ -1,0 +1,41 @@
+//! What a worker sees of its allocator. These traits name no lifetime, so a thread may run over them.
+ghost use Rattle.std.specs.Prelude.{◌≡◌, ◌<◌, length};
+
+use crate::error::PoolError;
+use std::sync::Wait;
+
+/// A buffer whose bytes can be read and written.
+pub trait Bytes: Drop {
+    ghost use Rattle.std.specs.Prelude.{ℕ};
+
+    /// How many bytes it has.
+    ghost size: { Self → ℕ };
+
+    /// How many bytes it has.
+    fn len(&self) -> usize
+        ensures { result ≡ size self.now };
+
+    /// Its bytes.
+    fn bytes(&self) -> &[u8]
+        ensures { length result.now ≡ size self.now };
+
+    /// Writes one byte.
+    fn set(&mut self, at: usize, byte: u8)
+        requires { at < size self.old }
+        ensures { size self.new ≡ size self.old };
+
+    /// Writes each byte.
+    fn fill(&mut self, byte: u8)
+        ensures { size self.new ≡ size self.old };
+}
+
+/// An allocator in the hands of a worker.
+pub trait Heap: Drop {
+    type Buffer: Bytes;
+
+    /// A buffer of at least `size` bytes.
+    fn alloc<R: Wait>(&mut self, rt: &R, size: usize) -> Result<Self::Buffer, PoolError>;
+
+    /// Takes a buffer back, whichever allocator of the pool gave it.
+    fn free<R: Wait>(&mut self, rt: &R, buffer: Self::Buffer);
+}

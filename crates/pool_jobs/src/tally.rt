@@ -1,0 +1,56 @@
+//! What was counted.
+ghost use Rattle.std.specs.Prelude.{◌≡◌, ◌+◌};
+ghost use Rattle.slot_chain.specs.Counts.{capped};
+
+use trace_audit::Fault;
+
+/// What workers counted. Each count stops at the greatest `u64`.
+#[derive(Clone, Copy, Debug, PartialEq, Eq)]
+pub struct Counts {
+    /// The buffers that were allocated.
+    pub allocated: u64,
+    /// The calls of `free`.
+    pub freed: u64,
+    /// How often no buffer was to be had.
+    pub starved: u64,
+    /// The buffers that were dropped.
+    pub lost: u64,
+}
+
+impl Counts {
+    /// Nothing was counted.
+    pub fn none() -> Counts
+        ensures { result ≡ record { allocated = 0; freed = 0; starved = 0; lost = 0 } }
+    {
+        Counts {
+            allocated: 0,
+            freed: 0,
+            starved: 0,
+            lost: 0,
+        }
+    }
+
+    /// Both counts, added up.
+    pub fn plus(self, other: Counts) -> Counts
+        ensures { result ≡ record {
+          allocated = capped (self.allocated + other.allocated);
+          freed = capped (self.freed + other.freed);
+          starved = capped (self.starved + other.starved);
+          lost = capped (self.lost + other.lost);
+        } }
+    {
+        Counts {
+            allocated: self.allocated.saturating_add(other.allocated),
+            freed: self.freed.saturating_add(other.freed),
+            starved: self.starved.saturating_add(other.starved),
+            lost: self.lost.saturating_add(other.lost),
+        }
+    }
+}
+
+/// What all workers counted, and what the audit says of all that was found when they had ended.
+#[derive(Clone, Copy, Debug, PartialEq, Eq)]
+pub struct Tally {
+    pub counts: Counts,
+    pub audit: Result<(), Fault>,
+}
