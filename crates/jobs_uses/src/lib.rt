@@ -2,5 +2,7 @@
 #![tactic(auto)]
 
 mod alone;
+#[cfg(test)]
+mod tests;
 
 pub use alone::work_alone;
