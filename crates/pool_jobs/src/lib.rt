@@ -8,11 +8,18 @@
 
 mod allocator;
 mod buffer;
+mod client;
+mod crew;
 mod ended;
 mod error;
 mod gate;
+mod handing;
 mod heap;
+mod over_inbox;
+mod plan;
+mod rows;
 mod tally;
+mod workload;
 
 pub use allocator::{Allocator, Entrance};
 pub use buffer::Buffer;
@@ -20,4 +27,7 @@ pub use ended::{Ended, settle};
 pub use error::{JobError, PoolError};
 pub use gate::{Gate, NoGate};
 pub use heap::{Bytes, Heap};
+pub use over_inbox::work;
+pub use plan::{MOST_BUFFERS, MOST_ROUNDS, MOST_THREADS, Plan};
 pub use tally::{Counts, Tally};
+pub use workload::Workload;

@@ -1,0 +1,16 @@
+use denote.Exit.{no}
+use denote.Param.Send.{param_send, param_sync, arg_send}
+use mir.Syntax.{named}
+use Rattle.pool_fabric.proofs.Travels.{fabric_sync, inbox_sync, take_send, seat_send}
+use Rattle.pool_jobs.proofs.Travels.{applicant_send, done_send}
+use Rattle.pool_jobs.proofs.over_inbox.round_over.Goals as goal
+
+pub one_round-requires-send-S : goal.one_round-requires-send-S
+one_round-requires-send-S g c κs within =
+    param_send _ _ (arg_send _ no _ (applicant_send (record { mir = named 5; lft = _ }) (record { mir = named 6; lft = _ }) _ _ _ _ _ _ _ _ _ _
+    (fabric_sync (record { mir = named 6; lft = _ }) _ _ _ _ _ _ _ _ (inbox_sync (record { mir = named 6; lft = _ })) (take_send (record { mir = named 6; lft = _ })) (seat_send (record { mir = named 6; lft = _ })))
+    c.type_bounds.sync-G c.type_bounds.send-N))
+
+pub one_round-requires-send-S-Left : goal.one_round-requires-send-S-Left
+one_round-requires-send-S-Left g c κs within =
+    param_send _ _ (arg_send _ no _ (done_send (record { mir = named 6; lft = _ }) _ _ _ _ _ _ (take_send (record { mir = named 6; lft = _ })) (seat_send (record { mir = named 6; lft = _ }))))

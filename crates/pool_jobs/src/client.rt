@@ -1,0 +1,258 @@
+//! A worker of a workload.
+ghost use Rattle.std.specs.Prelude.{◌<◌};
+
+use crate::allocator::{Allocator, Entrance};
+use crate::buffer::Buffer;
+use crate::gate::Gate;
+use crate::handing::{Role, hand_over};
+use crate::rows::{Places, Round, replace};
+use crate::tally::Counts;
+use batch_inbox::{Mail, Mailbox, Receiver, Sender};
+use pool_fabric::{HeldStation, Naming};
+use rand_core::Rng;
+use std::sync::Wait;
+
+/// The greatest size that a workload asks for.
+const LARGEST: u32 = 512;
+
+/// One who is about to work in a thread. The trait names no lifetime, so a thread may own a value of
+/// it.
+pub(crate) trait Starter: Drop + Sized {
+    type Buffer: Drop;
+
+    type Left: Drop;
+
+    /// Takes up an allocator, where there is one, and hands buffers over by its role.
+    fn hand_over<R: Wait>(self, rt: &R, role: Role<Self::Buffer>, count: u32) -> Option<Self::Left>;
+
+    /// Takes up an allocator, where there is one, and replaces the buffers of a row.
+    fn replace<R: Wait>(
+        self,
+        rt: &R,
+        row: &mut Places<Self::Buffer>,
+        round: Round,
+    ) -> Option<Self::Left>;
+}
+
+/// One who works, with an allocator.
+pub(crate) trait Worker: Drop + Sized {
+    type Buffer: Drop;
+
+    type Left: Drop;
+
+    /// One of so many places.
+    fn pick(&mut self, places: u32) -> u32
+        requires { 0 < places }
+        ensures { result < places };
+
+    /// Allocates a buffer of the next size, with the worker's number in its first byte.
+    fn allocate<R: Wait>(&mut self, rt: &R) -> Option<Self::Buffer>;
+
+    /// Frees a buffer.
+    fn give_back<R: Wait>(&mut self, rt: &R, buffer: Self::Buffer);
+
+    /// Ends the work.
+    fn end<R: Wait>(self, rt: &R) -> Self::Left;
+}
+
+/// What a worker hands back: its station, where the shelf didn't take it, and its counts.
+#[derive(Drop)]
+pub(crate) struct Done<'r, T: Receiver, S: Sender, J: Naming> {
+    pub(crate) station: Option<HeldStation<'r, T, S, J>>,
+    pub(crate) counts: Counts,
+}
+
+/// One who is about to take up work, with the source of its sizes.
+#[derive(Drop)]
+pub(crate) struct Applicant<
+    'a,
+    'r,
+    M: Mailbox,
+    T: Receiver,
+    S: Sender,
+    G: Gate,
+    J: Naming,
+    N: Drop,
+> {
+    entrance: Entrance<'a, 'r, M, T, S, G, J>,
+    random: N,
+    worker: u32,
+    drops: bool,
+}
+
+impl<'a, 'r, M: Mailbox, T: Receiver, S: Sender, G: Gate, J: Naming, N: Drop> Applicant<
+    'a,
+    'r,
+    M,
+    T,
+    S,
+    G,
+    J,
+    N,
+> {
+    /// A worker that has no allocator yet. It drops its first buffer where `drops` says so.
+    pub(crate) fn new(
+        entrance: Entrance<'a, 'r, M, T, S, G, J>,
+        random: N,
+        worker: u32,
+        drops: bool,
+    ) -> Applicant<'a, 'r, M, T, S, G, J, N> {
+        Applicant {
+            entrance,
+            random,
+            worker,
+            drops,
+        }
+    }
+}
+
+impl<'a, 'r, T, S, M, G, J, N> Starter for Applicant<'a, 'r, M, T, S, G, J, N>
+where
+    T: Receiver,
+    S: Sender,
+    M: Mail<'r, TakeSeat = T, SendSeat = S>,
+    G: Gate,
+    J: Naming,
+    N: Rng + Drop,
+{
+    type Buffer = Buffer<'r, J>;
+
+    type Left = Done<'r, T, S, J>;
+
+    fn hand_over<R: Wait>(
+        self,
+        rt: &R,
+        role: Role<Buffer<'r, J>>,
+        count: u32,
+    ) -> Option<Done<'r, T, S, J>> {
+        let client = self.enter(rt)?;
+        Some(hand_over(rt, client, role, count))
+    }
+
+    fn replace<R: Wait>(
+        self,
+        rt: &R,
+        row: &mut Places<Buffer<'r, J>>,
+        round: Round,
+    ) -> Option<Done<'r, T, S, J>> {
+        let client = self.enter(rt)?;
+        Some(replace(rt, client, row, round))
+    }
+}
+
+impl<'a, 'r, T, S, M, G, J, N> Applicant<'a, 'r, M, T, S, G, J, N>
+where
+    T: Receiver,
+    S: Sender,
+    M: Mail<'r, TakeSeat = T, SendSeat = S>,
+    G: Gate,
+    J: Naming,
+    N: Drop,
+{
+    // Takes up an allocator, where there is one.
+    fn enter<R: Wait>(self, rt: &R) -> Option<Client<'a, 'r, M, T, S, G, J, N>> {
+        let Applicant {
+            entrance,
+            random,
+            worker,
+            drops,
+        } = self;
+        let allocator = entrance.enter(rt)?;
+        Some(Client {
+            allocator,
+            random,
+            worker,
+            drops,
+            counts: Counts::none(),
+        })
+    }
+}
+
+/// A worker of a workload, with the source of its sizes and what it counted.
+#[derive(Drop)]
+pub(crate) struct Client<'a, 'r, M: Mailbox, T: Receiver, S: Sender, G: Gate, J: Naming, N: Drop> {
+    allocator: Allocator<'a, 'r, M, T, S, G, J>,
+    random: N,
+    worker: u32,
+    drops: bool,
+    counts: Counts,
+}
+
+impl<'a, 'r, M: Mailbox, T: Receiver, S: Sender, G: Gate, J: Naming, N: Drop> Client<
+    'a,
+    'r,
+    M,
+    T,
+    S,
+    G,
+    J,
+    N,
+> {
+    // Counts a buffer and marks it, or drops it.
+    fn keep(&mut self, buffer: Buffer<'r, J>) -> Option<Buffer<'r, J>> {
+        self.counts.allocated = self.counts.allocated.saturating_add(1);
+        if self.drops {
+            self.drops = false;
+            self.counts.lost = self.counts.lost.saturating_add(1);
+            drop(buffer);
+            return None;
+        }
+        Some(marked(buffer, self.worker))
+    }
+}
+
+// Writes the low byte of the worker's number into the first byte.
+fn marked<'r, J: Naming>(buffer: Buffer<'r, J>, worker: u32) -> Buffer<'r, J> {
+    let mut buffer = buffer;
+    if buffer.len() > 0 {
+        buffer.set(0, (worker % 256) as u8);
+    }
+    buffer
+}
+
+impl<'a, 'r, T, S, M, G, J, N> Worker for Client<'a, 'r, M, T, S, G, J, N>
+where
+    T: Receiver,
+    S: Sender,
+    M: Mail<'r, TakeSeat = T, SendSeat = S>,
+    G: Gate,
+    J: Naming,
+    N: Rng + Drop,
+{
+    type Buffer = Buffer<'r, J>;
+
+    type Left = Done<'r, T, S, J>;
+
+    fn pick(&mut self, places: u32) -> u32 {
+        self.random.next_u32() % places
+    }
+
+    fn allocate<R: Wait>(&mut self, rt: &R) -> Option<Buffer<'r, J>> {
+        let size = 1 + self.random.next_u32() % LARGEST;
+        match self.allocator.alloc(rt, size as usize) {
+            Ok(buffer) => self.keep(buffer),
+            Err(_) => {
+                self.counts.starved = self.counts.starved.saturating_add(1);
+                None
+            }
+        }
+    }
+
+    fn give_back<R: Wait>(&mut self, rt: &R, buffer: Buffer<'r, J>) {
+        self.counts.freed = self.counts.freed.saturating_add(1);
+        self.allocator.free(rt, buffer);
+    }
+
+    fn end<R: Wait>(self, rt: &R) -> Done<'r, T, S, J> {
+        let Client {
+            allocator,
+            random,
+            worker: _,
+            drops: _,
+            counts,
+        } = self;
+        drop(random);
+        let station = allocator.retire(rt);
+        Done { station, counts }
+    }
+}

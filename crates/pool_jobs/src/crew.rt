@@ -1,0 +1,62 @@
+//! Jobs in threads of their own.
+use crate::error::JobError;
+use std::alloc::Global;
+use std::sync::Wait;
+use std::thread;
+use std::thread::{JoinHandle, Threads};
+
+/// What one thread does, and what its join gives.
+pub trait Job: Drop {
+    type Out: Drop;
+
+    fn run<R: Wait>(self, rt: &R) -> Self::Out;
+}
+
+/// Runs each job in a thread of its own, and gives what they gave, in order. All threads that were
+/// started have ended when the call returns; after an error what they gave is let go.
+pub fn crew<J: Job + Send, R: Threads + Wait + Sync>(
+    rt: &R,
+    alloc: Global,
+    jobs: Vec<J>,
+) -> Result<Vec<J::Out>, JobError>
+where
+    J::Out: Send,
+{
+    thread::scope(thread::scope_env(), rt, |scope| {
+        let mut handles = Vec::new(alloc);
+        let mut fault = None;
+        for job in jobs {
+            match scope.spawn(move || job.run(rt)) {
+                Ok(handle) => {
+                    if let Err(_full) = handles.push(handle) {
+                        fault = Some(JobError::NoMemory);
+                    }
+                }
+                Err(_refused) => {
+                    fault = Some(JobError::NoThread);
+                }
+            }
+        }
+        joined::<J, R>(rt, alloc, handles, fault)
+    })
+}
+
+// Joins all threads.
+fn joined<J: Job, R: Threads>(
+    rt: &R,
+    alloc: Global,
+    handles: Vec<JoinHandle<J::Out>>,
+    fault: Option<JobError>,
+) -> Result<Vec<J::Out>, JobError> {
+    let mut outs = Vec::new(alloc);
+    let mut fault = fault;
+    for handle in handles {
+        if outs.push(handle.join(rt)).is_err() {
+            fault = Some(JobError::NoMemory);
+        }
+    }
+    match fault {
+        Some(fault) => Err(fault),
+        None => Ok(outs),
+    }
+}

@@ -1,0 +1,184 @@
+//! Producers and consumers, and a ring.
+use crate::client::{Starter, Worker};
+use crate::crew::Job;
+use crate::error::JobError;
+use crate::rows::{Places, Spent};
+use crossbeam_channel::{Receiver, Sender};
+use std::alloc::Global;
+use std::sync::Wait;
+
+// What a worker does with its buffers.
+#[derive(Drop)]
+pub(crate) enum Role<B: Drop> {
+    // Hands each over.
+    Producer(Sender<B>),
+    // Frees what it receives.
+    Consumer(Receiver<B>),
+    // Hands each over, and then frees what it receives.
+    Neighbour(Sender<B>, Receiver<B>),
+    // Frees its own.
+    Alone,
+}
+
+/// A worker with its role.
+#[derive(Drop)]
+pub(crate) struct Turn<S: Starter> {
+    starter: S,
+    alloc: Global,
+    count: u32,
+    role: Role<S::Buffer>,
+}
+
+// Allocates, and hands each buffer over. What the channel doesn't take is freed.
+fn produce<W: Worker, R: Wait>(rt: &R, worker: &mut W, count: u32, to: &Sender<W::Buffer>) {
+    for _i in 0..count {
+        if let Some(buffer) = worker.allocate(rt) {
+            if let Err(refused) = to.send(rt, buffer) {
+                worker.give_back(rt, refused.into_inner());
+            }
+        }
+    }
+}
+
+// Frees what it receives, until the channel is closed.
+fn consume<W: Worker, R: Wait>(rt: &R, worker: &mut W, from: &Receiver<W::Buffer>) {
+    for _ in rt.forever() {
+        let Ok(buffer) = from.recv(rt) else {
+            break;
+        };
+        worker.give_back(rt, buffer);
+    }
+}
+
+// Allocates, and frees each buffer.
+fn work_alone<W: Worker, R: Wait>(rt: &R, worker: &mut W, count: u32) {
+    for _i in 0..count {
+        if let Some(buffer) = worker.allocate(rt) {
+            worker.give_back(rt, buffer);
+        }
+    }
+}
+
+/// Does what the role asks for. The ends of its channels are dropped with it.
+pub(crate) fn hand_over<W: Worker, R: Wait>(
+    rt: &R,
+    worker: W,
+    role: Role<W::Buffer>,
+    count: u32,
+) -> W::Left {
+    let mut worker = worker;
+    match role {
+        Role::Producer(to) => produce(rt, &mut worker, count, &to),
+        Role::Consumer(from) => consume(rt, &mut worker, &from),
+        Role::Neighbour(to, from) => {
+            produce(rt, &mut worker, count, &to);
+            drop(to);
+            consume(rt, &mut worker, &from);
+        }
+        Role::Alone => work_alone(rt, &mut worker, count),
+    }
+    worker.end(rt)
+}
+
+impl<S: Starter> Job for Turn<S> {
+    type Out = Spent<S>;
+
+    fn run<R: Wait>(self, rt: &R) -> Spent<S> {
+        let Turn {
+            starter,
+            alloc,
+            count,
+            role,
+        } = self;
+        Spent {
+            left: starter.hand_over(rt, role, count),
+            row: Places::none(alloc),
+        }
+    }
+}
+
+/// Gives each worker its role: two and two, a producer for each consumer.
+pub(crate) fn paired<S: Starter>(
+    alloc: Global,
+    starters: Vec<S>,
+    count: u32,
+) -> Result<Vec<Turn<S>>, JobError> {
+    let mut left = starters.len();
+    let mut turns = Vec::new(alloc);
+    let mut open: Option<Receiver<S::Buffer>> = None;
+    for starter in starters {
+        left = left.saturating_sub(1);
+        let role = match open {
+            Some(from) => {
+                open = None;
+                Role::Consumer(from)
+            }
+            None => {
+                open = None;
+                if left > 0 {
+                    let Ok((to, from)) = crossbeam_channel::unbounded(alloc) else {
+                        return Err(JobError::NoMemory);
+                    };
+                    open = Some(from);
+                    Role::Producer(to)
+                } else {
+                    Role::Alone
+                }
+            }
+        };
+        if turns
+            .push(Turn {
+                starter,
+                alloc,
+                count,
+                role,
+            })
+            .is_err()
+        {
+            return Err(JobError::NoMemory);
+        }
+    }
+    Ok(turns)
+}
+
+/// Gives each worker the sending end of its neighbour's channel, and the last that of the first.
+pub(crate) fn in_a_ring<S: Starter>(
+    alloc: Global,
+    starters: Vec<S>,
+    count: u32,
+) -> Result<Vec<Turn<S>>, JobError> {
+    let mut left = starters.len();
+    let mut turns = Vec::new(alloc);
+    let Ok((first, mut from)) = crossbeam_channel::unbounded(alloc) else {
+        return Err(JobError::NoMemory);
+    };
+    let mut first = Some(first);
+    for starter in starters {
+        left = left.saturating_sub(1);
+        let Ok((to, next)) = crossbeam_channel::unbounded(alloc) else {
+            return Err(JobError::NoMemory);
+        };
+        let to = if left > 0 {
+            to
+        } else {
+            match first.take() {
+                Some(first) => first,
+                None => to,
+            }
+        };
+        let role = Role::Neighbour(to, from);
+        from = next;
+        if turns
+            .push(Turn {
+                starter,
+                alloc,
+                count,
+                role,
+            })
+            .is_err()
+        {
+            return Err(JobError::NoMemory);
+        }
+    }
+    Ok(turns)
+}

@@ -1,0 +1,148 @@
+//! Workloads over the inbox of a queue.
+ghost use Rattle.std.specs.Prelude.{◌≡◌, IfOk};
+ghost use Rattle.pool_fabric.specs.Whole.{IsWhole};
+ghost use Rattle.pool_fabric.specs.Audited.{Audited};
+ghost use Rattle.pool_jobs.specs.Ends.{slots_found};
+
+use crate::buffer::Buffer;
+use crate::client::Applicant;
+use crate::ended::{Ended, settle};
+use crate::error::JobError;
+use crate::gate::Gate;
+use crate::plan::{MOST_THREADS, Plan};
+use crate::rows::{Places, Round};
+use crate::workload::{Back, Sorted, Workload, one_round, sorted_out, starters, turned};
+use batch_inbox::{Inbox, SendSeat, TakeSeat};
+use pool_fabric::{Fabric, Naming, Opening};
+use rand_core::{Rng, SeedableRng};
+use std::alloc::Global;
+use std::marker::Brand;
+use std::sync::Wait;
+use std::thread::Threads;
+
+type At<'a, 'r, G, J, N> = Applicant<'a, 'r, Inbox<'r>, TakeSeat<'r>, SendSeat<'r>, G, J, N>;
+
+// One round, whose threads are all joined.
+fn round_over<'a, 'r, G, N, J, R>(
+    rt: &R,
+    alloc: Global,
+    workload: Workload,
+    starters: Vec<At<'a, 'r, G, J, N>>,
+    rows: Vec<Places<Buffer<'r, J>>>,
+    round: Round,
+    back: &mut Back<'r, TakeSeat<'r>, SendSeat<'r>, J>,
+) -> Result<Vec<Places<Buffer<'r, J>>>, JobError>
+where
+    G: Gate + Sync,
+    N: Rng + Send + Drop,
+    J: Naming + Send + Sync,
+    R: Threads + Wait + Sync,
+{
+    let spent = one_round(rt, alloc, workload, starters, rows, round)?;
+    let Ok(Sorted { lefts, rows }) = sorted_out(alloc, spent) else {
+        return Err(JobError::NoMemory);
+    };
+    match back.add(lefts) {
+        Ok(()) => Ok(rows),
+        Err(_) => Err(JobError::NoMemory),
+    }
+}
+
+// All rounds.
+fn rounds_over<'a, 'r, G, N, J, R>(
+    rt: &R,
+    alloc: Global,
+    fabric: &'a Fabric<'r, Inbox<'r>, TakeSeat<'r>, SendSeat<'r>, J>,
+    gate: &'a G,
+    workload: Workload,
+    plan: &Plan,
+    threads: u32,
+) -> Result<Back<'r, TakeSeat<'r>, SendSeat<'r>, J>, JobError>
+where
+    G: Gate + Sync,
+    N: Rng + SeedableRng + Send + Drop,
+    J: Naming + Send + Sync,
+    R: Threads + Wait + Sync,
+{
+    let rounds = workload.rounds(plan);
+    let mut back = Back::none(alloc);
+    let mut rows = Vec::new(alloc);
+    for number in 0..rounds {
+        let round = Round {
+            count: plan.count,
+            is_first: number == 0,
+            is_last: number.saturating_add(1) == rounds,
+        };
+        let seed = u64::from(plan.seed).wrapping_add(u64::from(number).wrapping_mul(64));
+        let drops = plan.drop_first && back.counts.lost == 0;
+        let Ok(ready) = starters(alloc, fabric, gate, seed, threads, drops) else {
+            return Err(JobError::NoMemory);
+        };
+        let next = round_over::<G, N, J, R>(rt, alloc, workload, ready, rows, round, &mut back)?;
+        let Ok(next) = turned(next) else {
+            return Err(JobError::NoMemory);
+        };
+        rows = next;
+    }
+    drop(rows);
+    Ok(back)
+}
+
+// The same at a fabric that `J` names, and its end.
+fn worked<'r, G, N, J, R>(
+    rt: &R,
+    alloc: Global,
+    opening: Opening<'r, Inbox<'r>, TakeSeat<'r>, SendSeat<'r>>,
+    gate: &G,
+    workload: Workload,
+    plan: &Plan,
+) -> Result<Ended<'r>, JobError>
+where
+    G: Gate + Sync,
+    N: Rng + SeedableRng + Send + Drop,
+    J: Naming + Send + Sync,
+    R: Threads + Wait + Sync,
+    requires { J.names ≡ opening }
+    ensures whole { IfOk result (λ e. IsWhole e.found.desks.items e.found.batches.items e.found.lent.items
+        e.found.freed.items e.found.parts.items opening.entry.chunks) }
+    ensures audit { IfOk result (λ e. Audited (slots_found e.found.desks.items e.found.batches.items)
+        e.found.drawn e.tally.audit) }
+{
+    let threads = opening.desks().min(MOST_THREADS as usize) as u32;
+    let Ok(fabric) = Fabric::open(alloc, opening) else {
+        return Err(JobError::NoMemory);
+    };
+    let Back { held, counts } = rounds_over::<G, N, J, R>(
+        rt, alloc, &fabric, gate, workload, plan, threads,
+    )?;
+    settle(rt, alloc, fabric, held, counts)
+}
+
+/// Runs a workload with a worker for each desk of the opening, in threads, and accounts for all that
+/// there is when they have ended.
+///
+/// Whatever the schedule was, nothing is lost and nothing is there twice: the slots found, with
+/// those that were lent, are all slots of the drawn chunks, with those that were freed; and the
+/// chunks that were drawn, with those that are left, are the chunks of the opening. The audit of the
+/// tally is that of the slots found.
+///
+/// The sizes of worker `i` in round `r` are drawn from an `N` made of the seed `seed + 64 * r + i`.
+pub fn work<'r, G, N, R>(
+    rt: &R,
+    alloc: Global,
+    opening: Opening<'r, Inbox<'r>, TakeSeat<'r>, SendSeat<'r>>,
+    gate: &G,
+    workload: Workload,
+    plan: &Plan,
+) -> Result<Ended<'r>, JobError>
+where
+    G: Gate + Sync,
+    N: Rng + SeedableRng + Send + Drop,
+    R: Threads + Wait + Sync,
+    ensures whole { IfOk result (λ e. IsWhole e.found.desks.items e.found.batches.items e.found.lent.items
+        e.found.freed.items e.found.parts.items opening.entry.chunks) }
+    ensures audit { IfOk result (λ e. Audited (slots_found e.found.desks.items e.found.batches.items)
+        e.found.drawn e.tally.audit) }
+{
+    worked::<G, N, Brand, R>(rt, alloc, opening, gate, workload, plan)
+}
