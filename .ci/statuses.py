@@ -41,6 +41,14 @@ CLASSES = b"".join(
     ]
 )  # fmt: skip
 
+
+
+def tally(name, threads, allocated, freed, starved, lost, audit):
+    """What `work` prints."""
+    lines = [f"workload {name}", f"threads {threads}", f"allocated {allocated}", f"freed {freed}", f"starved {starved}"]
+    return "".join(f"{line}\n" for line in [*lines, f"lost {lost}", f"audit {audit}"]).encode()
+
+
 failed = []
 
 
@@ -98,6 +106,26 @@ def done():
     row("0: a route", ran(["route", "2", "7", "27"]), 0, ROUTE, b"")
 
 
+def worked():
+    for words, status, text in [
+        ("prodcons --threads 4 --count 1000", 0, tally("prodcons", 4, 2000, 2000, 0, 0, "yes")),
+        ("prodcons --threads 2 --count 10 --drop", 1, tally("prodcons", 2, 10, 9, 0, 1, "missing 0.0")),
+        ("prodcons --threads 2 --count 5 --chunks 0", 0, tally("prodcons", 2, 0, 0, 5, 0, "yes")),
+        ("prodcons --threads 3 --count 7 --limit 0 --width 6", 0, tally("prodcons", 3, 14, 14, 0, 0, "yes")),
+        ("replace --threads 4 --count 100 --rounds 3", 0, tally("replace", 4, 1264, 1264, 0, 0, "yes")),
+        ("ring --threads 4 --count 200", 0, tally("ring", 4, 800, 800, 0, 0, "yes")),
+        ("ring --threads 64 --count 20 --limit 0 --seed 4294967295", 0, tally("ring", 64, 1280, 1280, 0, 0, "yes")),
+    ]:
+        row(f"{status}: work {words}", ran(["work", *words.split()]), status, text, b"")
+    # where memory for threads is refused, the table has a row for that too
+    words, told = ["work", "ring", "--threads", "64", "--count", "1"], {}
+    for limit in range(8 << 20, 800 << 20, 8 << 20):
+        told[ran(words, memory=limit)[2]] = limit
+    tell("1: no thread, at some limit of the memory", b"poolctl: no thread\n" in told, told)
+    strange = set(told) - {b"", b"poolctl: no memory\n", b"poolctl: no thread\n"}
+    tell("no limit of a workload's memory leads out of the table", not strange, strange)
+
+
 def stopped():
     row("1: a bad line", ran(["replay"], CUT), 1, CUT_REPORT, b"")
     row("1: a bad line, audited", ran(["replay", "--audit"], CUT), 1, CUT_REPORT + b"audit yes\n", b"")
@@ -105,9 +133,10 @@ def stopped():
 
 
 def refused():
-    for words in [[], ["reply"], ["classes", "3"], ["route", "7", "0", "0"], ["route", "2", "0"], ["replay", "--audits"]]:
+    for words in [[], ["reply"], ["classes", "3"], ["route", "7", "0", "0"], ["route", "2", "0"], ["replay", "--audits"],
+                  ["work"], ["work", "juggle"], ["work", "ring", "--threads", "1"], ["work", "ring", "--width", "7"]]:
         row(f"2: {' '.join(words) or 'no words'}", ran(words, GOOD), 2, b"", is_error)
-    for words in [["--help"], ["-h"], ["help"], ["help", "replay"], ["replay", "--help"]]:
+    for words in [["--help"], ["-h"], ["help"], ["help", "replay"], ["replay", "--help"], ["work", "--help"]]:
         row(f"2: {' '.join(words)}", ran(words, GOOD), 2, b"", is_help)
     row("2: a word that is no UTF-8", ran([b"\xff"]), 2, b"", b"poolctl: a word is not UTF-8\n")
 
@@ -118,7 +147,7 @@ def streams():
     row("3: standard input is a folder", ran(["replay"], stdin=folder), 3, b"", read)
     row("3: standard input is closed", closed(["replay"], "<&-", b""), 3, b"", read)
     with open("/dev/full", "wb") as full:
-        for words in [["replay"], ["classes"], ["route", "2", "7", "27"]]:
+        for words in [["replay"], ["classes"], ["route", "2", "7", "27"], ["work", "ring", "--count", "2"]]:
             row(f"3: {words[0]} to a full device", ran(words, GOOD, stdout=full), 3, None, write)
         row("3: a bad line, to a full device", ran(["replay"], CUT, stdout=full), 3, None, write)
     row("3: standard output is closed", closed(["replay"], ">&-", GOOD), 3, None, write)
@@ -162,6 +191,7 @@ def main():
             print(built.stdout + built.stderr)
             sys.exit(2)
     done()
+    worked()
     stopped()
     refused()
     streams()

@@ -1,3 +1,3 @@
-mod Lines
+mod ClassLines
 mod Spelled
 mod Written

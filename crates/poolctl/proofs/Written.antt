@@ -9,7 +9,7 @@ use Rattle.trace_audit.specs.declared.replaying.ending.End.{End}
 use Rattle.trace_audit.specs.declared.replaying.ending.End.TheVariants.{Whole, BadLine, NoRoom}
 use Rattle.trace_audit.specs.declared.replaying.ending.ReplayError.{ReplayError}
 use Rattle.trace_audit.specs.declared.replaying.ending.ReplayError.TheVariants.{Read, Write}
-use Rattle.poolctl.specs.Commands.{TellsNoMemory, WritesAll, WritesUpTo}
+use Rattle.poolctl.specs.Commands.{TellsFault, WritesAll, WritesUpTo}
 use Rattle.poolctl.specs.Outcomes.{audited_outcome_of, outcome_of}
 use Rattle.poolctl.specs.declared.asked.Asked.TheVariants.{Replay, AuditedReplay}
 use Rattle.poolctl.specs.declared.outcome.Outcome.{Outcome}
@@ -48,7 +48,7 @@ written_up_to a b c d o (Err Write) is audit report stopped = let q : WriteFaile
 -- the audit failed: there was no memory for it
 pub no_memory_told : (left0 left out0 out : Option (List ℕ)) (o : Outcome) (r : Result (End × Option Verdict) ReplayError) → o ≡ audited_outcome_of r
     → IfOk r (λ x. IsAudited x.0 x.1) → IfOk r (λ x. Reports left0 left (with_audit x.1 (Appends out0 out)) x.0)
-    → o ≡ AuditFailed → TellsNoMemory AuditedReplay left0 left out0 out
+    → o ≡ AuditFailed → TellsFault AuditedReplay left0 left out0 out
 no_memory_told a b c d o (Ok (Whole, None)) is audit report failed = elim audit [ ]
 no_memory_told a b c d o (Ok (Whole, Some (Ok u))) is audit report failed = let q : Done ≡ AuditFailed = sym is ∙ failed in cc
 no_memory_told a b c d o (Ok (Whole, Some (Err e))) is audit report failed =

@@ -1,5 +1,5 @@
 -- What a command has written, by what was asked for.
-use Rattle.std.specs.Prelude.{ℕ, ◌≢◌, List, Option, Some, None, Ok, Err, ⊤}
+use Rattle.std.specs.Prelude.{ℕ, ◌≢◌, List, Option, Some, None, Ok, Err, IsOk, IsErr, ⊤}
 use Rattle.std.specs.Io.KnownBytes.{Appends}
 use Rattle.region_cut.specs.Classes.{classes_of}
 use Rattle.trace_audit.specs.Replay.{IsAudited, Reports, with_audit}
@@ -9,9 +9,11 @@ use Rattle.trace_audit.specs.declared.replaying.ending.End.{End}
 use Rattle.trace_audit.specs.declared.replaying.ending.End.TheVariants.{Whole}
 use Rattle.poolctl.specs.Asked.{Asks}
 use Rattle.poolctl.specs.Classes.{class_lines}
+use Rattle.pool_jobs.specs.declared.tally.Tally.{Tally}
 use Rattle.poolctl.specs.Routes.{route_text}
+use Rattle.poolctl.specs.Works.{work_text}
 use Rattle.poolctl.specs.declared.asked.Asked.{Asked}
-use Rattle.poolctl.specs.declared.asked.Asked.TheVariants.{Classes, Route, Replay, AuditedReplay}
+use Rattle.poolctl.specs.declared.asked.Asked.TheVariants.{Classes, Route, Replay, AuditedReplay, Work}
 
 -- the audit says yes, where there is one
 abbrev pub SaysYes : Option Verdict → Type 0
@@ -28,21 +30,25 @@ WritesReport AuditedReplay left0 left out0 out end =
     × Reports left0 left (with_audit audit (Appends out0 out)) end
 WritesReport _ left0 left out0 out end = ⊥
 
--- all that was asked for was written: the classes of a profile, a route, or the report of a whole trace
+-- all that was asked for was written: the classes of a profile, a route, the report of a whole trace, or what a workload
+-- counted and that its audit says yes
 abbrev pub WritesAll : Asked → Option (List ℕ) → Option (List ℕ) → Option (List ℕ) → Option (List ℕ) → Type 0
 WritesAll (Classes p) left0 left out0 out = Appends out0 out (class_lines (classes_of p))
 WritesAll (Route r) left0 left out0 out = Appends out0 out (route_text r.digits r.from r.owner)
+WritesAll (Work w) left0 left out0 out = (t : Tally) × IsOk t.audit × Appends out0 out (work_text w t)
 WritesAll replay left0 left out0 out = WritesReport replay left0 left out0 out Whole
 
 -- the report of a trace that isn't whole was written
 abbrev pub WritesUpTo : Asked → Option (List ℕ) → Option (List ℕ) → Option (List ℕ) → Option (List ℕ) → Type 0
 WritesUpTo asked left0 left out0 out = (end : End) × (end ≢ Whole) × WritesReport asked left0 left out0 out end
 
--- a report was written, and behind it that there was no memory for its audit
-abbrev pub TellsNoMemory : Asked → Option (List ℕ) → Option (List ℕ) → Option (List ℕ) → Option (List ℕ) → Type 0
-TellsNoMemory AuditedReplay left0 left out0 out =
+-- a report was written, and behind it that there was no memory for its audit; or what a workload counted, and behind it
+-- what its audit found
+abbrev pub TellsFault : Asked → Option (List ℕ) → Option (List ℕ) → Option (List ℕ) → Option (List ℕ) → Type 0
+TellsFault AuditedReplay left0 left out0 out =
     (end : End) × Reports left0 left (with_audit (Some (Err NoMemory)) (Appends out0 out)) end
-TellsNoMemory _ left0 left out0 out = ⊥
+TellsFault (Work w) left0 left out0 out = (t : Tally) × IsErr t.audit × Appends out0 out (work_text w t)
+TellsFault _ left0 left out0 out = ⊥
 
 -- the words ask for what P holds of
 abbrev pub AsksFor : List (List ℕ) → (Asked → Type 0) → Type 0

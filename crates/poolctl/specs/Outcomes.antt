@@ -6,7 +6,7 @@ use Rattle.trace_audit.specs.declared.replaying.ending.End.TheVariants.{Whole, B
 use Rattle.trace_audit.specs.declared.replaying.ending.ReplayError.{ReplayError}
 use Rattle.trace_audit.specs.declared.replaying.ending.ReplayError.TheVariants.{Read, Write}
 use Rattle.poolctl.specs.declared.outcome.Outcome.{Outcome}
-use Rattle.poolctl.specs.declared.outcome.Outcome.TheVariants.{Done, Stopped, AuditFailed, NoMemory, Refused}
+use Rattle.poolctl.specs.declared.outcome.Outcome.TheVariants.{Done, Stopped, AuditFailed, NoMemory, NoThread, Refused}
 use Rattle.poolctl.specs.declared.outcome.Outcome.TheVariants.{ReadFailed, WriteFailed}
 
 -- the exit status
@@ -15,6 +15,7 @@ status_of Done = 0
 status_of Stopped = 1
 status_of AuditFailed = 1
 status_of NoMemory = 1
+status_of NoThread = 1
 status_of (Refused text) = 2
 status_of ReadFailed = 3
 status_of WriteFailed = 3
@@ -29,6 +30,7 @@ words_of Done = []
 words_of Stopped = []
 words_of AuditFailed = []
 words_of NoMemory = line_of (codes "poolctl: no memory")
+words_of NoThread = line_of (codes "poolctl: no thread")
 words_of (Refused text) = string_bytes text
 words_of ReadFailed = line_of (codes "poolctl: read failed")
 words_of WriteFailed = line_of (codes "poolctl: write failed")

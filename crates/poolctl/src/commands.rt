@@ -1,23 +1,27 @@
 //! What each subcommand does.
-ghost use Rattle.std.specs.Prelude.{◌≡◌, ◌≢◌, ◌↔◌, false, true, map, string_bytes};
-ghost use Rattle.clap.specs.Words.{takes};
-ghost use Rattle.poolctl.specs.CommandLine.{command_line};
-ghost use Rattle.poolctl.specs.Commands.{AsksFor, TellsNoMemory, WritesAll, WritesUpTo};
+ghost use Rattle.std.specs.Prelude.{◌≡◌, ◌↔◌, false, true, map, string_bytes};
+ghost use Rattle.poolctl.specs.Asked.{AreGood};
+ghost use Rattle.poolctl.specs.Commands.{AsksFor, TellsFault, WritesAll, WritesUpTo};
 
 use crate::asked::Asked;
 use crate::classes::write_classes;
 use crate::outcome::{Outcome, audited, replayed};
 use crate::route::write_route;
 use crate::words::{self, Unread};
+use crate::work::run_work;
 use std::alloc::Global;
+use std::sync::Wait;
+use std::thread::Threads;
 use trace_audit::{Sink, Source, replay, replay_audited};
 
 /// Does what the words ask for. The program's own name stands first among them.
 ///
 /// Nothing is read from the source but by `replay`, and nothing is written after a failed write.
-/// Words that are refused, or that ask for help, are answered with the text for standard error. An audit that doesn't
-/// say yes had no memory, and says so behind the whole report.
-pub fn command<R: Source, W: Sink>(
+/// Words that are refused, or that ask for help, are answered with the text for standard error. An audit of a report that
+/// doesn't say yes had no memory, and says so behind the whole report. Only a workload starts threads; all have ended
+/// when the call returns.
+pub fn command<R: Source, W: Sink, H: Threads + Wait + Sync>(
+    rt: &H,
     alloc: Global,
     words: &[String],
     source: &mut R,
@@ -38,17 +42,18 @@ pub fn command<R: Source, W: Sink>(
         (W.contents sink.new)) }
     ensures audit { result ≡ Outcome.AuditFailed →
         AsksFor (map string_bytes words.now) (λ asked.
-        TellsNoMemory asked (R.remaining source.old) (R.remaining source.new) (W.contents sink.old)
+        TellsFault asked (R.remaining source.old) (R.remaining source.new) (W.contents sink.old)
         (W.contents sink.new)) }
-    // Words are refused only where `clap` doesn't take them, and then nothing is read or written.
+    // Words are refused only where they aren't good, and then nothing is read or written.
     ensures refused { (text : _) → result ≡ Outcome.Refused text →
-        (takes command_line (map string_bytes words.now) ≢ true) × (source.new ≡ source.old) × (sink.new ≡ sink.old) }
+        (AreGood (map string_bytes words.now) → ⊥) × (source.new ≡ source.old) × (sink.new ≡ sink.old) }
 {
     match words::read(alloc, words) {
         Ok(Asked::Classes(profile)) => write_classes(alloc, profile, sink),
         Ok(Asked::Route(route)) => write_route(alloc, route, sink),
         Ok(Asked::Replay) => replayed(replay(alloc, source, sink)),
         Ok(Asked::AuditedReplay) => audited(replay_audited(alloc, source, sink)),
+        Ok(Asked::Work(work)) => run_work(rt, alloc, &work, sink),
         Err(Unread::Memory) => Outcome::NoMemory,
         Err(Unread::Refused(text)) => Outcome::Refused(text),
     }

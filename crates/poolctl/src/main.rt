@@ -4,12 +4,14 @@
 mod asked;
 mod classes;
 mod commands;
+mod lines;
 mod outcome;
 mod route;
 mod streams;
 #[cfg(test)]
 mod tests;
 mod words;
+mod work;
 
 pub use asked::{Asked, Route};
 pub use commands::command;

@@ -12,11 +12,14 @@ pub enum Outcome {
     /// The trace has a bad line, or there is no room for its region or floor; the report says so.
     /// Status 1.
     Stopped,
-    /// The audit behind the report doesn't say yes; its line says what it found, or that there was no memory for it.
+    /// The audit behind the report, or behind a workload's counts, doesn't say yes; its line says what it found, or that
+    /// there was no memory for it.
     /// Status 1.
     AuditFailed,
     /// Want of memory outside a report. Status 1.
     NoMemory,
+    /// A thread couldn't be started. Status 1.
+    NoThread,
     /// The words of the command line were refused, or ask for help, and this is the text. Status 2.
     Refused(String),
     /// Standard input failed. Status 3.
@@ -32,7 +35,7 @@ impl Outcome {
     {
         match self {
             Outcome::Done => 0,
-            Outcome::Stopped | Outcome::AuditFailed | Outcome::NoMemory => 1,
+            Outcome::Stopped | Outcome::AuditFailed | Outcome::NoMemory | Outcome::NoThread => 1,
             Outcome::Refused(_) => 2,
             Outcome::ReadFailed | Outcome::WriteFailed => 3,
         }
@@ -45,6 +48,7 @@ impl Outcome {
         match self {
             Outcome::Done | Outcome::Stopped | Outcome::AuditFailed => "",
             Outcome::NoMemory => "poolctl: no memory\n",
+            Outcome::NoThread => "poolctl: no thread\n",
             Outcome::Refused(text) => text.as_str(),
             Outcome::ReadFailed => "poolctl: read failed\n",
             Outcome::WriteFailed => "poolctl: write failed\n",

@@ -1,9 +1,10 @@
 //! The subcommands `route` and `route2`.
 ghost use Rattle.std.specs.Prelude.{◌≡◌, ◌≤◌, ◌++◌, ◌↔◌, ◌⊎◌, false, true, IfOk, string_bytes};
 ghost use Rattle.std.specs.Io.KnownBytes.{Appends};
-ghost use Rattle.poolctl.specs.Routes.{digits_line, number_line, route_text};
+ghost use Rattle.poolctl.specs.Routes.{digits_line, route_text};
 
 use crate::asked::Route;
+use crate::lines::push_number;
 use crate::outcome::Outcome;
 use digit_route::Digits;
 use std::alloc::{AllocError, Global};
@@ -21,24 +22,16 @@ fn push_digits(text: &mut String, word: &str, digits: Digits, number: u16) -> Re
     text.push_str("\n")
 }
 
-/// Adds a number behind a word.
-fn push_number(text: &mut String, word: &str, number: u32) -> Result<(), AllocError>
-    ensures { IfOk result (λ _. string_bytes text.new ≡ string_bytes text.old ++ number_line word.now number) }
-{
-    text.push_str(word)?;
-    write!(text, " {number}\n")
-}
-
 /// How many digits a number has, the digits of the two numbers, the least first, and how many of
 /// them the two share.
 fn route_text(alloc: Global, digits: Digits, from: u16, owner: u16) -> Result<String, AllocError>
     ensures { IfOk result (λ text. string_bytes text ≡ route_text digits from owner) }
 {
     let mut text = String::new(alloc);
-    push_number(&mut text, "digits", digits.count())?;
+    push_number(&mut text, "digits", u64::from(digits.count()))?;
     push_digits(&mut text, "from", digits, from)?;
     push_digits(&mut text, "owner", digits, owner)?;
-    push_number(&mut text, "common", digits.common(from, owner))?;
+    push_number(&mut text, "common", u64::from(digits.common(from, owner)))?;
     Ok(text)
 }
 

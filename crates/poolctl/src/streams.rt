@@ -5,10 +5,12 @@ use std::alloc::Global;
 use std::env;
 use std::io::{self, BufReader, BufWriter, ErrorKind, Write};
 use std::rt::Env;
+use std::sync::Wait;
+use std::thread::Threads;
 use trace_audit::{FromReader, ToWriter};
 
 /// Runs what the program's words ask for over standard input and standard output.
-pub fn run<R: Input + Print + Env + AllocGlobal>(rt: &R) -> Outcome {
+pub fn run<R: Input + Print + Env + AllocGlobal + Threads + Wait + Sync>(rt: &R) -> Outcome {
     match try_run(rt) {
         Ok(outcome) => outcome,
         Err(error) if error.kind() == ErrorKind::OutOfMemory => Outcome::NoMemory,
@@ -16,12 +18,14 @@ pub fn run<R: Input + Print + Env + AllocGlobal>(rt: &R) -> Outcome {
     }
 }
 
-fn try_run<R: Input + Print + Env + AllocGlobal>(rt: &R) -> io::Result<Outcome> {
+fn try_run<R: Input + Print + Env + AllocGlobal + Threads + Wait + Sync>(
+    rt: &R,
+) -> io::Result<Outcome> {
     let alloc = rt.alloc();
     let words = env::args(rt)?.collect::<Vec<String>>(alloc)?;
     let mut source = FromReader::new(BufReader::new(alloc, rt.reader())?);
     let mut sink = ToWriter::new(BufWriter::new(alloc, io::writer(rt))?);
-    let outcome = command(alloc, words.as_slice(), &mut source, &mut sink);
+    let outcome = command(rt, alloc, words.as_slice(), &mut source, &mut sink);
     Ok(settled(outcome, sink.into_inner()))
 }
 

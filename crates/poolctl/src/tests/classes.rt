@@ -22,7 +22,7 @@ const TABLE: &str = "0 16 256 0
 
 #[test]
 fn the_table_of_the_classes(rt: HostRuntime) -> Result<(), Fail> {
-    let (outcome, written) = outcome_of(rt.alloc(), ["classes"].as_slice(), b"")?;
+    let (outcome, written) = outcome_of(&rt, ["classes"].as_slice(), b"")?;
     assert!(rt; outcome == Outcome::Done);
     assert!(rt; written.as_slice() == TABLE.as_bytes());
     assert!(rt; outcome.status() == 0 && outcome.words() == "");
@@ -31,7 +31,7 @@ fn the_table_of_the_classes(rt: HostRuntime) -> Result<(), Fail> {
 
 #[test]
 fn the_table_of_all_classes(rt: HostRuntime) -> Result<(), Fail> {
-    let (outcome, written) = outcome_of(rt.alloc(), ["classes2"].as_slice(), b"")?;
+    let (outcome, written) = outcome_of(&rt, ["classes2"].as_slice(), b"")?;
     assert!(rt; outcome == Outcome::Done);
     let mut table = String::from_str(rt.alloc(), TABLE)?;
     table.push_str("16 640 6 256\n17 768 5 256\n18 896 4 512\n19 1024 4 0\n")?;

@@ -10,7 +10,7 @@ const TRACE: &[u8] = b"pool 1 1 2\nadopt 0 5\nclaim 0 0\nalloc 0 16\nfree 0 0.0\
 
 #[test]
 fn a_whole_trace(rt: HostRuntime) -> Result<(), Fail> {
-    let (outcome, written) = outcome_of(rt.alloc(), ["replay"].as_slice(), TRACE)?;
+    let (outcome, written) = outcome_of(&rt, ["replay"].as_slice(), TRACE)?;
     let report = "ok\nchunk 0\nslot 0.0\nhome\ndesk 0 home 256 cached 0 queued 0\n\
         end chunks 1 lent 0 home 256 cached 0 queued 0\n";
     assert!(rt; outcome == Outcome::Done);
@@ -20,7 +20,7 @@ fn a_whole_trace(rt: HostRuntime) -> Result<(), Fail> {
 
 #[test]
 fn an_audit_says_yes(rt: HostRuntime) -> Result<(), Fail> {
-    let (outcome, written) = outcome_of(rt.alloc(), ["replay", "--audit"].as_slice(), TRACE)?;
+    let (outcome, written) = outcome_of(&rt, ["replay", "--audit"].as_slice(), TRACE)?;
     let report = "ok\nchunk 0\nslot 0.0\nhome\ndesk 0 home 256 cached 0 queued 0\n\
         end chunks 1 lent 0 home 256 cached 0 queued 0\naudit yes\n";
     assert!(rt; outcome == Outcome::Done, "{outcome:?}");
@@ -31,7 +31,7 @@ fn an_audit_says_yes(rt: HostRuntime) -> Result<(), Fail> {
 #[test]
 fn no_audit_behind_a_bad_header(rt: HostRuntime) -> Result<(), Fail> {
     let words = ["replay", "--audit"];
-    let (outcome, written) = outcome_of(rt.alloc(), words.as_slice(), b"pool 0 1 2\n")?;
+    let (outcome, written) = outcome_of(&rt, words.as_slice(), b"pool 0 1 2\n")?;
     assert!(rt; outcome == Outcome::Stopped, "{outcome:?}");
     assert!(rt; written.as_slice() == b"R17 BadLine 1\n".as_slice());
     Ok(())
@@ -49,7 +49,7 @@ fn an_audit_without_memory_gives_status_1(rt: HostRuntime) {
 
 #[test]
 fn a_bad_line_gives_status_1(rt: HostRuntime) -> Result<(), Fail> {
-    let (outcome, written) = outcome_of(rt.alloc(), ["replay"].as_slice(), b"pool 0 1 2\n")?;
+    let (outcome, written) = outcome_of(&rt, ["replay"].as_slice(), b"pool 0 1 2\n")?;
     assert!(rt; outcome == Outcome::Stopped);
     assert!(rt; written.as_slice() == b"R17 BadLine 1\n".as_slice());
     assert!(rt; outcome.status() == 1 && outcome.words() == "");
@@ -88,7 +88,7 @@ fn a_failing_reader_gives_status_3(rt: HostRuntime) -> Result<(), Fail> {
     let words = words_of(rt.alloc(), "replay")?;
     let mut source = FromReader::new(Broken);
     let mut sink = ToWriter::new(Vec::new(rt.alloc()));
-    let outcome = command(rt.alloc(), words.as_slice(), &mut source, &mut sink);
+    let outcome = command(&rt, rt.alloc(), words.as_slice(), &mut source, &mut sink);
     assert!(rt; outcome == Outcome::ReadFailed);
     assert!(rt; outcome.status() == 3 && outcome.words() == "poolctl: read failed\n");
     assert!(rt; sink.into_inner().is_empty());
@@ -101,7 +101,7 @@ fn a_failing_writer_gives_status_3(rt: HostRuntime) -> Result<(), Fail> {
         let words = words_of(rt.alloc(), word)?;
         let mut source = FromReader::new(TRACE);
         let mut sink = ToWriter::new(Broken);
-        let outcome = command(rt.alloc(), words.as_slice(), &mut source, &mut sink);
+        let outcome = command(&rt, rt.alloc(), words.as_slice(), &mut source, &mut sink);
         assert!(rt; outcome == Outcome::WriteFailed);
         assert!(rt; outcome.status() == 3 && outcome.words() == "poolctl: write failed\n");
     }

@@ -38,7 +38,7 @@ fn numbers_read_in_digits(rt: HostRuntime) -> Result<(), Fail> {
             "digits 2\nfrom 1 1\nowner 1 2\ncommon 1\n",
         ),
     ] {
-        let (outcome, written) = outcome_of(rt.alloc(), words.as_slice(), b"")?;
+        let (outcome, written) = outcome_of(&rt, words.as_slice(), b"")?;
         assert!(rt; outcome == Outcome::Done, "{outcome:?}");
         assert!(rt; written.as_slice() == text.as_bytes(), "{text}");
     }
@@ -54,7 +54,7 @@ fn a_number_out_of_range_is_refused(rt: HostRuntime) -> Result<(), Fail> {
         ["route2", "2", "0", "4096"],
         ["route", "2", "0", "x"],
     ] {
-        let (outcome, written) = outcome_of(rt.alloc(), words.as_slice(), b"")?;
+        let (outcome, written) = outcome_of(&rt, words.as_slice(), b"")?;
         assert!(rt; outcome.status() == 2, "{outcome:?}");
         assert!(rt;
             outcome.words().starts_with("error: invalid value"),

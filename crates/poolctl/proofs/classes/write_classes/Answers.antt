@@ -1,5 +1,5 @@
 use Rattle.std.proofs.Common.{◌∙◌}
-use Rattle.poolctl.proofs.Lines.{lines_more}
+use Rattle.poolctl.proofs.ClassLines.{lines_more}
 use Rattle.poolctl.proofs.classes.write_classes.Goals as goal
 
 pub loop-number-preserved : goal.loop-number-preserved

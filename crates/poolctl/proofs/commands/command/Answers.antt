@@ -1,3 +1,4 @@
+use Rattle.poolctl.proofs.Spelled.{asked_can_run}
 use Rattle.poolctl.proofs.Written.{all_written, no_memory_told, plain_all, plain_up_to, written_up_to}
 use Rattle.poolctl.specs.declared.asked.Asked.TheVariants.{Replay, AuditedReplay}
 use Rattle.poolctl.proofs.commands.command.Goals as goal
@@ -36,3 +37,7 @@ returns-in-Ok-AuditedReplay-clause-audit g c = λ failed. (
   (rw c.in-Ok-AuditedReplay.field-0-is at c.in-Ok-AuditedReplay.ensures.asked),
   no_memory_told _ _ _ _ _ _ c.audited.ensures c.replay_audited.ensures.audit c.replay_audited.ensures.ended failed,
 )
+
+pub run_work-requires-clause-runs : goal.run_work-requires-clause-runs
+run_work-requires-clause-runs g c κs within =
+    asked_can_run _ c.in-Ok-Work.work (rw c.in-Ok-Work.field-0-is at c.in-Ok-Work.ensures.asked)

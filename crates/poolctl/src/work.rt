@@ -1,0 +1,148 @@
+//! The subcommand `work`.
+ghost use Rattle.std.specs.Prelude.{◌≡◌, ◌↔◌, ◌⊎◌, false, true, IfOk, IsErr, IsOk, MatchResult, ◌++◌, string_bytes};
+ghost use Rattle.trace_audit.specs.Report.{audit_line};
+ghost use Rattle.std.specs.Io.KnownBytes.{Appends};
+ghost use Rattle.pool_jobs.specs.declared.tally.Tally.{Tally as Counted};
+ghost use Rattle.poolctl.specs.Asked.{CanRun, workload_name};
+ghost use Rattle.poolctl.specs.Works.{counts_text, work_text};
+
+use crate::asked::Work;
+use crate::lines::{push_number, push_word};
+use crate::outcome::Outcome;
+use batch_inbox::{Inbox, SendSeat, TakeSeat};
+use pool_fabric::Opening;
+use pool_jobs::{Counts, JobError, NoGate, Plan, Tally, Workload, work};
+use rand_pcg::Pcg32;
+use region_cut::{CHUNK, cut};
+use std::alloc::{AllocError, Global};
+use std::sync::Wait;
+use std::thread::Threads;
+use trace_audit::{Failed, Fault, Sink, write_all, write_audit};
+
+fn name_of(workload: Workload) -> &'static str
+    ensures { result.now ≡ workload_name workload }
+{
+    match workload {
+        Workload::ProdCons => "prodcons",
+        Workload::Ring => "ring",
+        Workload::Replace => "replace",
+    }
+}
+
+/// The lines of a run, without that of its audit.
+fn counts_text(alloc: Global, work: &Work, counts: Counts) -> Result<String, AllocError>
+    ensures { IfOk result (λ text. string_bytes text ≡ counts_text work.now counts) }
+{
+    let mut text = String::new(alloc);
+    push_word(&mut text, "workload", name_of(work.workload))?;
+    push_number(&mut text, "threads", u64::from(work.threads))?;
+    push_number(&mut text, "allocated", counts.allocated)?;
+    push_number(&mut text, "freed", counts.freed)?;
+    push_number(&mut text, "starved", counts.starved)?;
+    push_number(&mut text, "lost", counts.lost)?;
+    Ok(text)
+}
+
+// Writes a text, and the line of an audit behind it.
+fn write_both<W: Sink>(text: &str, audit: Result<(), Fault>, sink: &mut W) -> Result<(), Failed>
+    requires { W.has_failed sink.old ≡ false }
+    ensures { MatchResult result
+        (λ _. Appends (W.contents sink.old) (W.contents sink.new) (text.now ++ audit_line audit)
+        × (W.has_failed sink.new ≡ false))
+        (λ _. W.has_failed sink.new ≡ true) }
+{
+    write_all(sink, text.as_bytes())?;
+    write_audit(audit, sink)
+}
+
+/// Writes what a workload counted, and its audit's line.
+fn write_tally<W: Sink>(alloc: Global, work: &Work, tally: Tally, sink: &mut W) -> Outcome
+    requires { W.has_failed sink.old ≡ false }
+    ensures done { result ≡ Outcome.Done → IsOk tally.audit
+        × Appends (W.contents sink.old) (W.contents sink.new) (work_text work.now tally) }
+    ensures audit { result ≡ Outcome.AuditFailed → IsErr tally.audit
+        × Appends (W.contents sink.old) (W.contents sink.new) (work_text work.now tally) }
+    ensures known { (result ≡ Outcome.Done) ⊎ (result ≡ Outcome.AuditFailed) ⊎ (result ≡ Outcome.NoMemory)
+        ⊎ (result ≡ Outcome.WriteFailed) }
+    ensures write { (W.has_failed sink.new ≡ true) ↔ (result ≡ Outcome.WriteFailed) }
+{
+    let Ok(text) = counts_text(alloc, work, tally.counts) else {
+        return Outcome::NoMemory;
+    };
+    match (write_both(text.as_str(), tally.audit, sink), tally.audit) {
+        (Err(_), _) => Outcome::WriteFailed,
+        (Ok(()), Err(_)) => Outcome::AuditFailed,
+        (Ok(()), Ok(())) => Outcome::Done,
+    }
+}
+
+// Runs a workload over the region.
+fn tally_over<'r, H: Threads + Wait + Sync>(
+    rt: &H,
+    alloc: Global,
+    asked: &Work,
+    region: &'r mut [u8],
+) -> Result<Tally, JobError>
+    requires { CanRun asked.now }
+{
+    let Ok(parts) = cut(alloc, region) else {
+        return Err(JobError::NoMemory);
+    };
+    let opening = Opening::<'r, Inbox<'r>, TakeSeat<'r>, SendSeat<'r>>::new(
+        alloc,
+        parts,
+        asked.threads as u16,
+        asked.digits,
+        u64::from(asked.limit),
+    );
+    let Ok(opening) = opening else {
+        return Err(JobError::NoMemory);
+    };
+    let plan = Plan {
+        count: asked.count,
+        rounds: asked.rounds,
+        seed: asked.seed,
+        drop_first: asked.drop_first,
+    };
+    let ended = work::<NoGate, Pcg32, H>(rt, alloc, opening, &NoGate, asked.workload, &plan)?;
+    Ok(ended.tally)
+}
+
+// Runs a workload over a region of its own.
+fn tally_of<H: Threads + Wait + Sync>(
+    rt: &H,
+    alloc: Global,
+    asked: &Work,
+) -> Result<Tally, JobError>
+    requires { CanRun asked.now }
+{
+    let Ok(mut region) = vec![in alloc; 0u8; asked.chunks as usize * CHUNK] else {
+        return Err(JobError::NoMemory);
+    };
+    tally_over(rt, alloc, asked, region.as_mut_slice())
+}
+
+/// Runs a workload, and writes what its workers counted and the line of the audit. Nothing is written where the workload
+/// could not be run.
+pub fn run_work<W: Sink, H: Threads + Wait + Sync>(
+    rt: &H,
+    alloc: Global,
+    asked: &Work,
+    sink: &mut W,
+) -> Outcome
+    requires down { W.has_failed sink.old ≡ false }
+    requires runs { CanRun asked.now }
+    ensures done { result ≡ Outcome.Done → (t : Counted) × IsOk t.audit
+        × Appends (W.contents sink.old) (W.contents sink.new) (work_text asked.now t) }
+    ensures audit { result ≡ Outcome.AuditFailed → (t : Counted) × IsErr t.audit
+        × Appends (W.contents sink.old) (W.contents sink.new) (work_text asked.now t) }
+    ensures known { (result ≡ Outcome.Done) ⊎ (result ≡ Outcome.AuditFailed) ⊎ (result ≡ Outcome.NoMemory)
+        ⊎ (result ≡ Outcome.NoThread) ⊎ (result ≡ Outcome.WriteFailed) }
+    ensures write { (W.has_failed sink.new ≡ true) ↔ (result ≡ Outcome.WriteFailed) }
+{
+    match tally_of(rt, alloc, asked) {
+        Ok(tally) => write_tally(alloc, asked, tally, sink),
+        Err(JobError::NoMemory) => Outcome::NoMemory,
+        Err(JobError::NoThread) => Outcome::NoThread,
+    }
+}
