@@ -1,45 +1,44 @@
-//! Tests of allocators.
-use crate::work_alone;
+//! Tests of allocators: alone, and in threads.
+
+mod alone;
+mod meeting;
+mod workloads;
+
+ghost use Rattle.std.specs.Prelude.{◌≤◌};
+
 use digit_route::Digits;
 use pool_fabric::Opening;
-use pool_jobs::{Counts, Ended};
-use region_cut::cut;
+use pool_jobs::{Gate, Plan, Tally, Workload, work};
+use rand_pcg::Pcg32;
+use region_cut::{CHUNK, cut};
+use std::sync::Wait;
 use std::test::Fail;
+use std::thread::Threads;
 
-/// Bytes of a chunk.
-const CHUNK: usize = 4_096;
-
-#[test]
-fn a_worker_alone(rt: HostRuntime) -> Result<(), Fail> {
-    let alloc = rt.alloc();
-    let mut region = Vec::from_elem(alloc, 0u8, CHUNK)?;
-    let parts = cut(alloc, region.as_mut_slice())?;
-    let digits = Digits::new(2).ok_or("two bits")?;
-    let opening = Opening::new(alloc, parts, 1, digits, 4_096)?;
-    let Ended { tally, found } = work_alone(&rt, alloc, opening, 10, 512)?;
-    drop(found);
-    let wanted = Counts {
-        allocated: 10,
-        freed: 10,
-        starved: 0,
-        lost: 0,
-    };
-    assert_eq!(rt; tally.counts, wanted);
-    assert!(rt; tally.audit.is_ok());
-    Ok(())
+// What a workload is run over: chunks, desks, bits of a digit, and the limit of a cache in bytes.
+#[derive(Clone, Copy)]
+struct Ground {
+    chunks: usize,
+    desks: u16,
+    width: u32,
+    limit: u64,
 }
 
-#[test]
-fn no_chunk(rt: HostRuntime) -> Result<(), Fail> {
+// The workload over this ground.
+fn tally_of<G: Gate + Sync, R: AllocGlobal + Threads + Wait + Sync>(
+    rt: &R,
+    gate: &G,
+    ground: Ground,
+    workload: Workload,
+    plan: &Plan,
+) -> Result<Tally, Fail>
+    requires { (1 ≤ ground.desks) × (ground.desks ≤ 64) × (ground.limit ≤ 1048576) × (ground.chunks ≤ 1024) }
+{
     let alloc = rt.alloc();
-    let mut region = Vec::from_elem(alloc, 0u8, CHUNK - 1)?;
+    let mut region = Vec::from_elem(alloc, 0u8, ground.chunks * CHUNK)?;
     let parts = cut(alloc, region.as_mut_slice())?;
-    let digits = Digits::new(2).ok_or("two bits")?;
-    let opening = Opening::new(alloc, parts, 1, digits, 4_096)?;
-    let Ended { tally, found } = work_alone(&rt, alloc, opening, 10, 512)?;
-    drop(found);
-    assert_eq!(rt; tally.counts.starved, 10);
-    assert_eq!(rt; tally.counts.allocated, 0);
-    assert!(rt; tally.audit.is_ok());
-    Ok(())
+    let digits = Digits::new(ground.width).ok_or("a width")?;
+    let opening = Opening::new(alloc, parts, ground.desks, digits, ground.limit)?;
+    let ended = work::<G, Pcg32, R>(rt, alloc, opening, gate, workload, plan)?;
+    Ok(ended.tally)
 }
