@@ -10,3 +10,4 @@ pub mod Rounds
 pub mod Seating
 pub mod HandsOut
 pub mod KeepsOrder
+pub mod Travels
