@@ -19,7 +19,9 @@ use Rattle.pool_desk.specs.Desks.{DeskState}
 use Rattle.pool_desk.specs.Steps.{Claims, Allocs, Frees, Handles, Caches, freed, passed_on, own, others}
 use Rattle.pool_desk.specs.declared.freed.Freed.{Freed}
 use Rattle.pool_desk.specs.declared.freed.Freed.TheVariants.{Home, Cached, Due}
-use Rattle.pool_fabric.specs.Accounts.{of_buffer, of_home, of_batch, of_chunk, held, owed, of_number, drawn_by}
+use Rattle.pool_fabric.specs.declared.ledger.DrawnChunk.{DrawnChunk}
+use Rattle.pool_fabric.specs.Pages.{drawn_for}
+use Rattle.pool_fabric.specs.Accounts.{of_buffer, of_home, of_batch, of_chunk, held, owed, of_drawn, drew}
 use Rattle.pool_fabric.proofs.Sums.{weigh-append, weigh-permutation, weigh-map, weigh-split}
 
 weigh-unused : (h : Slot → ℕ) (chunk class : ℕ) (part : GName) (n i : ℕ) (bs : List ℕ) → weigh (of_home h) (unused_from chunk class part n i bs) ≡ weigh h (places chunk n i)
@@ -43,8 +45,8 @@ claimed h old part class new c =
     let d = draws (of_chunk h) part class n old.drawn new.drawn (λ x e k i. weigh h (places (e i) (slots_of (k i)) 0)) c.drawn in
     omega arith
 
-pub claimed_chunk : (g : ℕ → ℕ) (old : DeskState) (part : Part) (class : ℕ) (new : DeskState) → Claims old part class new → drawn_by g new ≡ g part.chunk + drawn_by g old
-claimed_chunk g old part class new c = draws (of_number g) part class (g part.chunk) old.drawn new.drawn (λ x e k. ap g e) c.drawn
+pub claimed_chunk : (g : DrawnChunk → ℕ) (old : DeskState) (part : Part) (class : ℕ) (new : DeskState) → Claims old part class new → drew g new ≡ g (drawn_for part.chunk class) + drew g old
+claimed_chunk g old part class new c = draws (of_drawn g) part class (g (drawn_for part.chunk class)) old.drawn new.drawn (λ x e k i. g (drawn_for (e i) (k i))) c.drawn
 
 given_slot : (h : Slot → ℕ) (a : AtHome) (b : Buffer) → homes.GivenAs a b → of_home h a ≡ h b.slot
 given_slot h (Kept a) b e = ap (λ (x : Buffer). h x.slot) (sym e)
@@ -70,8 +72,8 @@ gave h old size b new a =
 pub gave_owed : (h : Slot → ℕ) (old : DeskState) (size : ℕ) (b : Buffer) (new : DeskState) → Allocs old size (Ok b) new → owed h new ≡ owed h old
 gave_owed h old size b new a = given_drawn (of_chunk h) a.1.from b old.drawn new.drawn (λ c n rest. refl) a.1.names
 
-pub gave_chunks : (g : ℕ → ℕ) (old : DeskState) (size : ℕ) (b : Buffer) (new : DeskState) → Allocs old size (Ok b) new → drawn_by g new ≡ drawn_by g old
-gave_chunks g old size b new a = given_drawn (of_number g) a.1.from b old.drawn new.drawn (λ c n rest. refl) a.1.names
+pub gave_chunks : (g : DrawnChunk → ℕ) (old : DeskState) (size : ℕ) (b : Buffer) (new : DeskState) → Allocs old size (Ok b) new → drew g new ≡ drew g old
+gave_chunks g old size b new a = given_drawn (of_drawn g) a.1.from b old.drawn new.drawn (λ c n rest. refl) a.1.names
 
 freed_to : (h : Slot → ℕ) (old : DeskState) (b : Buffer) (new : DeskState) → Caches old b new → held h new ≡ held h old + h b.slot
 freed_to h old b new c =
@@ -87,10 +89,10 @@ got_back h old b Home new c =
 got_back h old b Cached new c = freed_to h old b new c.0
 got_back h old b Due new c = freed_to h old b new c.0
 
-pub got_back_drawn : (old : DeskState) (b : Buffer) (r : Freed) (new : DeskState) → Frees old b r new → (new.drawn ≡ old.drawn) × (new.number ≡ old.number) × (new.digits ≡ old.digits)
-got_back_drawn old b Home new c = (ap (λ (d : DeskState). d.drawn) c.1, ap (λ (d : DeskState). d.number) c.1, ap (λ (d : DeskState). d.digits) c.1)
-got_back_drawn old b Cached new c = (ap (λ (d : DeskState). d.drawn) c.0.1, ap (λ (d : DeskState). d.number) c.0.1, ap (λ (d : DeskState). d.digits) c.0.1)
-got_back_drawn old b Due new c = (ap (λ (d : DeskState). d.drawn) c.0.1, ap (λ (d : DeskState). d.number) c.0.1, ap (λ (d : DeskState). d.digits) c.0.1)
+pub got_back_drawn : (old : DeskState) (b : Buffer) (r : Freed) (new : DeskState) → Frees old b r new → (new.drawn ≡ old.drawn) × (new.number ≡ old.number) × (new.digits ≡ old.digits) × (new.limit ≡ old.limit)
+got_back_drawn old b Home new c = (ap (λ (d : DeskState). d.drawn) c.1, ap (λ (d : DeskState). d.number) c.1, ap (λ (d : DeskState). d.digits) c.1, ap (λ (d : DeskState). d.limit) c.1)
+got_back_drawn old b Cached new c = (ap (λ (d : DeskState). d.drawn) c.0.1, ap (λ (d : DeskState). d.number) c.0.1, ap (λ (d : DeskState). d.digits) c.0.1, ap (λ (d : DeskState). d.limit) c.0.1)
+got_back_drawn old b Due new c = (ap (λ (d : DeskState). d.drawn) c.0.1, ap (λ (d : DeskState). d.number) c.0.1, ap (λ (d : DeskState). d.digits) c.0.1, ap (λ (d : DeskState). d.limit) c.0.1)
 
 pub handled : (h : Slot → ℕ) (old : DeskState) (batch : List Buffer) (new : DeskState) → Handles old batch new → held h new ≡ held h old + weigh (of_buffer h) batch
 handled h old batch new c =

@@ -10,10 +10,12 @@ use Rattle.pool_fabric.specs.Weights.{weigh}
 use Rattle.pool_fabric.specs.Names.{Names, box_at}
 use Rattle.pool_fabric.specs.Pages.{PageState}
 use Rattle.pool_fabric.specs.Seats.{SeatState, AreSeatsBy}
-use Rattle.pool_fabric.specs.Accounts.{of_buffer, of_batch, of_seats, of_part, of_taking, held, owed, drawn_by}
+use Rattle.pool_desk.specs.Desks.{DeskState}
+use Rattle.pool_fabric.specs.declared.ledger.DrawnChunk.{DrawnChunk}
+use Rattle.pool_fabric.specs.Accounts.{of_buffer, of_batch, of_seats, of_part, of_taking, of_entry, held, owed, drew}
 use Rattle.pool_fabric.specs.Stations.{StationState, IsStation}
 use Rattle.pool_fabric.specs.Gathered.{GatheredState, AreRows, AreTakes, AreOf, IsGathered}
-use Rattle.pool_fabric.specs.Whole.{IsWhole}
+use Rattle.pool_fabric.specs.Whole.{IsWhole, IsEachDesk}
 use Rattle.pool_fabric.proofs.Sums.{weigh-append, weigh-snoc}
 use Rattle.pool_fabric.proofs.Columns.{each_more, get_front, get_seam}
 
@@ -42,10 +44,14 @@ adds_keeps n s t takes page lent freed i k at_row at_take columns m e l f = reco
   chunks = λ g.
       let p = i.chunks g in
       let q = k.chunks g in
-      let a = weigh-snoc (drawn_by g) s.desks t.desk in
+      let a = weigh-snoc (drew g) s.desks t.desk in
       let y = weigh-append g s.page.got t.page.got in
       let y' = ap (λ (z : PageState). weigh g z.got) e in
       omega arith;
+  desks = record {
+    many = length-append s.desks (t.desk ∷ []) ∙ ap (λ k. k + 1) i.desks.many ∙ sym (length-append s.rows (t.seats ∷ []));
+    each = each_more (λ k (d : DeskState). d.number ≡ k) s.desks t.desk i.desks.each (at_row ∙ sym i.desks.many);
+  };
   rows = record { each = each_more (λ a r. AreSeatsBy n a r × (length r ≡ s.columns)) s.rows t.seats i.rows.each (subst (λ a. AreSeatsBy n a t.seats × (length t.seats ≡ s.columns)) at_row (k.seated.seats, k.seated.number ∙ sym columns)) };
   takes = record {
     each = subst (λ ts. (j : ℕ) (x : TakeState) → slice_get ts j ≡ Some x → (x.inbox ≡ box_at n j) × (x.senders ≡ n.count)) (sym m)
@@ -66,12 +72,12 @@ pub seats_of : (n : Names) (k : ℕ) (box : InboxId) (seats : List SeatState) �
 seats_of n k box seats i at = subst (λ b. AreOf b seats) (sym at) i
 
 pub closes_keeps : (n : Names) (s : GatheredState) (take : TakeState) (takes : List TakeState) (seats : List SeatState) (rows : List (List SeatState)) (more batches : List BatchState) (columns : ℕ)
-    → IsGathered n s → s.takes ≡ takes ++ take ∷ [] → AreTakes n takes → AreRows n columns rows
+    → IsGathered n s → s.takes ≡ takes ++ take ∷ [] → AreTakes n takes → AreRows n columns rows → length rows ≡ length s.rows
     → ((h : Slot → ℕ) → of_seats h seats + weigh (of_seats h) rows ≡ weigh (of_seats h) s.rows)
     → ((h : Slot → ℕ) → of_seats h seats ≡ of_taking h take + weigh (of_batch h) more)
     → batches ≡ s.batches ++ more
     → IsGathered n (record s { columns = columns; takes = takes; rows = rows; batches = batches })
-closes_keeps n s take takes seats rows more batches columns i is kept at slots closed b = record {
+closes_keeps n s take takes seats rows more batches columns i is kept at many slots closed b = record {
   slots = λ h.
       let p = i.slots h in
       let q = slots h in
@@ -82,6 +88,7 @@ closes_keeps n s take takes seats rows more batches columns i is kept at slots c
       let y' = ap (weigh (of_batch h)) b in
       omega arith;
   chunks = i.chunks;
+  desks = subst (λ k. IsEachDesk k s.desks) (sym many) i.desks;
   rows = at;
   takes = kept;
   page = i.page;
@@ -99,8 +106,8 @@ no_takes h (x ∷ xs) e = absurd (omega arith)
 
 pub finishes : (n : Names) (s : GatheredState) (page : PageState) (parts : List Part)
     → IsGathered n s → s.columns ≡ 0 → length s.takes ≡ 0
-    → page ≡ s.page → ((g : ℕ → ℕ) → weigh g page.gave ≡ weigh g page.got)
-    → ((g : ℕ → ℕ) → weigh g s.page.gave + weigh (of_part g) parts ≡ weigh g n.chunks)
+    → page ≡ s.page → ((g : DrawnChunk → ℕ) → weigh g page.gave ≡ weigh g page.got)
+    → ((g : ℕ → ℕ) → weigh (of_entry g) s.page.gave + weigh (of_part g) parts ≡ weigh g n.chunks)
     → IsWhole s.desks s.batches s.lent s.freed parts n.chunks
 finishes n s page parts i columns takes same all left = record {
   slots = λ h.
@@ -109,10 +116,10 @@ finishes n s page parts i columns takes same all left = record {
       let b = no_takes h s.takes takes in
       omega arith;
   chunks = λ g.
-      let p = i.chunks g in
-      let a = all g in
+      let p = i.chunks (of_entry g) in
+      let a = all (of_entry g) in
       let b = left g in
-      let d = ap (λ (x : PageState). weigh g x.gave) same in
-      let e = ap (λ (x : PageState). weigh g x.got) same in
+      let d = ap (λ (x : PageState). weigh (of_entry g) x.gave) same in
+      let e = ap (λ (x : PageState). weigh (of_entry g) x.got) same in
       omega arith;
 }

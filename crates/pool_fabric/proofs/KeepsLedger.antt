@@ -5,8 +5,9 @@ use lib.ListN.{get_elem?}
 use Rattle.crossbeam_queue.specs.Fifo.{Forks, Merges, Learns}
 use Rattle.crossbeam_queue.proofs.Lists.{at_set}
 use Rattle.pool_fabric.specs.declared.ledger.Hand.{Hand}
+use Rattle.pool_fabric.specs.declared.ledger.DrawnChunk.{DrawnChunk}
 use Rattle.pool_fabric.specs.Weights.{weigh}
-use Rattle.pool_fabric.specs.Ledgers.{hand, whole, parts_of, gave_of, got_of, IdleIsEmpty, IsBalanced, IsTotal}
+use Rattle.pool_fabric.specs.Ledgers.{hand, whole, parts_of, gave_of, got_of, IdleIsEmpty, IsBalanced, IsTotal, IsWithin}
 use Rattle.pool_fabric.proofs.Sums.{weigh-append, weigh-snoc}
 
 weigh_set : (f : Hand → ℕ) (views : List Hand) (page : ℕ) (v w : Hand) → get_elem? views page ≡ some v → weigh f (set views page w) + f v ≡ weigh f views + f w
@@ -37,7 +38,7 @@ begins = (refl, λ g. refl, idle_new [] (hand whole [] []) (λ nil. (refl, refl)
 
 -- a pass is cut in two that have together what it had, or each one item more
 divides : (page : ℕ) (v w n : Hand) → v.parts ≡ w.parts + n.parts
-    → ((g : ℕ → ℕ) → (gave_of g w + gave_of g n) + got_of g v ≡ (got_of g w + got_of g n) + gave_of g v)
+    → ((g : DrawnChunk → ℕ) → (gave_of g w + gave_of g n) + got_of g v ≡ (got_of g w + got_of g n) + gave_of g v)
     → (w.parts ≡ 0 → (w.gave ≡ []) × (w.got ≡ [])) → (n.parts ≡ 0 → (n.gave ≡ []) × (n.got ≡ []))
     → Forks IsBalanced page v w n
 divides page v w n parts even mine new items views b at =
@@ -60,10 +61,10 @@ forks page v more = divides page v (hand (v.parts - 1) v.gave v.got) (hand 1 [] 
 pub spares : (page : ℕ) (v : Hand) → 0 < v.parts → Forks IsBalanced page v v (hand 0 [] [])
 spares page v some_part = divides page v v (hand 0 [] []) (omega arith) (λ g. omega arith) (λ nil. absurd (omega arith)) (λ nil. (refl, refl))
 
-pub deals : (page chunk : ℕ) (v : Hand) → 1 < v.parts → Forks IsBalanced page v (hand (v.parts - 1) (v.gave ++ chunk ∷ []) []) (hand 1 [] (v.got ++ chunk ∷ []))
-deals page chunk v more =
-    divides page v (hand (v.parts - 1) (v.gave ++ chunk ∷ []) []) (hand 1 [] (v.got ++ chunk ∷ [])) (omega arith)
-    (λ g. let p = weigh-snoc g v.gave chunk in let q = weigh-snoc g v.got chunk in omega arith)
+pub deals : (page : ℕ) (d : DrawnChunk) (v : Hand) → 1 < v.parts → Forks IsBalanced page v (hand (v.parts - 1) (v.gave ++ d ∷ []) []) (hand 1 [] (v.got ++ d ∷ []))
+deals page d v more =
+    divides page v (hand (v.parts - 1) (v.gave ++ d ∷ []) []) (hand 1 [] (v.got ++ d ∷ [])) (omega arith)
+    (λ g. let p = weigh-snoc g v.gave d in let q = weigh-snoc g v.got d in omega arith)
     (λ nil. absurd (omega arith)) (λ nil. absurd (omega arith))
 
 pub merges : (page : ℕ) (v : Hand) (other : ℕ) (u : Hand) → 0 < v.parts
@@ -119,3 +120,6 @@ learns page v all items views b at g =
     let t = alone (got_of g) views page v at total (λ j u e nil. ap (weigh g) (b.2 j u e nil).1) in
     let p = b.1 g in
     omega arith
+
+pub bounds : (page : ℕ) (v : Hand) → Learns IsBalanced page v (IsWithin v)
+bounds page v items views b at = let p = part_le views page v at in let q = b.0 in omega arith

@@ -7,7 +7,10 @@ pub mod Steps
 pub mod Cancels
 pub mod Columns
 pub mod Gathers
+pub mod Noted
+pub mod Lacking
 pub mod Accounting
 pub mod Opens
+pub mod Stocked
 pub mod NewBoxes
 pub mod Travels

@@ -1,14 +1,13 @@
 -- One more inbox is opened, and what a fabric is opened from.
-use Rattle.std.proofs.Common.{◌≡◌, ℕ, zero, suc, ◌+◌, ◌<◌, ◌≤◌, List, [], ◌∷◌, ◌++◌, length, map, reverse, refl, sym, ap, ◌∙◌, arith, Some, Bool, ◌^◌, subst}
+use Rattle.std.proofs.Common.{◌≡◌, ℕ, ◌≤◌, List, [], ◌∷◌, ◌++◌, length, map, reverse, refl, sym, ap, ◌∙◌, Some, Bool, ◌^◌, subst}
 use Rattle.std.specs.Prelude.{slice_get, true}
 use Rattle.std.proofs.lemmas.List.Sorted.{IsPermutation-reverse}
 use Rattle.std.proofs.lemmas.Option.{get_or_from_slice_get}
 use Rattle.region_cut.specs.declared.part.Part.{Part}
-use Rattle.region_cut.specs.Parts.{number_of, numbers_from}
+use Rattle.region_cut.specs.Parts.{number_of}
 use Rattle.digit_route.specs.Digits.{Scheme}
 use Rattle.digit_route.specs.States.{BatchState}
 use Rattle.batch_inbox.specs.States.{InboxId, TakeState}
-use Rattle.event_floor.specs.Chunks.{AreNumbered}
 use Rattle.pool_fabric.specs.Names.{box_at}
 use Rattle.digit_route.specs.Limits.{largest_limit}
 use Rattle.pool_fabric.specs.Ledgers.{whole}
@@ -16,7 +15,7 @@ use Rattle.pool_fabric.specs.Pages.{PageState}
 use Rattle.pool_fabric.specs.Weights.{weigh}
 use Rattle.pool_fabric.specs.Accounts.{of_part}
 use Rattle.pool_fabric.specs.Seats.{SeatState, seat_of, AreBoxes, NoneSent}
-use Rattle.pool_fabric.specs.Stocks.{IsRising, AreChunks}
+use Rattle.pool_fabric.specs.Stocks.{StockState, IsFull}
 use Rattle.pool_fabric.specs.Opened.{AreColumns, AreNewTakes, AreOpened, IsOpening, names_of, most_desks}
 use Rattle.pool_fabric.proofs.Sums.{weigh-map, weigh-permutation}
 use Rattle.pool_fabric.proofs.Columns.{get_front, get_seam, each_more, get_mapped}
@@ -55,47 +54,34 @@ new_seats inbox number sent resting i seats new =
     )
 
 -- inboxes and seats by their names
-module _ (d : Scheme) (ledger : List ℕ) (left : List Part) (is : List InboxId) (ts : List TakeState) (cs : List (List SeatState)) (o : AreOpened d (length is) is ts cs) where
-  at : (k : ℕ) (i : InboxId) → slice_get is k ≡ Some i → i ≡ box_at (names_of is d ledger left) k
+module _ (d : Scheme) (limit : ℕ) (ledger : List ℕ) (left : List Part) (is : List InboxId) (ts : List TakeState) (cs : List (List SeatState)) (o : AreOpened d (length is) is ts cs) where
+  at : (k : ℕ) (i : InboxId) → slice_get is k ≡ Some i → i ≡ box_at (names_of is d limit ledger left) k
   at k i e = sym (get_or_from_slice_get is k i _ e)
 
-  pub named_boxes : AreBoxes (names_of is d ledger left) is
+  pub named_boxes : AreBoxes (names_of is d limit ledger left) is
   named_boxes = record { count = refl; each = λ k i e. (at k i e, o.inbox k i e) }
 
-  pub named_takes : AreNewTakes (names_of is d ledger left) ts
+  pub named_takes : AreNewTakes (names_of is d limit ledger left) ts
   named_takes = record { each = λ k t e. let q = o.take k t e in (at k t.inbox q.0, q.1, q.2) }
 
-  pub named_columns : AreColumns (names_of is d ledger left) (length is) cs
+  pub named_columns : AreColumns (names_of is d limit ledger left) (length is) cs
   named_columns = record { each = λ k c e. let q = o.column k c e in (q.0, q.1, λ a s f. let r = q.2 a s f in (at k s.inbox r.0, r.1, r.2)) }
-
-numbered_at : (ps : List Part) (k n i : ℕ) (p : Part) → map number_of ps ≡ numbers_from k n → slice_get ps i ≡ Some p → (p.chunk ≡ k + i) × (i < n)
-numbered_at [] k n i p e f = absurd (cc)
-numbered_at (q ∷ ps) k zero i p e f = absurd (cc)
-numbered_at (q ∷ ps) k (suc n) zero p e f = let same : q ≡ p = cc in let here : number_of q ≡ k = cc in (ap number_of (sym same) ∙ here ∙ omega arith, omega arith)
-numbered_at (q ∷ ps) k (suc n) (suc i) p e f =
-    let r = numbered_at ps (k + 1) n i p (cc) f in (let a = r.0 in omega arith, let b = r.1 in omega arith)
-
--- the parts of a cut
-pub rises : (ps : List Part) → AreNumbered ps → IsRising ps
-rises ps h = record { each = λ i j p q a b l. let x = (numbered_at ps 0 h.0 i p h.2 a).0 in let y = (numbered_at ps 0 h.0 j q h.2 b).0 in omega arith }
-
-pub are_chunks : (ps : List Part) → AreNumbered ps → AreChunks ps
-are_chunks ps h = record { each = λ i p a. let r = numbered_at ps 0 h.0 i p h.2 a in let x = r.0 in let y = r.1 in let z = h.1 in omega arith }
 
 -- the chunks of a stock
 pub named_chunks : (g : ℕ → ℕ) (left : List Part) → weigh (of_part g) left ≡ weigh g (map number_of (reverse left))
 named_chunks g left = sym (weigh-map g number_of (reverse left) ∙ weigh-permutation (of_part g) left (reverse left) (IsPermutation-reverse left))
 
 -- so many inboxes, with their seats
-pub opening_of : (d : Scheme) (ledger : List ℕ) (left : List Part) (is : List InboxId) (ts : List TakeState) (cs : List (List SeatState)) (n : ℕ) (book : PageState) (limit : ℕ)
-    → AreOpened d n is ts cs → length is ≡ n → length ts ≡ n → length cs ≡ n → (n ≤ most_desks) × (n ≤ 2 ^ d.bits) → limit ≤ largest_limit
-    → book ≡ record { key = ledger; parts = whole; gave = []; got = [] } → IsOpening (names_of is d ledger left) is ts cs book limit
-opening_of d ledger left is ts cs n book limit o many takes columns few low whole_book =
+pub opening_of : (d : Scheme) (limit : ℕ) (ledger : List ℕ) (stock : StockState) (is : List InboxId) (ts : List TakeState) (cs : List (List SeatState)) (n : ℕ) (book : PageState)
+    → AreOpened d n is ts cs → length is ≡ n → length ts ≡ n → length cs ≡ n → (n ≤ most_desks) × (n ≤ 2 ^ d.bits) → limit ≤ largest_limit → IsFull stock
+    → book ≡ record { key = ledger; parts = whole; gave = []; got = [] } → IsOpening (names_of is d limit ledger stock.left) is ts cs book stock
+opening_of d limit ledger stock is ts cs n book o many takes columns few low full whole_book =
     let all = subst (λ k. AreOpened d k is ts cs) (sym many) o in record {
-      are_boxes = named_boxes d ledger left is ts cs all;
-      are_takes = (named_takes d ledger left is ts cs all, takes ∙ sym many);
-      are_columns = (named_columns d ledger left is ts cs all, columns ∙ sym many);
+      are_boxes = named_boxes d limit ledger stock.left is ts cs all;
+      are_takes = (named_takes d limit ledger stock.left is ts cs all, takes ∙ sym many);
+      are_columns = (named_columns d limit ledger stock.left is ts cs all, columns ∙ sym many);
       few = subst (λ k. (k ≤ most_desks) × (k ≤ 2 ^ d.bits)) (sym many) few;
       low = low;
+      full = full;
       whole_book = whole_book;
     }

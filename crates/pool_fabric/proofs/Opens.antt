@@ -6,7 +6,7 @@ use Rattle.batch_inbox.specs.States.{TakeState}
 use Rattle.pool_fabric.specs.Weights.{weigh}
 use Rattle.pool_fabric.specs.Names.{Names, box_at}
 use Rattle.pool_fabric.specs.Seats.{SeatState, NoneSent}
-use Rattle.pool_fabric.specs.Accounts.{of_buffer, of_batch, of_home, of_chunk, of_number, of_seats}
+use Rattle.pool_fabric.specs.Accounts.{of_buffer, of_batch, of_home, of_chunk, of_drawn, of_seats}
 use Rattle.pool_fabric.specs.Stations.{StationState, IsSeated, IsStation, IsFresh}
 use Rattle.pool_fabric.specs.Opened.{IsColumn, AreColumns, AreNewTakes}
 use Rattle.pool_fabric.proofs.Columns.{get_front, get_seam}
@@ -31,7 +31,7 @@ fresh_keeps n s f i = record {
       let taken = nothing (of_batch h) s.take.taken f.taken in
       let freed = nothing (of_buffer h) s.freed f.freed in omega arith;
   chunks = λ g.
-      let drawn = nothing (of_number g) s.desk.drawn f.drawn in
+      let drawn = nothing (of_drawn g) s.desk.drawn f.drawn in
       let got = nothing g s.page.got f.got in omega arith;
   seated = i;
 }

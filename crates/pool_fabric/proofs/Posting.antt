@@ -145,15 +145,17 @@ handles_more old (c ∷ cs) mid b new i h = (i.0, i.1, handles_more i.0 cs mid b
 pub record Stays (old new : DeskState) : Type 0 where
   pub number : new.number ≡ old.number
   pub digits : new.digits ≡ old.digits
+  pub limit : new.limit ≡ old.limit
   pub drawn : new.drawn ≡ old.drawn
 
 pub handled_stays : (old : DeskState) (bs : List BatchState) (new : DeskState) → HandlesAll old bs new → Stays old new
-handled_stays old [] new e = record { number = ap (λ (d : DeskState). d.number) e; digits = ap (λ (d : DeskState). d.digits) e; drawn = ap (λ (d : DeskState). d.drawn) e }
+handled_stays old [] new e = record { number = ap (λ (d : DeskState). d.number) e; digits = ap (λ (d : DeskState). d.digits) e; limit = ap (λ (d : DeskState). d.limit) e; drawn = ap (λ (d : DeskState). d.drawn) e }
 handled_stays old (b ∷ bs) new (m, h, i) =
     let r = handled_stays m bs new i in
     record {
       number = r.number ∙ ap (λ (d : DeskState). d.number) h.same;
       digits = r.digits ∙ ap (λ (d : DeskState). d.digits) h.same;
+      limit = r.limit ∙ ap (λ (d : DeskState). d.limit) h.same;
       drawn = r.drawn ∙ ap (λ (d : DeskState). d.drawn) h.same;
     }
 

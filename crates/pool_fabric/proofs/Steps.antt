@@ -8,10 +8,10 @@ use Rattle.pool_desk.specs.Steps.{Claims, Allocs, Frees}
 use Rattle.pool_desk.specs.declared.freed.Freed.{Freed}
 use Rattle.pool_fabric.specs.Weights.{weigh}
 use Rattle.pool_fabric.specs.Names.{Names, box_at}
-use Rattle.pool_fabric.specs.Pages.{PageState}
+use Rattle.pool_fabric.specs.Pages.{PageState, drawn_for}
 use Rattle.pool_fabric.specs.Seats.{SeatState, AreSeatsBy}
 use Rattle.batch_inbox.specs.States.{TakeState}
-use Rattle.pool_fabric.specs.Accounts.{of_buffer, of_batch, of_home, of_chunk, of_number}
+use Rattle.pool_fabric.specs.Accounts.{of_buffer, of_batch, of_home, of_chunk, of_drawn}
 use Rattle.pool_fabric.specs.Posts.{Posts, TakesSome}
 use Rattle.pool_fabric.specs.Calls.{ClaimsPart}
 use Rattle.pool_fabric.specs.Stations.{StationState, IsSeated, IsStation}
@@ -20,10 +20,11 @@ use Rattle.pool_fabric.proofs.DeskSums.{claimed, claimed_chunk, gave, gave_owed,
 use Rattle.pool_fabric.proofs.Posting.{length-sent_all, handled_stays, handled_sum, posted_sum}
 
 -- another desk of the same number, lent and freed other buffers
-pub reseat : (n : Names) (s : StationState) (d : DeskState) (lent freed : List Buffer) → d.number ≡ s.desk.number → d.digits ≡ s.desk.digits → IsSeated n s
+pub reseat : (n : Names) (s : StationState) (d : DeskState) (lent freed : List Buffer) → d.number ≡ s.desk.number → d.digits ≡ s.desk.digits → d.limit ≡ s.desk.limit → IsSeated n s
     → IsSeated n (record s { desk = d; lent = lent; freed = freed })
-reseat n s d lent freed number digits i = record {
+reseat n s d lent freed number digits limit i = record {
   digits = digits ∙ i.digits;
+  limit = limit ∙ i.limit;
   take = i.take ∙ ap (box_at n) (sym number);
   senders = i.senders;
   seats = subst (λ a. AreSeatsBy n a s.seats) (sym number) i.seats;
@@ -45,7 +46,7 @@ lends_keeps n s size b d lent i a more = record {
       let z = ap (weigh (of_buffer h)) more in
       omega arith;
   chunks = λ g. gave_chunks g s.desk size b d a ∙ i.chunks g;
-  seated = reseat n s d lent s.freed (ap (λ (x : DeskState). x.number) a.2) (ap (λ (x : DeskState). x.digits) a.2) i.seated;
+  seated = reseat n s d lent s.freed (ap (λ (x : DeskState). x.number) a.2) (ap (λ (x : DeskState). x.digits) a.2) (ap (λ (x : DeskState). x.limit) a.2) i.seated;
 }
 
 -- a buffer is freed
@@ -61,15 +62,15 @@ frees_keeps n s b f d freed i more a =
           let q = weigh-snoc (of_buffer h) s.freed b in
           let z = ap (weigh (of_buffer h)) more in
           omega arith;
-      chunks = λ g. ap (λ l. weigh (of_number g) l) same.0 ∙ i.chunks g;
-      seated = reseat n s d s.lent freed same.1 same.2 i.seated;
+      chunks = λ g. ap (λ l. weigh (of_drawn g) l) same.0 ∙ i.chunks g;
+      seated = reseat n s d s.lent freed same.1 same.2 same.3 i.seated;
     }
 
 -- batches are taken and handled
 pub takes_keeps : (n : Names) (s : StationState) (k : ℕ) (d : DeskState) (t : TakeState) → IsStation n s → TakesSome s.desk s.take k d t → IsStation n (record s { desk = d; take = t })
 takes_keeps n s k d t i a =
     let same = handled_stays s.desk a.batches d a.handled in
-    let r = reseat n s d s.lent s.freed same.number same.digits i.seated in
+    let r = reseat n s d s.lent s.freed same.number same.digits same.limit i.seated in
     record {
       slots = λ h.
           let p = i.slots h in
@@ -78,9 +79,10 @@ takes_keeps n s k d t i a =
           let q = weigh-append (of_batch h) s.take.taken a.batches in
           let z = ap (λ (x : TakeState). weigh (of_batch h) x.taken) a.taken in
           omega arith;
-      chunks = λ g. ap (weigh (of_number g)) same.drawn ∙ i.chunks g;
+      chunks = λ g. ap (weigh (of_drawn g)) same.drawn ∙ i.chunks g;
       seated = record {
         digits = r.digits;
+        limit = r.limit;
         take = ap (λ (x : TakeState). x.inbox) a.taken ∙ r.take;
         senders = ap (λ (x : TakeState). x.senders) a.taken ∙ i.seated.senders;
         seats = r.seats;
@@ -95,7 +97,7 @@ takes_keeps n s k d t i a =
 pub posts_keeps : (n : Names) (s : StationState) (d : DeskState) (seats : List SeatState) → IsStation n s → d ≡ record s.desk { cached = d.cached } → AreSeatsBy n s.desk.number seats
     → Posts s.desk.cached s.seats d.cached seats → IsStation n (record s { desk = d; seats = seats })
 posts_keeps n s d seats i same are a =
-    let r = reseat n s d s.lent s.freed (ap (λ (x : DeskState). x.number) same) (ap (λ (x : DeskState). x.digits) same) i.seated in
+    let r = reseat n s d s.lent s.freed (ap (λ (x : DeskState). x.number) same) (ap (λ (x : DeskState). x.digits) same) (ap (λ (x : DeskState). x.limit) same) i.seated in
     record {
       slots = λ h.
           let p = i.slots h in
@@ -103,9 +105,10 @@ posts_keeps n s d seats i same are a =
           let o = ap (λ (x : DeskState). weigh (of_chunk h) x.drawn) same in
           let q = ap (λ (x : DeskState). weigh (of_home h) x.home) same in
           omega arith;
-      chunks = λ g. ap (λ (x : DeskState). weigh (of_number g) x.drawn) same ∙ i.chunks g;
+      chunks = λ g. ap (λ (x : DeskState). weigh (of_drawn g) x.drawn) same ∙ i.chunks g;
       seated = record {
         digits = r.digits;
+        limit = r.limit;
         take = r.take;
         senders = r.senders;
         seats = subst (λ k. AreSeatsBy n k seats) (sym (ap (λ (x : DeskState). x.number) same)) are;
@@ -118,19 +121,20 @@ posts_keeps n s d seats i same are a =
 
 -- a part of the stock is claimed
 pub claims_keeps : (n : Names) (s : StationState) (p : Part) (class : ℕ) (d : DeskState) (page : PageState) → IsStation n s
-    → Claims s.desk p class d → page ≡ record s.page { got = s.page.got ++ p.chunk ∷ [] } → IsStation n (record s { desk = d; page = page })
+    → Claims s.desk p class d → page ≡ record s.page { got = s.page.got ++ drawn_for p.chunk class ∷ [] } → IsStation n (record s { desk = d; page = page })
 claims_keeps n s p class d page i a more =
-    let r = reseat n s d s.lent s.freed (ap (λ (z : DeskState). z.number) a.same) (ap (λ (z : DeskState). z.digits) a.same) i.seated in
+    let r = reseat n s d s.lent s.freed (ap (λ (z : DeskState). z.number) a.same) (ap (λ (z : DeskState). z.digits) a.same) (ap (λ (z : DeskState). z.limit) a.same) i.seated in
     record {
       slots = λ h. let q = i.slots h in let e = claimed h s.desk p class d a in omega arith;
       chunks = λ g.
           let q = i.chunks g in
           let e = claimed_chunk g s.desk p class d a in
-          let w = weigh-snoc g s.page.got p.chunk in
+          let w = weigh-snoc g s.page.got (drawn_for p.chunk class) in
           let z = ap (λ (x : PageState). weigh g x.got) more in
           omega arith;
       seated = record {
         digits = r.digits;
+        limit = r.limit;
         take = r.take;
         senders = r.senders;
         seats = r.seats;
@@ -145,7 +149,7 @@ claims_keeps n s p class d page i a more =
 pub same_page : (n : Names) (s : StationState) (page : PageState) → IsStation n s → page ≡ s.page → IsStation n (record s { page = page })
 same_page n s page i e = subst (λ p. IsStation n (record s { page = p })) (sym e) i
 
-pub claims_part : (s : StationState) (class : ℕ) (p : Part) (d : DeskState) (page : PageState) → Claims s.desk p class d → page ≡ record s.page { got = s.page.got ++ p.chunk ∷ [] }
+pub claims_part : (s : StationState) (class : ℕ) (p : Part) (d : DeskState) (page : PageState) → Claims s.desk p class d → page ≡ record s.page { got = s.page.got ++ drawn_for p.chunk class ∷ [] }
     → ClaimsPart s class (record s { desk = d; page = page })
 claims_part s class p d page a more = record { part = p; desk = a; same = ap (λ q. record s { desk = d; page = q }) more }
 

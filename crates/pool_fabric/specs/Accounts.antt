@@ -10,7 +10,9 @@ use Rattle.pool_desk.specs.Homes.{AtHome, slot_at}
 use Rattle.pool_desk.specs.Slots.{places}
 use Rattle.pool_desk.specs.Desks.{DeskState}
 use Rattle.batch_inbox.specs.States.{TakeState}
+use Rattle.pool_fabric.specs.declared.ledger.DrawnChunk.{DrawnChunk}
 use Rattle.pool_fabric.specs.Weights.{weigh}
+use Rattle.pool_fabric.specs.Pages.{drawn_for}
 use Rattle.pool_fabric.specs.Seats.{SeatState}
 
 abbrev pub of_buffer : (Slot → ℕ) → Buffer → ℕ
@@ -57,3 +59,16 @@ of_part g p = g p.chunk
 -- the chunks that a desk drew
 abbrev pub drawn_by : (ℕ → ℕ) → DeskState → ℕ
 drawn_by g d = weigh (of_number g) d.drawn
+
+-- the chunks on a page
+abbrev pub of_entry : (ℕ → ℕ) → DrawnChunk → ℕ
+of_entry g d = g d.chunk
+
+-- chunks are weighed by their numbers and classes
+
+abbrev pub of_drawn : (DrawnChunk → ℕ) → Carved → ℕ
+of_drawn g c = g (drawn_for c.chunk c.class)
+
+-- the chunks that a desk drew
+abbrev pub drew : (DrawnChunk → ℕ) → DeskState → ℕ
+drew g d = weigh (of_drawn g) d.drawn

@@ -5,6 +5,7 @@ use Rattle.region_cut.specs.declared.part.Part.{Part}
 use Rattle.pool_desk.specs.Steps.{Claims, Allocs, Frees}
 use Rattle.pool_desk.specs.declared.error.DeskError.{DeskError}
 use Rattle.pool_desk.specs.declared.freed.Freed.{Freed}
+use Rattle.pool_fabric.specs.Pages.{drawn_for}
 use Rattle.pool_fabric.specs.Stations.{StationState}
 
 -- the desk gives out a buffer, which is then lent; or it gives none, and all is as before
@@ -23,4 +24,7 @@ pub record TakesBack (old : StationState) (b : Buffer) (r : Freed) (new : Statio
 pub record ClaimsPart (old : StationState) (class : ℕ) (new : StationState) : Type 0 where
   pub part : Part
   pub desk : Claims old.desk part class new.desk
-  pub same : new ≡ record old { desk = new.desk; page = record old.page { got = old.page.got ++ part.chunk ∷ [] } }
+  pub same : new ≡ record old {
+    desk = new.desk;
+    page = record old.page { got = old.page.got ++ drawn_for part.chunk class ∷ [] };
+  }

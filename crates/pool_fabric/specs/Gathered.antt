@@ -9,7 +9,9 @@ use Rattle.pool_fabric.specs.Weights.{weigh}
 use Rattle.pool_fabric.specs.Names.{Names, box_at}
 use Rattle.pool_fabric.specs.Pages.{PageState}
 use Rattle.pool_fabric.specs.Seats.{SeatState, AreSeatsBy}
-use Rattle.pool_fabric.specs.Accounts.{of_buffer, of_batch, of_seats, of_taking, held, owed, drawn_by}
+use Rattle.pool_fabric.specs.declared.ledger.DrawnChunk.{DrawnChunk}
+use Rattle.pool_fabric.specs.Whole.{IsEachDesk}
+use Rattle.pool_fabric.specs.Accounts.{of_buffer, of_batch, of_seats, of_taking, held, owed, drew}
 use Rattle.pool_fabric.specs.Stations.{StationState}
 
 -- these are the seats at the inbox, of the senders in order
@@ -47,7 +49,8 @@ pub record IsGathered (n : Names) (s : GatheredState) : Type 0 where
   pub slots : (h : Slot → ℕ)
       → weigh (held h) s.desks + weigh (of_seats h) s.rows + weigh (of_buffer h) s.lent + weigh (of_batch h) s.batches
       ≡ weigh (owed h) s.desks + weigh (of_taking h) s.takes + weigh (of_buffer h) s.freed
-  pub chunks : (g : ℕ → ℕ) → weigh (drawn_by g) s.desks ≡ weigh g s.page.got
+  pub chunks : (g : DrawnChunk → ℕ) → weigh (drew g) s.desks ≡ weigh g s.page.got
+  pub desks : IsEachDesk (length s.rows) s.desks
   pub rows : AreRows n s.columns s.rows
   pub takes : AreTakes n s.takes
   pub page : s.page.key ≡ n.ledger

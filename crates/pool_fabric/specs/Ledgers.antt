@@ -1,11 +1,12 @@
 -- The rule of a ledger: what was given is what was got, however it is weighed.
-use Rattle.std.specs.Prelude.{◌≡◌, ℕ, List, []}
+use Rattle.std.specs.Prelude.{◌≡◌, ℕ, ◌≤◌, List, []}
 use mathlib.Core.Option.{some}
 use lib.ListN.{get_elem?}
 use Rattle.pool_fabric.specs.declared.ledger.Hand.{Hand}
+use Rattle.pool_fabric.specs.declared.ledger.DrawnChunk.{DrawnChunk}
 use Rattle.pool_fabric.specs.Weights.{weigh}
 
-abbrev pub hand : ℕ → List ℕ → List ℕ → Hand
+abbrev pub hand : ℕ → List DrawnChunk → List DrawnChunk → Hand
 hand parts gave got = record { parts = parts; gave = gave; got = got }
 
 -- all parts of the right to know the whole
@@ -16,10 +17,10 @@ abbrev pub parts_of : Hand → ℕ
 parts_of v = v.parts
 
 -- what a pass gave, and what it got, weighed
-abbrev pub gave_of : (ℕ → ℕ) → Hand → ℕ
+abbrev pub gave_of : (DrawnChunk → ℕ) → Hand → ℕ
 gave_of g v = weigh g v.gave
 
-abbrev pub got_of : (ℕ → ℕ) → Hand → ℕ
+abbrev pub got_of : (DrawnChunk → ℕ) → Hand → ℕ
 got_of g v = weigh g v.got
 
 -- a pass with no part has given and got nothing
@@ -30,9 +31,13 @@ IdleIsEmpty views = (page : ℕ) (v : Hand) → get_elem? views page ≡ some v 
 abbrev pub IsBalanced : List ℕ → List Hand → Type 0
 IsBalanced items views =
     (weigh parts_of views ≡ whole)
-    × ((g : ℕ → ℕ) → weigh (gave_of g) views ≡ weigh (got_of g) views)
+    × ((g : DrawnChunk → ℕ) → weigh (gave_of g) views ≡ weigh (got_of g) views)
     × IdleIsEmpty views
 
 -- what the pass with every part learns
 abbrev pub IsTotal : Hand → List ℕ → Type 0
-IsTotal v items = (g : ℕ → ℕ) → weigh g v.gave ≡ weigh g v.got
+IsTotal v items = (g : DrawnChunk → ℕ) → weigh g v.gave ≡ weigh g v.got
+
+-- what any pass learns: it has no more than every part
+abbrev pub IsWithin : Hand → List ℕ → Type 0
+IsWithin v items = v.parts ≤ whole

@@ -8,7 +8,8 @@ pub mod Stations
 pub mod Calls
 pub mod Posts
 pub mod Stocks
-pub mod Gathered
 pub mod Whole
+pub mod Gathered
+pub mod Faults
 pub mod Audited
 pub mod Opened

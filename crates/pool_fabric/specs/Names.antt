@@ -4,11 +4,12 @@ use Rattle.digit_route.specs.Digits.{Scheme}
 use Rattle.batch_inbox.specs.States.{InboxId}
 use Rattle.batch_inbox.specs.Views.{nowhere}
 
--- the inbox of each desk, in order of their numbers from 0, how the desks' numbers are read, how many desks there are,
--- the ledger, and the chunks that the stock began with
+-- the inbox of each desk, in order of their numbers from 0, how the desks' numbers are read, the limit of each desk's
+-- cache in bytes, how many desks there are, the ledger, and the chunks that the stock began with
 pub record Names : Type 0 where
   pub boxes : List InboxId
   pub digits : Scheme
+  pub limit : ℕ
   pub count : ℕ
   pub ledger : List ℕ
   pub chunks : List ℕ
@@ -18,6 +19,7 @@ abbrev pub nothing : Names
 nothing = record {
   boxes = [];
   digits = nowhere.digits;
+  limit = 0;
   count = 0;
   ledger = [];
   chunks = [];

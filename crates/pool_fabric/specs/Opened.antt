@@ -9,6 +9,7 @@ use Rattle.pool_fabric.specs.Ledgers.{whole}
 use Rattle.pool_fabric.specs.Names.{Names, box_at}
 use Rattle.pool_fabric.specs.Pages.{PageState}
 use Rattle.pool_fabric.specs.Seats.{SeatState, NoneSent, AreBoxes}
+use Rattle.pool_fabric.specs.Stocks.{StockState, IsFull}
 
 -- the most desks that a fabric has
 abbrev pub most_desks : ℕ
@@ -41,23 +42,26 @@ pub record AreOpened (digits : Scheme) (senders : ℕ)
       × ((a : ℕ) (s : SeatState) → slice_get c a ≡ Some s
       → (slice_get boxes k ≡ Some s.inbox) × (s.sender ≡ a) × (s.resting ≡ true))
 
--- what the stations of a fabric agree on that is made of these inboxes, this ledger, and a stock with these parts left
-abbrev pub names_of : List InboxId → Scheme → List ℕ → List Part → Names
-names_of boxes digits ledger left = record {
+-- what the stations of a fabric agree on that is made of these inboxes, this ledger, and a stock with these parts left,
+-- with caches of this limit
+abbrev pub names_of : List InboxId → Scheme → ℕ → List ℕ → List Part → Names
+names_of boxes digits limit ledger left = record {
   boxes = boxes;
   digits = digits;
+  limit = limit;
   count = length boxes;
   ledger = ledger;
   chunks = map number_of (reverse left);
 }
 
--- What a fabric of these names is made of: its inboxes, a new take seat and new send seats at each,
--- and the page with every part of its ledger.
+-- What a fabric of these names is made of: its inboxes, a new take seat and new send seats at each, the page with
+-- every part of its ledger, and a full stock.
 pub record IsOpening (n : Names) (boxes : List InboxId) (takes : List TakeState) (columns : List (List SeatState))
-    (book : PageState) (limit : ℕ) : Type 0 where
+    (book : PageState) (stock : StockState) : Type 0 where
   pub are_boxes : AreBoxes n boxes
   pub are_takes : AreNewTakes n takes × (length takes ≡ n.count)
   pub are_columns : AreColumns n n.count columns × (length columns ≡ n.count)
   pub few : (n.count ≤ most_desks) × (n.count ≤ 2 ^ n.digits.bits)
-  pub low : limit ≤ largest_limit
+  pub low : n.limit ≤ largest_limit
+  pub full : IsFull stock
   pub whole_book : book ≡ record { key = n.ledger; parts = whole; gave = []; got = [] }

@@ -8,7 +8,8 @@ use Rattle.pool_fabric.specs.Weights.{weigh}
 use Rattle.pool_fabric.specs.Names.{Names, box_at}
 use Rattle.pool_fabric.specs.Pages.{PageState}
 use Rattle.pool_fabric.specs.Seats.{SeatState, AreSeatsBy, NoneSent}
-use Rattle.pool_fabric.specs.Accounts.{of_buffer, of_batch, of_seats, held, owed, drawn_by}
+use Rattle.pool_fabric.specs.declared.ledger.DrawnChunk.{DrawnChunk}
+use Rattle.pool_fabric.specs.Accounts.{of_buffer, of_batch, of_seats, held, owed, drew}
 
 -- the desk, its seats, its page of the ledger, and the buffers that it lent out and that were freed to it
 pub record StationState : Type 0 where
@@ -38,12 +39,13 @@ KeepsSlots s = (h : Slot → ℕ)
     → held h s.desk + of_seats h s.seats + weigh (of_buffer h) s.lent
     ≡ owed h s.desk + weigh (of_batch h) s.take.taken + weigh (of_buffer h) s.freed
 
--- However chunks are weighed: those that it drew are those that it got.
+-- However chunks and their classes are weighed: those that it drew are those that it got.
 abbrev pub KeepsChunks : StationState → Type 0
-KeepsChunks s = (g : ℕ → ℕ) → drawn_by g s.desk ≡ weigh g s.page.got
+KeepsChunks s = (g : DrawnChunk → ℕ) → drew g s.desk ≡ weigh g s.page.got
 
 pub record IsSeated (n : Names) (s : StationState) : Type 0 where
   pub digits : s.desk.digits ≡ n.digits
+  pub limit : s.desk.limit ≡ n.limit
   pub take : s.take.inbox ≡ box_at n s.desk.number
   pub senders : s.take.senders ≡ n.count
   pub seats : AreSeatsBy n s.desk.number s.seats

@@ -1,12 +1,13 @@
 -- What a contract sees of the stock of chunks.
-use Rattle.std.specs.Prelude.{◌≡◌, ◌≢◌, ℕ, ◌+◌, ◌<◌, ◌≤◌, List, [], ◌∷◌, ◌++◌, Option, Some, slice_get}
+use Rattle.std.specs.Prelude.{◌≡◌, ◌≢◌, ℕ, ◌+◌, ◌<◌, ◌≤◌, List, [], ◌∷◌, ◌++◌, Option, Some, None, slice_get}
 use Rattle.region_cut.specs.declared.part.Part.{Part}
 use Rattle.trace_audit.specs.Audit.{class_at}
 use Rattle.pool_fabric.specs.Weights.{weigh}
-use Rattle.pool_fabric.specs.Accounts.{of_part}
+use Rattle.pool_fabric.specs.declared.ledger.DrawnChunk.{DrawnChunk}
+use Rattle.pool_fabric.specs.Accounts.{of_part, of_entry}
 use Rattle.pool_fabric.specs.Ledgers.{whole}
 use Rattle.pool_fabric.specs.Names.{Names}
-use Rattle.pool_fabric.specs.Pages.{PageState}
+use Rattle.pool_fabric.specs.Pages.{PageState, drawn_for}
 
 -- the parts that are left, that of the greatest number first, and which chunks were drawn for which class
 pub record StockState : Type 0 where
@@ -25,6 +26,25 @@ pub record IsFalling (ps : List Part) : Type 0 where
 pub record AreChunks (ps : List Part) : Type 0 where
   pub each : (k : ℕ) (p : Part) → slice_get ps k ≡ Some p → p.chunk < 1024
 
+-- no two are of one chunk
+pub record AreApart (ps : List Part) : Type 0 where
+  pub each : (i j : ℕ) (p q : Part) → slice_get ps i ≡ Some p → slice_get ps j ≡ Some q → p.chunk ≡ q.chunk → i ≡ j
+
+-- none of these is told as drawn
+pub record AreUndrawn (drawn : List (Option ℕ)) (ps : List Part) : Type 0 where
+  pub each : (k : ℕ) (p : Part) → slice_get ps k ≡ Some p → class_at drawn p.chunk ≡ None
+
+-- the chunks told as drawn are those that were given, each for its class
+pub record AreTold (drawn : List (Option ℕ)) (gave : List DrawnChunk) : Type 0 where
+  pub given : (chunk class : ℕ) → class_at drawn chunk ≡ Some class
+      → (k : ℕ) × (slice_get gave k ≡ Some (drawn_for chunk class))
+  pub told : (k : ℕ) (d : DrawnChunk) → slice_get gave k ≡ Some d → class_at drawn d.chunk ≡ Some d.class
+
+-- no chunk is drawn yet, and each is there once
+pub record IsFull (s : StockState) : Type 0 where
+  pub none : (k : ℕ) → class_at s.drawn k ≡ None
+  pub apart : AreApart s.left
+
 -- no part is left of a lesser number
 abbrev pub IsLeast : Part → List Part → Type 0
 IsLeast p ps = (k : ℕ) (q : Part) → slice_get ps k ≡ Some q → p.chunk ≤ q.chunk
@@ -41,10 +61,13 @@ pub record GivesPart (old : StockState) (class : ℕ) (p : Part) (new : StockSta
   pub noted : IsNoted p.chunk class old.drawn new.drawn
 
 -- What lies under the stock's lock: the chunks that the book gave and those that are left
--- are the chunks that the stock began with.
+-- are the chunks that the stock began with, and those that are told as drawn are those that the book gave.
 pub record IsStore (n : Names) (s : StockState) (book : PageState) : Type 0 where
   pub key : book.key ≡ n.ledger
   pub none_got : book.got ≡ []
   pub parts : book.parts + n.count ≡ whole
   pub some_part : 0 < book.parts
-  pub chunks : (g : ℕ → ℕ) → weigh g book.gave + weigh (of_part g) s.left ≡ weigh g n.chunks
+  pub chunks : (g : ℕ → ℕ) → weigh (of_entry g) book.gave + weigh (of_part g) s.left ≡ weigh g n.chunks
+  pub told : AreTold s.drawn book.gave
+  pub undrawn : AreUndrawn s.drawn s.left
+  pub apart : AreApart s.left

@@ -1,9 +1,11 @@
 -- Nothing is lost, and nothing is there twice.
-use Rattle.std.specs.Prelude.{◌≡◌, ℕ, ◌+◌, List}
+use Rattle.std.specs.Prelude.{◌≡◌, ℕ, ◌+◌, List, length, Option, Some, slice_get}
+use Rattle.region_cut.specs.Carved.{Carved}
 use Rattle.region_cut.specs.declared.slot.Slot.{Slot}
 use Rattle.region_cut.specs.declared.part.Part.{Part}
 use Rattle.slot_chain.specs.Buffer.{Buffer}
 use Rattle.digit_route.specs.States.{BatchState}
+use Rattle.trace_audit.specs.Audit.{class_at}
 use Rattle.pool_desk.specs.Desks.{DeskState}
 use Rattle.pool_fabric.specs.Weights.{weigh}
 use Rattle.pool_fabric.specs.Accounts.{of_buffer, of_batch, of_part, held, owed, drawn_by}
@@ -18,3 +20,24 @@ pub record IsWhole
       → weigh (held h) desks + weigh (of_batch h) batches + weigh (of_buffer h) lent
       ≡ weigh (owed h) desks + weigh (of_buffer h) freed
   pub chunks : (g : ℕ → ℕ) → weigh (drawn_by g) desks + weigh (of_part g) parts ≡ weigh g chunks_there
+
+-- so many desks, each at its number: none is missing, and none is there twice
+pub record IsEachDesk (count : ℕ) (desks : List DeskState) : Type 0 where
+  pub many : length desks ≡ count
+  pub each : (k : ℕ) (d : DeskState) → slice_get desks k ≡ Some d → d.number ≡ k
+
+-- one of the desks drew the chunk, for the class
+pub record IsDrawn (desks : List DeskState) (chunk class : ℕ) : Type 0 where
+  pub number : ℕ
+  pub desk : DeskState
+  pub is_one : slice_get desks number ≡ Some desk
+  pub place : ℕ
+  pub part : Carved
+  pub drawn : slice_get desk.drawn place ≡ Some part
+  pub chunk_is : part.chunk ≡ chunk
+  pub class_is : part.class ≡ class
+
+-- the chunks that are told as drawn are those that the desks drew, each for its class
+pub record AreNoted (desks : List DeskState) (drawn : List (Option ℕ)) : Type 0 where
+  pub only : (chunk class : ℕ) → class_at drawn chunk ≡ Some class → IsDrawn desks chunk class
+  pub all : (chunk class : ℕ) → IsDrawn desks chunk class → class_at drawn chunk ≡ Some class

@@ -1,5 +1,5 @@
 //! What all workers share.
-ghost use Rattle.std.specs.Prelude.{◌≡◌, ◌<◌, [], ◌++◌, map, length, IfErr, MatchResult};
+ghost use Rattle.std.specs.Prelude.{◌≡◌, ◌<◌, [], ◌++◌, map, length, IfErr, IfSome, MatchResult};
 ghost use Rattle.pool_fabric.specs.Names.{box_at};
 ghost use Rattle.pool_fabric.specs.Seats.{seat_of, AreSeatsBy, AreBoxes};
 ghost use Rattle.pool_fabric.specs.Posts.{Posts, TakesSome, sent_at};
@@ -37,8 +37,10 @@ impl<'r, T: Receiver, S: Sender, M: Mail<'r, TakeSeat = T, SendSeat = S>, J: Nam
     S,
     J,
 > {
-    /// Gets a station off the shelf, or says that none is there.
-    pub fn station<R: Wait>(&self, rt: &R) -> Option<Station<'r, T, S, J>> {
+    /// Gets a station off the shelf, or says that none is there. Its cache has the fabric's limit.
+    pub fn station<R: Wait>(&self, rt: &R) -> Option<Station<'r, T, S, J>>
+        ensures { IfSome result (λ s. s.desk.limit ≡ J.names.limit) }
+    {
         self.shelf.lock(rt).get()
     }
 

@@ -1,10 +1,14 @@
 //! All that is found in the end.
-ghost use Rattle.std.specs.Prelude.{◌≡◌, ℕ, ◌+◌, ◌<◌, [], length, map, Some, slice_get, IfOk, IfSome};
+ghost use Rattle.std.specs.Prelude.{◌≡◌, ℕ, ◌+◌, ◌<◌, [], ◌∷◌, length, map, Some, slice_get, IsPermutation};
+ghost use Rattle.std.specs.Prelude.{IfOk, IfErr, MatchOption};
 ghost use Rattle.pool_fabric.specs.Names.{box_at};
 ghost use Rattle.pool_fabric.specs.Ledgers.{whole};
-ghost use Rattle.pool_fabric.specs.Accounts.{of_part};
+ghost use Rattle.pool_fabric.specs.Accounts.{of_part, of_entry};
 ghost use Rattle.pool_fabric.specs.Weights.{weigh};
-ghost use Rattle.pool_fabric.specs.Whole.{IsWhole};
+ghost use Rattle.pool_fabric.specs.Stations.{StationState};
+ghost use Rattle.pool_fabric.specs.Stocks.{AreTold};
+ghost use Rattle.pool_fabric.specs.Faults.{LacksNumber, IsGatherFault};
+ghost use Rattle.pool_fabric.specs.Whole.{IsWhole, IsEachDesk, AreNoted};
 
 use crate::fabric::Fabric;
 use crate::gathered::Gathered;
@@ -29,7 +33,7 @@ use trace_audit::Drawn;
 pub enum GatherError {
     /// Memory was refused.
     NoMemory,
-    /// The stations are not those of all inboxes, each once.
+    /// The station of a desk did not come back.
     Missing,
 }
 
@@ -50,23 +54,39 @@ pub struct Found<'r> {
     pub drawn: Drawn,
 }
 
-// Takes the station of this number out of the list.
-fn out_of<'r, T: Receiver, S: Sender, J: Naming>(
-    stations: &mut Vec<HeldStation<'r, T, S, J>>,
+// Where the station of this number stands.
+fn place_of<'r, T: Receiver, S: Sender, J: Naming>(
+    stations: &[HeldStation<'r, T, S, J>],
     number: usize,
-) -> Option<HeldStation<'r, T, S, J>>
-    ensures { IfSome result (λ s. s.desk.number ≡ number) }
+) -> Option<usize>
+    ensures { MatchOption result
+        (LacksNumber number stations.now)
+        (λ k. (s : StationState) × (slice_get stations.now k ≡ Some s) × (s.desk.number ≡ number)) }
 {
     for at in 0..stations.len() {
         if usize::from(stations[at].number()) == number {
-            return Some(stations.swap_remove(at));
+            return Some(at);
         }
     }
     None
 }
 
+// Takes the station of this number out of the list.
+fn out_of<'r, T: Receiver, S: Sender, J: Naming>(
+    stations: &mut Vec<HeldStation<'r, T, S, J>>,
+    number: usize,
+) -> Option<HeldStation<'r, T, S, J>>
+    ensures { MatchOption result
+        (LacksNumber number stations.old.items)
+        (λ s. (s.desk.number ≡ number) × IsPermutation stations.old.items (s ∷ stations.new.items)) }
+{
+    let at = place_of(stations.as_slice(), number)?;
+    Some(stations.swap_remove(at))
+}
+
 // Takes all stations apart, in order of their numbers.
-fn add_all<'r, T: Receiver, S: Sender, J: Naming>(
+fn add_all<'r, T: Receiver, S: Sender, J: Naming, R: Wait>(
+    rt: &R,
     alloc: Global,
     ledger: &Ledger,
     stations: Vec<HeldStation<'r, T, S, J>>,
@@ -75,10 +95,12 @@ fn add_all<'r, T: Receiver, S: Sender, J: Naming>(
 ) -> Result<Gathered<'r, T, S, J>, GatherError>
     requires ledger { ledger.now ≡ J.names.ledger }
     requires columns { columns ≡ J.names.count }
-    requires page { (page.key ≡ J.names.ledger) × (page.got ≡ []) × (0 < page.parts) }
+    requires page { (page.key ≡ J.names.ledger) × (page.got ≡ []) × (0 < page.parts)
+        × (page.parts + J.names.count ≡ whole) }
     ensures columns { IfOk result (λ g.
         (g.columns ≡ columns) × (length g.takes ≡ columns) × (length g.rows ≡ columns)) }
-    ensures page { IfOk result (λ g. (g.page.parts ≡ page.parts + columns) × (g.page.gave ≡ page.gave)) }
+    ensures page { IfOk result (λ g. (g.page.parts ≡ whole) × (g.page.gave ≡ page.gave)) }
+    ensures fault { IfErr result (IsGatherFault columns stations.entry.items) }
 {
     let mut stations = stations;
     let mut gathered = Gathered::new(alloc, columns, page);
@@ -91,8 +113,9 @@ fn add_all<'r, T: Receiver, S: Sender, J: Naming>(
         };
         gathered = more;
     }
-    if !stations.is_empty() {
-        return Err(GatherError::Missing);
+    if let Some(other) = stations.pop() {
+        gathered.exclude(rt, ledger, other);
+        unreachable!();
     }
     Ok(gathered)
 }
@@ -114,7 +137,8 @@ fn close_all<
     requires columns { (gathered.columns ≡ length inboxes.items) × (length gathered.takes ≡ length inboxes.items)
         × (length gathered.rows ≡ J.names.count) }
     requires inboxes { (k : ℕ) (i : M) → slice_get inboxes.items k ≡ Some i → M.id i ≡ box_at J.names k }
-    ensures { IfOk result (λ g. (g.columns ≡ 0) × (length g.takes ≡ 0) × (g.page ≡ gathered.entry.page)) }
+    ensures { IfOk result (λ g. (g.columns ≡ 0) × (length g.takes ≡ 0) × (length g.rows ≡ J.names.count)
+        × (g.page ≡ gathered.entry.page)) }
 {
     let mut gathered = gathered;
     let mut inboxes = inboxes;
@@ -127,12 +151,15 @@ fn close_all<
 impl<'r, T: Receiver, S: Sender, J: Naming> Gathered<'r, T, S, J> {
     /// Looks into the ledger and the stock, once all inboxes are ended.
     pub(crate) fn finish<R: Wait>(self, rt: &R, ledger: &Ledger, stock: Stock<'r>) -> Found<'r>
-        requires columns { (self.columns ≡ 0) × (length self.takes ≡ 0) }
+        requires columns { (self.columns ≡ 0) × (length self.takes ≡ 0) × (length self.rows ≡ J.names.count) }
         requires page { (ledger.now ≡ J.names.ledger) × (self.page.parts ≡ whole) }
         requires chunks { (g : ℕ → ℕ)
-            → weigh g self.page.gave + weigh (of_part g) stock.left ≡ weigh g J.names.chunks }
-        ensures { IsWhole result.desks.items result.batches.items result.lent.items result.freed.items
+            → weigh (of_entry g) self.page.gave + weigh (of_part g) stock.left ≡ weigh g J.names.chunks }
+        requires told { AreTold stock.drawn self.page.gave }
+        ensures whole { IsWhole result.desks.items result.batches.items result.lent.items result.freed.items
             result.parts.items J.names.chunks }
+        ensures desks { IsEachDesk J.names.count result.desks.items }
+        ensures drawn { AreNoted result.desks.items result.drawn }
     {
         let Gathered {
             columns: _,
@@ -162,13 +189,13 @@ impl<'r, T: Receiver, S: Sender, J: Naming> Gathered<'r, T, S, J> {
 fn all_of<'r, T: Receiver, S: Sender, J: Naming>(
     shelf: Shelf<'r, T, S, J>,
     held: Vec<HeldStation<'r, T, S, J>>,
-) -> Result<Vec<HeldStation<'r, T, S, J>>, AllocError> {
+) -> Result<Vec<HeldStation<'r, T, S, J>>, AllocError>
+    ensures { IfOk result (λ v. (a : ℕ) → LacksNumber a v.items
+        → LacksNumber a shelf.entry × LacksNumber a held.entry.items) }
+{
     let mut shelf = shelf;
     let mut stations = held;
-    for _ in 0..shelf.len() {
-        let Some(station) = shelf.get() else {
-            return Ok(stations);
-        };
+    while let Some(station) = shelf.get() {
         stations.push(station.adopt(0))?;
     }
     Ok(stations)
@@ -179,7 +206,11 @@ fn all_of<'r, T: Receiver, S: Sender, J: Naming>(
 ///
 /// Whatever the schedule was, and whatever was done with the buffers, nothing is lost and nothing is
 /// there twice: all slots found, with all that was lent, are all slots of the drawn chunks, with all
-/// that was freed.
+/// that was freed. Each desk is found once, and the chunks told as drawn are those that the desks
+/// drew, each for its class.
+///
+/// A want of memory is told as [`GatherError::NoMemory`], a desk whose station did not come back as
+/// [`GatherError::Missing`].
 pub fn gather<
     'r,
     T: Receiver,
@@ -193,8 +224,11 @@ pub fn gather<
     fabric: Fabric<'r, M, T, S, J>,
     held: Vec<HeldStation<'r, T, S, J>>,
 ) -> Result<Found<'r>, GatherError>
-    ensures { IfOk result (λ f.
+    ensures whole { IfOk result (λ f.
         IsWhole f.desks.items f.batches.items f.lent.items f.freed.items f.parts.items J.names.chunks) }
+    ensures desks { IfOk result (λ f. IsEachDesk J.names.count f.desks.items) }
+    ensures drawn { IfOk result (λ f. AreNoted f.desks.items f.drawn) }
+    ensures missing { IfErr result (IsGatherFault J.names.count held.entry.items) }
 {
     let Fabric {
         inboxes,
@@ -207,7 +241,7 @@ pub fn gather<
         return Err(GatherError::NoMemory);
     };
     let Store { stock, book, of: _ } = stock.into_inner();
-    let gathered = add_all(alloc, &ledger, stations, inboxes.len(), book)?;
+    let gathered = add_all(rt, alloc, &ledger, stations, inboxes.len(), book)?;
     let Ok(gathered) = close_all(rt, alloc, gathered, inboxes) else {
         return Err(GatherError::NoMemory);
     };

@@ -1,5 +1,6 @@
 //! What is gathered from the stations.
 ghost use Rattle.std.specs.Prelude.{◌≡◌, ℕ, ◌+◌, ◌-◌, ◌<◌, [], length, IfOk};
+ghost use Rattle.pool_fabric.specs.Ledgers.{whole};
 ghost use Rattle.pool_fabric.specs.Names.{box_at};
 ghost use Rattle.pool_fabric.specs.Gathered.{AddsStation, Closes};
 
@@ -139,6 +140,16 @@ impl<'r, T: Receiver, S: Sender, J: Naming> Gathered<'r, T, S, J> {
             batches,
             of,
         })
+    }
+
+    /// Is never called: no station is left where the page has every part.
+    pub(crate) fn exclude<R: Wait>(self, rt: &R, ledger: &Ledger, station: HeldStation<'r, T, S, J>)
+        requires ledger { ledger.now ≡ J.names.ledger }
+        requires parts { self.page.parts ≡ whole }
+        ensures { ⊥ }
+    {
+        let mut page = self.page;
+        ledger.exclude(rt, &mut page, station.page);
     }
 
     /// Ends the last inbox that is not ended yet.

@@ -1,15 +1,17 @@
 //! Who has which chunk, over all threads.
 //!
 //! The stock gives chunks out and desks get them, in any order and in any thread. A [`Ledger`] keeps
-//! that what was given is what was got. It is a token's matter alone: pages take no memory, and what
+//! that what was given is what was got, each chunk for its class. It is a token's matter alone: pages take no memory, and what
 //! is written on them only contracts see.
 ghost use Rattle.std.specs.Prelude.{◌≡◌, ℕ, ◌+◌, ◌-◌, ◌<◌, [], ◌∷◌, ◌++◌, IfOk};
 ghost use Rattle.pool_fabric.specs.Ledgers.{whole};
-ghost use Rattle.pool_fabric.specs.Pages.{PageState};
+ghost use Rattle.pool_fabric.specs.declared.ledger.DrawnChunk.{DrawnChunk};
+ghost use Rattle.pool_fabric.specs.Pages.{PageState, drawn_for};
 ghost use Rattle.pool_fabric.specs.Weights.{weigh};
 
 use crossbeam_queue::protocol::{Join, Lesson, Protocol, Split};
 use crossbeam_queue::{RuledSegQueue, SegPass};
+use region_cut::Class;
 use slot_chain::NoMemory;
 use std::alloc::Global;
 use std::collections::LinkedList;
@@ -17,11 +19,17 @@ use std::marker::{Brand, Model, PhantomData};
 use std::mem;
 use std::sync::Wait;
 
+// A chunk, and the number of the class for which it was drawn. No value of it is made.
+pub struct DrawnChunk {
+    pub chunk: u16,
+    pub class: u32,
+}
+
 // What a page knows. No value of it is made.
 pub struct Hand {
     pub parts: u64,
-    pub gave: LinkedList<u16>,
-    pub got: LinkedList<u16>,
+    pub gave: LinkedList<DrawnChunk>,
+    pub got: LinkedList<DrawnChunk>,
 }
 
 // The rule: what was given is what was got.
@@ -69,15 +77,17 @@ impl Split<Hand> for Spare {
     ghost right = { λ v. hand 0 [] [] };
 }
 
-/// A chunk that a contract can name. The call that deals one picks it.
+/// A drawn chunk that a contract can name. The call that deals one picks it.
 pub trait Dealing {
-    ghost use Rattle.std.specs.Prelude.{ℕ};
+    ghost use Rattle.pool_fabric.specs.declared.ledger.DrawnChunk.{DrawnChunk};
 
-    ghost chunk: { ℕ };
+    ghost drawn: { DrawnChunk };
 }
 
 impl Dealing for Brand {
-    ghost chunk = { 0 };
+    ghost use Rattle.pool_fabric.specs.Pages.{drawn_for};
+
+    ghost drawn = { drawn_for 0 0 };
 }
 
 // The first page gives the chunk, and the second, which has all that was got, gets it.
@@ -89,9 +99,9 @@ impl<K: Dealing> Split<Hand> for Deals<K> {
     ghost use Rattle.std.specs.Prelude.{[], ◌∷◌, ◌++◌, ◌-◌};
     ghost use Rattle.pool_fabric.specs.Ledgers.{hand};
 
-    ghost left = { λ v. hand (v.parts - 1) (v.gave ++ K.chunk ∷ []) [] };
+    ghost left = { λ v. hand (v.parts - 1) (v.gave ++ K.drawn ∷ []) [] };
 
-    ghost right = { λ v. hand 1 [] (v.got ++ K.chunk ∷ []) };
+    ghost right = { λ v. hand 1 [] (v.got ++ K.drawn ∷ []) };
 }
 
 // For the page with every part.
@@ -101,6 +111,15 @@ impl Lesson<u16, Hand> for Ends {
     ghost use Rattle.pool_fabric.specs.Ledgers.{IsTotal};
 
     ghost fact = { IsTotal };
+}
+
+// For any page.
+pub struct Bounds;
+
+impl Lesson<u16, Hand> for Bounds {
+    ghost use Rattle.pool_fabric.specs.Ledgers.{IsWithin};
+
+    ghost fact = { IsWithin };
 }
 
 pub(crate) type Line = RuledSegQueue<u16, Hand, Fair>;
@@ -184,25 +203,25 @@ impl Ledger {
         self.queue.absorb::<Cut>(&mut page.pass, pass);
     }
 
-    /// The first page gives the chunk, and the second gets it.
-    pub fn deal(&self, book: &mut Page, page: &mut Page, chunk: u16)
+    /// The first page gives the chunk for the class, and the second gets it.
+    pub fn deal(&self, book: &mut Page, page: &mut Page, chunk: u16, class: Class)
         requires book { (book.old.key ≡ self.now) × (book.old.got ≡ []) × (0 < book.old.parts) }
         requires page { (page.old.key ≡ self.now) × (page.old.parts ≡ 1) × (page.old.gave ≡ []) }
-        ensures book { book.new ≡ record book.old { gave = book.old.gave ++ chunk ∷ [] } }
-        ensures page { page.new ≡ record page.old { got = page.old.got ++ chunk ∷ [] } }
+        ensures book { book.new ≡ record book.old { gave = book.old.gave ++ drawn_for chunk class ∷ [] } }
+        ensures page { page.new ≡ record page.old { got = page.old.got ++ drawn_for chunk class ∷ [] } }
     {
-        self.dealt::<Brand>(book, page, chunk);
+        self.dealt::<Brand>(book, page, chunk, class);
     }
 
     // The same, of a chunk that is named.
-    fn dealt<K: Dealing>(&self, book: &mut Page, page: &mut Page, chunk: u16)
-        requires chunk { chunk ≡ K.chunk }
+    fn dealt<K: Dealing>(&self, book: &mut Page, page: &mut Page, chunk: u16, class: Class)
+        requires chunk { drawn_for chunk class ≡ K.drawn }
         requires book { (book.old.key ≡ self.now) × (book.old.got ≡ []) × (0 < book.old.parts) }
         requires page { (page.old.key ≡ self.now) × (page.old.parts ≡ 1) × (page.old.gave ≡ []) }
-        ensures book { book.new ≡ record book.old { gave = book.old.gave ++ chunk ∷ [] } }
-        ensures page { page.new ≡ record page.old { got = page.old.got ++ chunk ∷ [] } }
+        ensures book { book.new ≡ record book.old { gave = book.old.gave ++ drawn_for chunk class ∷ [] } }
+        ensures page { page.new ≡ record page.old { got = page.old.got ++ drawn_for chunk class ∷ [] } }
     {
-        let _chunk = chunk;
+        let _drawn = (chunk, class);
         let spare = self.queue.another::<Spare>(&mut book.pass);
         let mine = mem::replace(&mut page.pass, spare);
         self.queue.absorb::<Cut>(&mut book.pass, mine);
@@ -213,8 +232,18 @@ impl Ledger {
     pub fn close<R: Wait>(&self, rt: &R, page: &mut Page)
         requires { (page.old.key ≡ self.now) × (page.old.parts ≡ whole) }
         ensures page { page.new ≡ page.old }
-        ensures all { (g : ℕ → ℕ) → weigh g page.new.gave ≡ weigh g page.new.got }
+        ensures all { (g : DrawnChunk → ℕ) → weigh g page.new.gave ≡ weigh g page.new.got }
     {
         self.queue.len_as::<Ends, R>(rt, &mut page.pass);
+    }
+
+    /// Is never called: beside a page with every part there is no other with one.
+    pub(crate) fn exclude<R: Wait>(&self, rt: &R, page: &mut Page, other: Page)
+        requires page { (page.old.key ≡ self.now) × (page.old.parts ≡ whole) }
+        requires other { (other.key ≡ self.now) × (0 < other.parts) }
+        ensures { ⊥ }
+    {
+        self.join(page, other);
+        self.queue.len_as::<Bounds, R>(rt, &mut page.pass);
     }
 }

@@ -39,13 +39,13 @@ impl<'r, M: Mailbox, T: Receiver, S: Sender> Model for Opening<'r, M, T, S> {
 
     ghost Value = { Names };
 
-    ghost view = { λ o. names_of (map M.id o.boxes.inboxes.items) o.digits o.ledger o.stock.left };
+    ghost view = { λ o. names_of (map M.id o.boxes.inboxes.items) o.digits o.limit o.ledger o.stock.left };
 
     ghost invariant = { λ o. IsOpening
-        (names_of (map M.id o.boxes.inboxes.items) o.digits o.ledger o.stock.left)
+        (names_of (map M.id o.boxes.inboxes.items) o.digits o.limit o.ledger o.stock.left)
         (map M.id o.boxes.inboxes.items)
         (map (taking_of T.inbox T.senders T.taken) o.boxes.takes.items)
-        o.boxes.columns.items o.book o.limit };
+        o.boxes.columns.items o.book o.stock };
 }
 
 impl<'r, M: Mailbox, T: Receiver, S: Sender> Opening<'r, M, T, S> {
@@ -74,6 +74,7 @@ impl<'r, T: Receiver, S: Sender, M: NewMail<T, S>> Opening<'r, M, T, S> {
         requires parts { AreNumbered parts.items }
         ensures count { IfOk result (λ o. o.count ≡ desks) }
         ensures digits { IfOk result (λ o. o.digits ≡ digits) }
+        ensures limit { IfOk result (λ o. o.limit ≡ limit) }
         ensures chunks { IfOk result (λ o. o.chunks ≡ map number_of parts.entry.items) }
     {
         let (ledger, book) = Ledger::new(alloc)?;

@@ -60,7 +60,8 @@ impl<'r, T: Receiver, S: Sender, J: Naming> Model for Station<'r, T, S, J> {
 impl<'r, T: Receiver, S: Sender, J: Naming> Station<'r, T, S, J> {
     /// A station at which nothing was drawn, sent, taken, lent or freed yet.
     pub fn new(desk: IdleDesk<'r>, take: T, seats: Vec<S>, page: Page) -> Station<'r, T, S, J>
-        requires desk { (desk.home ≡ []) × (desk.drawn ≡ []) × (desk.digits ≡ J.names.digits) }
+        requires desk { (desk.home ≡ []) × (desk.drawn ≡ []) }
+        requires profile { (desk.digits ≡ J.names.digits) × (desk.limit ≡ J.names.limit) }
         requires take { (T.inbox take ≡ box_at J.names desk.number) × (T.senders take ≡ J.names.count)
             × (T.taken take ≡ []) }
         requires seats { AreSeatsBy J.names desk.number (map (seat_of S.inbox S.number S.sent S.resting) seats.items)

@@ -1,7 +1,8 @@
 //! What lies under the stock's lock.
 ghost use Rattle.std.specs.Prelude.{◌≡◌, ℕ, ◌+◌, ◌<◌, [], ◌∷◌, ◌++◌, MatchOption};
 ghost use Rattle.pool_fabric.specs.Ledgers.{whole};
-ghost use Rattle.pool_fabric.specs.Stocks.{GivesPart};
+ghost use Rattle.pool_fabric.specs.Stocks.{GivesPart, IsFull};
+ghost use Rattle.pool_fabric.specs.Pages.{drawn_for};
 ghost use Rattle.pool_fabric.specs.Accounts.{of_part};
 ghost use Rattle.pool_fabric.specs.Weights.{weigh};
 
@@ -36,6 +37,7 @@ impl<'r, J: Naming> Store<'r, J> {
         requires book { (book.key ≡ J.names.ledger) × (book.gave ≡ []) × (book.got ≡ [])
             × (book.parts + J.names.count ≡ whole) × (0 < book.parts) }
         requires chunks { (g : ℕ → ℕ) → weigh (of_part g) stock.left ≡ weigh g J.names.chunks }
+        requires full { IsFull stock }
         ensures { result ≡ stock.entry }
     {
         Store {
@@ -45,7 +47,7 @@ impl<'r, J: Naming> Store<'r, J> {
         }
     }
 
-    /// Gets a part for a holder of this page, on which it is written.
+    /// Gets a part for a holder of this page, on which it is written with its class.
     pub(crate) fn deal(
         &mut self,
         ledger: &Ledger,
@@ -59,10 +61,10 @@ impl<'r, J: Naming> Store<'r, J> {
             (λ p. GivesPart self.old class p self.new) }
         ensures page { MatchOption result
             (page.new ≡ page.old)
-            (λ p. page.new ≡ record page.old { got = page.old.got ++ p.chunk ∷ [] }) }
+            (λ p. page.new ≡ record page.old { got = page.old.got ++ drawn_for p.chunk class ∷ [] }) }
     {
         let part = self.stock.get(class)?;
-        ledger.deal(&mut self.book, page, part.chunk());
+        ledger.deal(&mut self.book, page, part.chunk(), class);
         Some(part)
     }
 }

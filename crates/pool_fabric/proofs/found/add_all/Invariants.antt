@@ -1,4 +1,5 @@
-use Rattle.std.proofs.Common.{◌≡◌, ◌+◌, length}
+use Rattle.std.proofs.Common.{◌≡◌, ℕ, ◌+◌, ◌≤◌, length}
+use Rattle.pool_fabric.specs.Faults.{LacksNumber}
 use Rattle.pool_fabric.proofs.found.add_all.Given as goal
 
 abbrev pub invariant-loop-number : goal.invariant-loop-number
@@ -8,4 +9,5 @@ invariant-loop-number g l = record {
   rows : length l.gathered.rows ≡ l.number;
   parts : l.gathered.page.parts ≡ l.fn.page.parts + l.number;
   gave : l.gathered.page.gave ≡ l.fn.page.gave;
+  lacks : (a : ℕ) → l.number ≤ a → LacksNumber a l.stations.items → LacksNumber a l.fn.stations.items;
 }

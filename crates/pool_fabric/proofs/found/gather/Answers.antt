@@ -1,6 +1,10 @@
-use Rattle.std.proofs.Common.{refl, sym, ap, ◌∙◌, arith}
+use Rattle.std.proofs.Common.{refl, sym, ap, ◌∙◌, arith, subst}
 use Rattle.pool_fabric.specs.Pages.{PageState}
 use Rattle.pool_fabric.specs.Weights.{weigh}
+use Rattle.pool_fabric.specs.Accounts.{of_entry}
+use Rattle.pool_fabric.specs.Stocks.{AreTold}
+use Rattle.pool_fabric.specs.Faults.{IsGatherFault}
+use Rattle.pool_fabric.proofs.Lacking.{lacks_of, passed_on}
 use Rattle.pool_fabric.proofs.Posting.{get_map, length-mapped}
 use Rattle.pool_fabric.proofs.found.gather.Goals as goal
 
@@ -20,20 +24,23 @@ close_all-requires g c =
 
 pub finish-requires-clause-page : goal.finish-requires-clause-page
 finish-requires-clause-page g c =
-    let e = c.in_ok-gathered.ensures in
-    let z = c.in-Ok-close_all.ensures in
-    let count = sym (length-mapped g.M.Mailbox.id c.args.fabric.inboxes.items) ∙ c.args.fabric.boxes.count in
-    let len = c.len.ensures ∙ c.args.fabric.inboxes.ok.0 in
-    let parts = ap (λ (p : PageState). p.parts) z.2 in
-    let added = e.page.0 in
-    let all = c.stock.invariant.parts in
-    (c.args.fabric.ledger_is, omega arith)
+    (c.args.fabric.ledger_is, ap (λ (p : PageState). p.parts) c.in-Ok-close_all.ensures.3 ∙ c.in_ok-gathered.ensures.page.0)
 
 pub finish-requires-clause-chunks : goal.finish-requires-clause-chunks
 finish-requires-clause-chunks g c w =
     let e = c.in_ok-gathered.ensures in
     let z = c.in-Ok-close_all.ensures in
-    let gave = ap (λ (p : PageState). weigh w p.gave) z.2 in
-    let kept = ap (weigh w) e.page.1 in
+    let gave = ap (λ (p : PageState). weigh (of_entry w) p.gave) z.3 in
+    let kept = ap (weigh (of_entry w)) e.page.1 in
     let all = c.stock.invariant.chunks w in
     omega arith
+
+pub finish-requires-clause-told : goal.finish-requires-clause-told
+finish-requires-clause-told g c =
+    subst (λ l. AreTold c.stock.inside.stock.drawn l) (sym (ap (λ (p : PageState). p.gave) c.in-Ok-close_all.ensures.3 ∙ c.in_ok-gathered.ensures.page.1)) c.stock.invariant.told
+
+pub returns-in_err-gathered-clause-missing : goal.returns-in_err-gathered-clause-missing
+returns-in_err-gathered-clause-missing g c =
+    let count = sym (length-mapped g.M.Mailbox.id c.args.fabric.inboxes.items) ∙ c.args.fabric.boxes.count in
+    passed_on (IsGatherFault g.J.Naming.names.count c.args.held.items) c.from_residual.result c.in_err-gathered.field-0.0 c.from_residual.ensures
+    (lacks_of _ _ c.in-Ok.stations.items c.args.held.items _ (c.len.ensures ∙ c.args.fabric.inboxes.ok.0 ∙ count) (λ a l. (c.in-Ok.ensures a l).1) c.in_err-gathered.ensures.fault)

@@ -35,4 +35,4 @@ invariant_of-result g c =
     let popped = ap (map taking) c.in-Some.ensures.items ∙ map-snoc taking c.pop.new.self.items c.in-Some.take in
     let take = last_take _ _ (map taking c.pop.new.self.items) (taking c.in-Some.take) c.self.inside.columns (g.M.Mailbox.id c.args.inbox) c.self.invariant.takes popped len box in
     closes_keeps _ _ (taking c.in-Some.take) (map taking c.pop.new.self.items) (map as_seat c.in_ok-seats.field-0.seats.items) c.in_ok-seats.field-0.rows.items c.in_ok-more.more.items c.append.new.self.items (c.self.inside.columns - 1)
-    c.self.invariant popped take.2 c.in_ok-seats.ensures.rows.0 c.in_ok-seats.ensures.slots c.in_ok-more.ensures c.in_ok-append.ensures.items
+    c.self.invariant popped take.2 c.in_ok-seats.ensures.rows.0 c.in_ok-seats.ensures.rows.1 c.in_ok-seats.ensures.slots c.in_ok-more.ensures c.in_ok-append.ensures.items

@@ -1,4 +1,5 @@
+use Rattle.pool_fabric.specs.Pages.{drawn_for}
 use Rattle.pool_fabric.proofs.ledger.Ledger.deal.Given as goal
 
 abbrev pub ghosts-dealt : goal.ghosts-dealt
-ghosts-dealt a = record { chunk = a.chunk }
+ghosts-dealt a = record { drawn = drawn_for a.chunk a.class }

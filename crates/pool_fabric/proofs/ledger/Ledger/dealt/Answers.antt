@@ -17,4 +17,4 @@ another-requires-clause-rule g c =
     let mine = ap (λ x. x.me.view.client.parts) c.replace-mine.ensures.value in
     let one = ap (λ (p : PageState). p.parts) c.page.view_is ∙ c.requires.page.1 in
     let some_part = subst (λ n. 0 < n) (sym (ap (λ (p : PageState). p.parts) c.book.view_is)) c.requires.book.2 in
-    deals _ g.K.Dealing.chunk _ (omega arith)
+    deals _ g.K.Dealing.drawn _ (omega arith)

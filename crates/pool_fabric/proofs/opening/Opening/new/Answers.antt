@@ -1,7 +1,8 @@
 use Rattle.std.proofs.Common.{map, ◌∙◌}
 use Rattle.pool_fabric.specs.Gathered.{taking_of}
 use Rattle.pool_fabric.proofs.Posting.{length-mapped}
-use Rattle.pool_fabric.proofs.NewBoxes.{rises, are_chunks, opening_of}
+use Rattle.pool_fabric.proofs.Stocked.{rises, are_chunks, is_full}
+use Rattle.pool_fabric.proofs.NewBoxes.{opening_of}
 use Rattle.pool_fabric.proofs.opening.Opening.new.Goals as goal
 
 pub new-stock-requires-clause-order : goal.new-stock-requires-clause-order
@@ -15,7 +16,8 @@ invariant_of-result g c =
     let boxes = c.in_ok-boxes.boxes in
     let e = c.in_ok-boxes.ensures in
     let taking = taking_of g.T.Receiver.inbox g.T.Receiver.senders g.T.Receiver.taken in
-    opening_of c.args.digits c.in_ok-ledger.ledger c.new-stock.result.left (map g.M.Mailbox.id boxes.inboxes.items) (map taking boxes.takes.items) boxes.columns.items
-    c.args.desks c.in_ok-ledger.book c.args.limit e.opened
+    opening_of c.args.digits c.args.limit c.in_ok-ledger.ledger c.new-stock.result (map g.M.Mailbox.id boxes.inboxes.items) (map taking boxes.takes.items) boxes.columns.items
+    c.args.desks c.in_ok-ledger.book e.opened
     (length-mapped g.M.Mailbox.id boxes.inboxes.items ∙ e.count.0) (length-mapped taking boxes.takes.items ∙ e.count.1) e.count.2
-    (c.requires.desks.1, c.requires.desks.2) c.requires.limit c.in_ok-ledger.ensures
+    (c.requires.desks.1, c.requires.desks.2) c.requires.limit
+    (is_full c.args.parts.items c.new-stock.result c.requires.parts c.new-stock.ensures.left c.new-stock.ensures.none) c.in_ok-ledger.ensures

@@ -20,7 +20,8 @@ invariant_of-result g c =
       freed = c.new-2.ensures;
     })
     (record {
-      digits = c.requires.desk.2;
+      digits = c.requires.profile.0;
+      limit = c.requires.profile.1;
       take = c.requires.take.0;
       senders = c.requires.take.1;
       seats = c.requires.seats.0;

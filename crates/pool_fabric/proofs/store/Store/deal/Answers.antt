@@ -1,7 +1,10 @@
-use Rattle.std.proofs.Common.{◌+◌, ◌<◌, ap, ◌∙◌, arith, subst, sym}
-use Rattle.pool_fabric.specs.Pages.{PageState}
+use Rattle.std.proofs.Common.{◌+◌, ◌<◌, List, [], ◌∷◌, ◌++◌, ap, ◌∙◌, arith, subst, sym}
+use Rattle.pool_fabric.specs.declared.ledger.DrawnChunk.{DrawnChunk}
+use Rattle.pool_fabric.specs.Pages.{PageState, drawn_for}
+use Rattle.pool_fabric.specs.Stocks.{AreTold}
+use Rattle.pool_fabric.proofs.Stocked.{gives_apart, gives_undrawn, gives_told}
 use Rattle.pool_fabric.specs.Weights.{weigh}
-use Rattle.pool_fabric.specs.Accounts.{of_part}
+use Rattle.pool_fabric.specs.Accounts.{of_part, of_entry}
 use Rattle.pool_fabric.proofs.Sums.{weigh-snoc}
 use Rattle.pool_fabric.proofs.store.Store.deal.Goals as goal
 
@@ -18,10 +21,15 @@ invariant_of-self-2 g c =
       some_part = subst (λ n. 0 < n) (sym (ap (λ (p : PageState). p.parts) book)) i.some_part;
       chunks = λ w.
           let p = i.chunks w in
-          let a = ap (λ (x : PageState). weigh w x.gave) book in
-          let b = weigh-snoc w c.self.inside.book.gave c.chunk.result in
+          let a = ap (λ (x : PageState). weigh (of_entry w) x.gave) book in
+          let b = weigh-snoc (of_entry w) c.self.inside.book.gave (drawn_for c.chunk.result c.args.class) in
           let number = ap w c.chunk.ensures in
           let d = ap (weigh (of_part w)) given.left in
           let e = weigh-snoc (of_part w) c.get.new.self.left part in
           omega arith;
+      told =
+          let told = gives_told _ c.args.class part c.get.new.self given i.apart i.undrawn c.self.inside.book.gave i.told in
+          subst (λ (l : List DrawnChunk). AreTold c.get.new.self.drawn l) (sym (ap (λ (x : PageState). x.gave) book ∙ (λ j. c.self.inside.book.gave ++ drawn_for (c.chunk.ensures j) c.args.class ∷ []))) told;
+      undrawn = gives_undrawn _ c.args.class part c.get.new.self given i.apart i.undrawn;
+      apart = gives_apart _ c.args.class part c.get.new.self given i.apart i.undrawn;
     }

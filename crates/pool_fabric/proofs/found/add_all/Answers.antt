@@ -1,0 +1,28 @@
+use Rattle.std.proofs.Common.{◌+◌, ap, ◌∙◌, arith}
+use Rattle.pool_fabric.proofs.Lacking.{lacks_before}
+use Rattle.pool_fabric.proofs.found.add_all.Goals as goal
+
+pub returns-in_default-clause-fault : goal.returns-in_default-clause-fault
+returns-in_default-clause-fault g c = record {
+  number = c.loop-number.number;
+  below = omega (arith, c.loop-number-test.true);
+  lacks = c.loop-number.invariant.lacks c.loop-number.number (omega arith) c.in_default.ensures;
+}
+
+pub loop-number-preserved : goal.loop-number-preserved
+loop-number-preserved g c =
+    let i = c.loop-number.invariant in
+    let e = c.in-Ok.ensures in
+    let more = e.parts in
+    let parts = i.parts in
+    let number = c.in-Some.ensures.0 in
+    record {
+      columns = e.columns ∙ i.columns;
+      takes = e.takes ∙ ap (λ k. k + 1) i.takes;
+      rows = e.rows ∙ ap (λ k. k + 1) i.rows;
+      parts = omega arith;
+      gave = e.gave ∙ i.gave;
+      lacks = λ a less l.
+          i.lacks a (omega arith)
+          (lacks_before a c.loop-number.stations.items c.out_of.new.stations.items c.in-Some.station c.in-Some.ensures.1 (λ e. absurd (omega arith)) l);
+    }
