@@ -8,8 +8,8 @@ use Rattle.pool_machine.specs.declared.request.Request.TheVariants.{Alloc}
 use Rattle.pool_machine.specs.declared.reply.Reply.TheVariants.{Slot as Lent}
 use Rattle.pool_machine.specs.State.{profile_at, least_class, State, OnLoan, class_of, home_with}
 use Rattle.pool_machine.specs.Steps.{relocate, move_one}
-use Rattle.pool_machine.specs.Listing.{ListName, HomeOf, Loans, CacheOf, BatchOf, same_list, list_of, is_list, slots_in, slots_seen, Listing, DeskListing, Entry, desk_listing, Labelled, Counted, Shown}
-use Rattle.pool_machine.specs.Headline.{Applies}
+use Rattle.pool_machine.specs.Listing.{slots_seen, Listing, DeskListing, Entry, desk_listing, Labelled, Counted}
+use Rattle.pool_machine.proofs.Located.{ListName, HomeOf, Loans, CacheOf, BatchOf, same_list, list_of, is_list, slots_in, Located, LocatedStep}
 use Rattle.digit_route.specs.Digits.{Scheme}
 use Rattle.digit_route.specs.Profiles.{profile_of}
 use Rattle.pool_machine.proofs.Basics.{none_holds}
@@ -31,7 +31,7 @@ pub record AllocEdits (v : Listing) (a n : ℕ) (e : Entry) (lent : List Entry) 
   pub arrives : IsPermutation (e ∷ v.lent) lent
 
 module _ (v : Listing) (st : State) (count : Slot → ℕ) (a n : ℕ) (e : Entry) (lent : List Entry) (d : DeskListing)
-    (h : Shown v st count) (l : a < length v.desks) (f : AllocEdits v a n e lent d) where
+    (h : Located v st count) (l : a < length v.desks) (f : AllocEdits v a n e lent d) where
   there : list_of st e.slot ≡ Some (HomeOf a)
   there = All-head (λ (x : Entry). list_of st x.slot ≡ Some (HomeOf a)) e d.home
       (All-permutation (λ (x : Entry). list_of st x.slot ≡ Some (HomeOf a)) (desk_listing v a).home (e ∷ d.home)
@@ -58,7 +58,7 @@ module _ (v : Listing) (st : State) (count : Slot → ℕ) (a n : ℕ) (e : Entr
   others (CacheOf b) x y = ap slots_seen (desk_keeps (λ p. p.cache) v a d l f.cache b)
   others (BatchOf m) x y = refl
 
-  pub alloc_shown : Shown (after_edits v a lent d) (relocate (move_one e.slot OnLoan) st) count
+  pub alloc_shown : Located (after_edits v a lent d) (relocate (move_one e.slot OnLoan) st) count
   alloc_shown = record {
     sound = alloc_step st count a (least_class (profile_at st) n) e.slot h.sound alloc_home;
     frame = record {
@@ -86,7 +86,7 @@ module _ (v : Listing) (st : State) (count : Slot → ℕ) (a n : ℕ) (e : Entr
 -- an accepted allocation
 pub alloc_applies : (v : Listing) (a n : ℕ) (e : Entry) (lent : List Entry) (d : DeskListing) → refusal_seen v (Alloc a n) ≡ None →
     AllocEdits v a n e lent d →
-    Applies v (Alloc a n) (Ok (Lent e.slot)) (after_edits v a lent d)
+    LocatedStep v (Alloc a n) (Ok (Lent e.slot)) (after_edits v a lent d)
 alloc_applies v a n e lent d z f st count h =
     let l = leb-false (length v.desks) a (none_holds _ _ _ z).0 in (
       relocate (move_one e.slot OnLoan) st,

@@ -12,8 +12,8 @@ use Rattle.pool_machine.specs.Slots.{same_slot}
 use Rattle.pool_machine.specs.State.{owner_of}
 use Rattle.pool_machine.specs.Refusals.{refusal, slot_at}
 use Rattle.pool_machine.specs.Steps.{Answer, Replies, bytes_with, with_holder, after_free, after_send}
-use Rattle.pool_machine.specs.Listing.{Listing, DeskListing, Entry, desk_listing, Labelled, Shown}
-use Rattle.pool_machine.specs.Headline.{Applies, ShowsSome}
+use Rattle.pool_machine.specs.Listing.{Listing, DeskListing, Entry, desk_listing, Labelled}
+use Rattle.pool_machine.proofs.Located.{Located, LocatedStep}
 use Rattle.pool_machine.proofs.Basics.{none_holds}
 use Rattle.pool_machine.proofs.FloorSteps.{with_desk, desk_here, holder_shown}
 use Rattle.pool_machine.proofs.FreeStep.{FreeEdits, after_edits, free_shown}
@@ -21,12 +21,8 @@ use Rattle.pool_machine.proofs.SendStep.{SendEdits, after_sending, send_shown}
 use Rattle.pool_machine.proofs.Parts.{bytes_seen, bucket_length}
 use Rattle.pool_machine.proofs.Refusals.{refusal_seen, refusal_agrees, goes_by}
 
--- a step leads to lists that show some state
-pub shows_next : (v w : Listing) (q : Request) (y : Answer) → Applies v q y w → ShowsSome v → ShowsSome w
-shows_next v w q y f s = let g = f s.0 s.1 s.2 in (g.0, _, g.2)
-
 pub adopt_applies : (v : Listing) (a x : ℕ) (d : DeskListing) → refusal_seen v (Adopt a x) ≡ None →
-    d.worker ≡ Some x → d.home ≡ (desk_listing v a).home → d.cache ≡ (desk_listing v a).cache → Applies v (Adopt a x) (Ok Done) (with_desk v a d)
+    d.worker ≡ Some x → d.home ≡ (desk_listing v a).home → d.cache ≡ (desk_listing v a).cache → LocatedStep v (Adopt a x) (Ok Done) (with_desk v a d)
 adopt_applies v a x d z e f g st count h = (
   with_holder a (Some x) st,
   ((refusal_agrees v st count h (Adopt a x) ∙ z, tt), refl),
@@ -34,7 +30,7 @@ adopt_applies v a x d z e f g st count h = (
 )
 
 pub retire_applies : (v : Listing) (a : ℕ) (d : DeskListing) → refusal_seen v (Retire a) ≡ None →
-    d.worker ≡ None → d.home ≡ (desk_listing v a).home → d.cache ≡ (desk_listing v a).cache → Applies v (Retire a) (Ok Done) (with_desk v a d)
+    d.worker ≡ None → d.home ≡ (desk_listing v a).home → d.cache ≡ (desk_listing v a).cache → LocatedStep v (Retire a) (Ok Done) (with_desk v a d)
 retire_applies v a d z e f g st count h = (
   with_holder a None st,
   ((refusal_agrees v st count h (Retire a) ∙ z, tt), refl),
@@ -53,7 +49,7 @@ FreeReplies v a e d _ = ⊥
 
 pub free_applies : (v : Listing) (a : ℕ) (pair : ℕ × ℕ) (e : Entry) (lent : List Entry) (d : DeskListing) (r : Reply) →
     refusal_seen v (Free a pair) ≡ None →
-    e.slot ≡ slot_at pair → FreeEdits v a e lent d → FreeReplies v a e d r → Applies v (Free a pair) (Ok r) (after_edits v a lent d)
+    e.slot ≡ slot_at pair → FreeEdits v a e lent d → FreeReplies v a e d r → LocatedStep v (Free a pair) (Ok r) (after_edits v a lent d)
 free_applies v a pair e lent d r z s f p st count h =
     (after_free st a (slot_at pair), ((n, replies r p), refl), shown)
   where
@@ -63,7 +59,7 @@ free_applies v a pair e lent d r z s f p st count h =
     l : a < length v.desks
     l = leb-false (length v.desks) a (none_holds _ _ _ z).0
 
-    shown : Shown (after_edits v a lent d) (after_free st a (slot_at pair)) (λ s. if same_slot (slot_at pair) s then 0 else count s)
+    shown : Located (after_edits v a lent d) (after_free st a (slot_at pair)) (λ s. if same_slot (slot_at pair) s then 0 else count s)
     shown = free_shown v st count a pair e lent d h l n s f
 
     owner : e.owner ≡ owner_of st (slot_at pair)
@@ -97,7 +93,7 @@ pub record SendMoves (v : Listing) (a t : ℕ) (bs : List Entry) (d : DeskListin
 
 pub send_applies : (v : Listing) (a t : ℕ) (bs : List Entry) (d : DeskListing) → length v.inboxes ≡ length v.desks →
     refusal_seen v (Send a t) ≡ None → SendMoves v a t bs d →
-    Applies v (Send a t) (Ok (Batch v.next (length bs))) (after_sending v a t bs d)
+    LocatedStep v (Send a t) (Ok (Batch v.next (length bs))) (after_sending v a t bs d)
 send_applies v a t bs d k z f st count h =
     let p = or_parts _ _ (none_holds _ _ _ z).0 in
     let l = leb-false (length v.desks) a p.0 in

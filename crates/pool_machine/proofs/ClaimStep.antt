@@ -17,8 +17,8 @@ use Rattle.pool_machine.specs.Slots.{same_slot, has_index, times, one_if}
 use Rattle.pool_machine.specs.State.{State, Place, AtHome, owner_or, class_or, owner_of}
 use Rattle.pool_machine.specs.Refusals.{refusal}
 use Rattle.pool_machine.specs.Steps.{with_chunk}
-use Rattle.pool_machine.specs.Listing.{ListName, HomeOf, Loans, CacheOf, BatchOf, same_list, list_at, list_of, is_list, slots_in, slots_seen, Listing, DeskListing, Entry, BatchListing, desk_listing, inbox_listing, Labelled, Counted, Shown}
-use Rattle.pool_machine.specs.Headline.{Applies}
+use Rattle.pool_machine.specs.Listing.{slots_seen, Listing, DeskListing, Entry, BatchListing, desk_listing, inbox_listing, Labelled, Counted}
+use Rattle.pool_machine.proofs.Located.{ListName, HomeOf, Loans, CacheOf, BatchOf, same_list, list_at, list_of, is_list, slots_in, Located, LocatedStep}
 use Rattle.pool_machine.proofs.Basics.{none_holds}
 use Rattle.pool_machine.proofs.Enumerate.{count_append, chunk_times}
 use Rattle.pool_machine.proofs.FloorSteps.{with_desk, desk_here, desk_other, desk_keeps}
@@ -63,7 +63,7 @@ slots_of_buffers k a c [] = refl
 slots_of_buffers k a c (i ∷ is) = ap (λ ss. record { chunk = k; index = i } ∷ ss) (slots_of_buffers k a c is)
 
 module _ (v : Listing) (st : State) (count : Slot → ℕ) (a c k : ℕ) (d : DeskListing)
-    (h : Shown v st count) (l : a < length v.desks) (f : ClaimEdits v a c k d) where
+    (h : Located v st count) (l : a < length v.desks) (f : ClaimEdits v a c k d) where
   abbrev new : State
   new = with_chunk k a c st
 
@@ -199,7 +199,7 @@ module _ (v : Listing) (st : State) (count : Slot → ℕ) (a c k : ℕ) (d : De
   drawn_at m = slice_get-push v.drawn (record { owner = a; class = c }) m
       ∙ ap₂ (λ n (o : Option DrawnChunk). if n == m then Some (record { owner = a; class = c }) else o) (sym f.next) (h.frame.drawn m)
 
-  pub claim_shown : refusal st (Claim a c) ≡ None → Shown (after_claim v a c k d) (with_chunk k a c st) count
+  pub claim_shown : refusal st (Claim a c) ≡ None → Located (after_claim v a c k d) (with_chunk k a c st) count
   claim_shown z = record {
     sound = claim_step st count a c k h.sound z (below, un);
     frame = record {
@@ -233,7 +233,7 @@ module _ (v : Listing) (st : State) (count : Slot → ℕ) (a c k : ℕ) (d : De
 
 -- an accepted claim
 pub claim_applies : (v : Listing) (a c k : ℕ) (d : DeskListing) → refusal_seen v (Claim a c) ≡ None → ClaimEdits v a c k d →
-    Applies v (Claim a c) (Ok (Chunk k)) (after_claim v a c k d)
+    LocatedStep v (Claim a c) (Ok (Chunk k)) (after_claim v a c k d)
 claim_applies v a c k d z f st count h =
     let l = leb-false (length v.desks) a (none_holds _ _ _ z).0 in
     let n = refusal_agrees v st count h (Claim a c) ∙ z in (

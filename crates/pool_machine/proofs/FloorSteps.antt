@@ -5,7 +5,8 @@ use Rattle.region_cut.specs.declared.slot.Slot.{Slot}
 use Rattle.pool_machine.specs.Slots.{times}
 use Rattle.pool_machine.specs.State.{State}
 use Rattle.pool_machine.specs.Steps.{with_holder}
-use Rattle.pool_machine.specs.Listing.{ListName, HomeOf, Loans, CacheOf, BatchOf, slots_in, slots_seen, Listing, DeskListing, desk_listing, empty_desk, Labelled, Counted, Shown}
+use Rattle.pool_machine.specs.Listing.{slots_seen, Listing, DeskListing, desk_listing, empty_desk, Labelled, Counted}
+use Rattle.pool_machine.proofs.Located.{ListName, HomeOf, Loans, CacheOf, BatchOf, slots_in, Located}
 use Rattle.pool_machine.proofs.Keeps.{holder_sound}
 
 abbrev pub with_desk : Listing → ℕ → DeskListing → Listing
@@ -27,8 +28,8 @@ desk_keeps {A} f v a d l e b = go (a == b) refl
     go false q = ap f (desk_other v a b d q)
 
 -- a desk is held by another worker, or by none
-pub holder_shown : (v : Listing) (st : State) (count : Slot → ℕ) (a : ℕ) (x : Option ℕ) (d : DeskListing) → Shown v st count → a < length v.desks →
-    d.worker ≡ x → d.home ≡ (desk_listing v a).home → d.cache ≡ (desk_listing v a).cache → Shown (with_desk v a d) (with_holder a x st) count
+pub holder_shown : (v : Listing) (st : State) (count : Slot → ℕ) (a : ℕ) (x : Option ℕ) (d : DeskListing) → Located v st count → a < length v.desks →
+    d.worker ≡ x → d.home ≡ (desk_listing v a).home → d.cache ≡ (desk_listing v a).cache → Located (with_desk v a d) (with_holder a x st) count
 holder_shown v st count a x d h l w e f = record {
   sound = holder_sound st count a x h.sound;
   frame = record {

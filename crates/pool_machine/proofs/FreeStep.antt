@@ -11,7 +11,8 @@ use Rattle.pool_machine.specs.State.{State, Place, AtHome, OnLoan, InCache, InBa
 use Rattle.pool_machine.specs.Refusals.{refusal, no_desk, slot_at}
 use Rattle.pool_machine.specs.Steps.{freed_place, after_free, relocate, move_one}
 use Rattle.pool_machine.specs.Sound.{Sound}
-use Rattle.pool_machine.specs.Listing.{ListName, HomeOf, Loans, CacheOf, BatchOf, same_list, list_at, list_of, is_list, slots_in, slots_seen, if_numbered, Listing, DeskListing, Entry, BatchListing, desk_listing, inbox_listing, Labelled, Counted, Shown, ShowsFrame}
+use Rattle.pool_machine.specs.Listing.{slots_seen, Listing, DeskListing, Entry, BatchListing, desk_listing, inbox_listing, Labelled, Counted, ShowsFrame}
+use Rattle.pool_machine.proofs.Located.{ListName, HomeOf, Loans, CacheOf, BatchOf, same_list, list_at, list_of, is_list, slots_in, if_numbered, Located}
 use Rattle.pool_machine.proofs.Basics.{same_slot_eq, same_slot_self, none_holds}
 use Rattle.pool_machine.proofs.Enumerate.{count_map, count_append}
 use Rattle.pool_machine.proofs.Moves.{same_list_eq}
@@ -54,7 +55,7 @@ inbox_counts s n (ws ∷ is) (suc b) =
     omega (arith, g, h)
 
 -- what is counted in a list is named there
-pub named_there : (v : Listing) (st : State) (count : Slot → ℕ) → Shown v st count → (l : ListName) (s : Slot) → 0 < times s (slots_in v l) →
+pub named_there : (v : Listing) (st : State) (count : Slot → ℕ) → Located v st count → (l : ListName) (s : Slot) → 0 < times s (slots_in v l) →
     list_of st s ≡ Some l
 named_there v st count h l s p = go (list_of st s) (subst (λ n. 0 < n) (h.in_place l s) p)
   where
@@ -88,7 +89,7 @@ label_stays : (st : State) (count : Slot → ℕ) (r : Slot) (q : Place) (f : En
     Counted (relocate (move_one r q) st) (λ s. if same_slot r s then 0 else count s) f
 label_stays st count r q f e c = (c.0, c.1, c.2 ∙ ap (λ (b : Bool). if b then 0 else count f.slot) (sym e))
 
-cached_stay : (v : Listing) (st : State) (count : Slot → ℕ) (r : Slot) (q : Place) (b : ℕ) → Shown v st count → list_of st r ≡ Some Loans →
+cached_stay : (v : Listing) (st : State) (count : Slot → ℕ) (r : Slot) (q : Place) (b : ℕ) → Located v st count → list_of st r ≡ Some Loans →
     All (Counted (relocate (move_one r q) st) (λ s. if same_slot r s then 0 else count s)) (desk_listing v b).cache
 cached_stay v st count r q b h e = λ k d l.
     let f = get_or (desk_listing v b).cache k d in
@@ -96,7 +97,7 @@ cached_stay v st count r q b h e = λ k d l.
     (apart_slots st r f.slot (CacheOf b) e (named_there v st count h (CacheOf b) f.slot (seen_counts (desk_listing v b).cache k d l)) refl)
     (h.cached b k d l)
 
-posted_stay : (v : Listing) (st : State) (count : Slot → ℕ) (r : Slot) (q : Place) (b : ℕ) → Shown v st count → list_of st r ≡ Some Loans →
+posted_stay : (v : Listing) (st : State) (count : Slot → ℕ) (r : Slot) (q : Place) (b : ℕ) → Located v st count → list_of st r ≡ Some Loans →
     All (λ (w : BatchListing). All (Counted (relocate (move_one r q) st) (λ s. if same_slot r s then 0 else count s)) w.buffers) (inbox_listing v b)
 posted_stay v st count r q b h e = λ j d l. λ k c m.
     let w = get_or (inbox_listing v b) j d in
@@ -125,7 +126,7 @@ abbrev pub after_edits : Listing → ℕ → List Entry → DeskListing → List
 after_edits v a lent d = record (with_desk v a d) { lent = lent }
 
 frame_shown : (v : Listing) (st : State) (count : Slot → ℕ) (a : ℕ) (e : Entry) (lent : List Entry) (d : DeskListing) (r : Slot) (q : Place) →
-    Shown v st count → a < length v.desks → FreeEdits v a e lent d → ShowsFrame (after_edits v a lent d) (relocate (move_one r q) st)
+    Located v st count → a < length v.desks → FreeEdits v a e lent d → ShowsFrame (after_edits v a lent d) (relocate (move_one r q) st)
 frame_shown v st count a e lent d r q h l f = record {
   digits = h.frame.digits;
   limit = h.frame.limit;
@@ -152,7 +153,7 @@ pub slots_permuted : (xs ys : List Entry) → IsPermutation xs ys → IsPermutat
 slots_permuted xs ys p = IsPermutation-map (λ (x : Entry). x.slot) xs ys p
 
 module _ (v : Listing) (st : State) (count : Slot → ℕ) (a : ℕ) (e : Entry) (lent : List Entry) (d : DeskListing)
-    (h : Shown v st count) (l : a < length v.desks) (f : FreeEdits v a e lent d) (was : is_lent (st.place e.slot) ≡ true) where
+    (h : Located v st count) (l : a < length v.desks) (f : FreeEdits v a e lent d) (was : is_lent (st.place e.slot) ≡ true) where
   there : list_of st e.slot ≡ Some Loans
   there = lent_is st e.slot was
 
@@ -163,7 +164,7 @@ module _ (v : Listing) (st : State) (count : Slot → ℕ) (a : ℕ) (e : Entry)
   label = All-head (Labelled st) e lent labelled
 
   freed_home : owner_of st e.slot ≡ a → Sound (relocate (move_one e.slot AtHome) st) (λ s. if same_slot e.slot s then 0 else count s) →
-      Shown (after_edits v a lent d) (relocate (move_one e.slot AtHome) st) (λ s. if same_slot e.slot s then 0 else count s)
+      Located (after_edits v a lent d) (relocate (move_one e.slot AtHome) st) (λ s. if same_slot e.slot s then 0 else count s)
   freed_home o sound =
       let g = f.own (label.0 ∙ o) in
       record {
@@ -202,7 +203,7 @@ module _ (v : Listing) (st : State) (count : Slot → ℕ) (a : ℕ) (e : Entry)
       others o c (BatchOf n) x y = refl
 
   freed_cache : owner_of st e.slot ≢ a → Sound (relocate (move_one e.slot (InCache a)) st) (λ s. if same_slot e.slot s then 0 else count s) →
-      Shown (after_edits v a lent d) (relocate (move_one e.slot (InCache a)) st) (λ s. if same_slot e.slot s then 0 else count s)
+      Located (after_edits v a lent d) (relocate (move_one e.slot (InCache a)) st) (λ s. if same_slot e.slot s then 0 else count s)
   freed_cache o sound =
       let g = f.other (λ q. o (sym label.0 ∙ q)) in
       record {
@@ -254,8 +255,8 @@ accepted_lent st a pair n =
 
 -- an accepted free, whatever the owner
 pub free_shown : (v : Listing) (st : State) (count : Slot → ℕ) (a : ℕ) (pair : ℕ × ℕ) (e : Entry) (lent : List Entry) (d : DeskListing) →
-    Shown v st count → a < length v.desks → refusal st (Free a pair) ≡ None → e.slot ≡ slot_at pair → FreeEdits v a e lent d →
-    Shown (after_edits v a lent d) (after_free st a (slot_at pair)) (λ s. if same_slot (slot_at pair) s then 0 else count s)
+    Located v st count → a < length v.desks → refusal st (Free a pair) ≡ None → e.slot ≡ slot_at pair → FreeEdits v a e lent d →
+    Located (after_edits v a lent d) (after_free st a (slot_at pair)) (λ s. if same_slot (slot_at pair) s then 0 else count s)
 free_shown v st count a pair e lent d h l n z f = go (owner_of st (slot_at pair) == a) refl
   where
     was : is_lent (st.place e.slot) ≡ true
@@ -265,7 +266,7 @@ free_shown v st count a pair e lent d h l n z f = go (owner_of st (slot_at pair)
     sound = free_step st count a pair h.sound n
 
     Result : Slot → Place → Type 0
-    Result s q = Shown (after_edits v a lent d) (relocate (move_one s q) st) (λ r. if same_slot s r then 0 else count r)
+    Result s q = Located (after_edits v a lent d) (relocate (move_one s q) st) (λ r. if same_slot s r then 0 else count r)
 
     Before : Slot → Place → Type 0
     Before s q = Sound (relocate (move_one s q) st) (λ r. if same_slot s r then 0 else count r)

@@ -7,7 +7,7 @@ use Rattle.pool_machine.specs.Slots.{same_slot, times, one_if}
 use Rattle.pool_machine.specs.State.{State, Place, AtHome, OnLoan, InCache, InBatch, is_cached, owner_of, slot_size, slots, near, cached_by, cached_bytes}
 use Rattle.pool_machine.specs.Steps.{relocate, move_one, after_send}
 use Rattle.pool_machine.specs.Sound.{Sound}
-use Rattle.pool_machine.specs.Listing.{ListName, HomeOf, Loans, CacheOf, BatchOf, same_list, list_at, list_of, is_list}
+use Rattle.pool_machine.proofs.Located.{ListName, HomeOf, Loans, CacheOf, BatchOf, same_list, list_at, list_of, is_list}
 use Rattle.pool_machine.proofs.Basics.{same_slot_eq}
 use Rattle.pool_machine.proofs.Moves.{same_list_self, SomeMove, some_moved, one_moves}
 use Rattle.pool_machine.proofs.Listed.{listed}

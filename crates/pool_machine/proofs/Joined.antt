@@ -5,7 +5,8 @@ use Rattle.region_cut.specs.declared.slot.Slot.{Slot}
 use Rattle.pool_machine.specs.Slots.{same_slot, times, one_if, ExactlyOnce}
 use Rattle.pool_machine.specs.State.{State, Place, AtHome, OnLoan, InCache, InBatch, owner_of, is_slot}
 use Rattle.pool_machine.specs.Sound.{Fits}
-use Rattle.pool_machine.specs.Listing.{ListName, HomeOf, Loans, CacheOf, BatchOf, list_at, list_of, is_list, slots_in, slots_seen, if_numbered, Listing, DeskListing, BatchListing, empty_desk, Shown}
+use Rattle.pool_machine.specs.Listing.{slots_seen, Listing, DeskListing, BatchListing, empty_desk}
+use Rattle.pool_machine.proofs.Located.{ListName, HomeOf, Loans, CacheOf, BatchOf, list_at, list_of, is_list, slots_in, if_numbered, Located}
 use Rattle.pool_machine.specs.Headline.{joined}
 use Rattle.pool_machine.proofs.Enumerate.{count_append}
 use Rattle.pool_machine.proofs.FreeStep.{batch_counts, inbox_counts}
@@ -58,7 +59,7 @@ module _ (s : Slot) (n : ℕ) where
       ∙ (ap₂ ◌+◌ (one_inbox ws (λ j d l e. h zero j d l e)) (all_inboxes is (λ b j d l e. h (suc b) j d l e))
       ∙ sym (count_append (same_slot s) (flat_map (if_numbered n) ws) (flat_map (λ us. flat_map (if_numbered n) us) is)))
 
-module _ (v : Listing) (st : State) (count : Slot → ℕ) (h : Shown v st count) (s : Slot) where
+module _ (v : Listing) (st : State) (count : Slot → ℕ) (h : Located v st count) (s : Slot) where
   homes : List Slot
   homes = flat_map (λ (d : DeskListing). slots_seen d.home) v.desks
 
@@ -143,5 +144,5 @@ module _ (v : Listing) (st : State) (count : Slot → ℕ) (h : Shown v st count
   once_joined = by_place (st.place s) refl (h.sound.fits s) ∙ ap one_if (h.sound.placed s)
 
 -- the headline's count: each slot of a drawn chunk once among the floor's lists, and no other slot
-pub shown_once : (v : Listing) (st : State) (count : Slot → ℕ) → Shown v st count → ExactlyOnce (joined v) st.drawn
-shown_once v st count h s = once_joined v st count h s
+pub located_once : (v : Listing) (st : State) (count : Slot → ℕ) → Located v st count → ExactlyOnce (joined v) st.drawn
+located_once v st count h s = once_joined v st count h s

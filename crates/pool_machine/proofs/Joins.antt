@@ -1,30 +1,17 @@
--- Steps join to runs.
-use Rattle.std.proofs.Common.{◌≡◌, ℕ, List, [], ◌∷◌, ◌++◌, refl, sym, ap, subst}
+-- Steps join to runs, and runs are the headline.
+use Rattle.std.proofs.Common.{List, [], ◌∷◌, ◌++◌, ℕ, refl, sym, subst}
 use Rattle.region_cut.specs.declared.slot.Slot.{Slot}
 use Rattle.pool_machine.specs.declared.request.Request.{Request}
 use Rattle.pool_machine.specs.State.{State}
 use Rattle.pool_machine.specs.Steps.{Answer, Answers, Run, after}
 use Rattle.pool_machine.specs.Forwards.{counted, forwards}
 use Rattle.pool_machine.specs.Listing.{Listing, Shown}
-use Rattle.pool_machine.specs.Headline.{Applies, AppliesAll}
+use Rattle.pool_machine.specs.Headline.{Applies, AppliesAll, ShowsSome, Headline}
+use Rattle.pool_machine.proofs.Reached.{run_push, forwards_push}
+use Rattle.pool_machine.proofs.Shown.{shown_once}
 
 pub applies_none : (v : Listing) → AppliesAll v [] [] v
 applies_none v st count h = (st, refl, h)
-
--- one more request at the end
-run_push : (qs : List Request) (ys : List Answer) (old mid : State) (q : Request) (y : Answer) → Run old qs ys mid → Answers mid q y →
-    Run old (qs ++ q ∷ []) (ys ++ y ∷ []) (after mid q y)
-run_push [] [] old mid q y g h = subst (λ st. Answers st q y × (after mid q y ≡ after st q y)) g (h, refl)
-run_push (p ∷ qs) (x ∷ ys) old mid q y g h = (g.0, run_push qs ys (after old p x) mid q y g.1 h)
-run_push [] (x ∷ ys) old mid q y g h = elim g [ ]
-run_push (p ∷ qs) [] old mid q y g h = elim g [ ]
-
-forwards_push : (qs : List Request) (ys : List Answer) (old mid : State) (q : Request) (y : Answer) → Run old qs ys mid → (s : Slot) (c : ℕ) →
-    forwards old (qs ++ q ∷ []) (ys ++ y ∷ []) s c ≡ counted mid q y s (forwards old qs ys s c)
-forwards_push [] [] old mid q y g s c = ap (λ st. counted st q y s c) (sym g)
-forwards_push (p ∷ qs) (x ∷ ys) old mid q y g s c = forwards_push qs ys (after old p x) mid q y g.1 s (counted old p x s c)
-forwards_push [] (x ∷ ys) old mid q y g s c = elim g [ ]
-forwards_push (p ∷ qs) [] old mid q y g s c = elim g [ ]
 
 pub applies_push : (u v w : Listing) (qs : List Request) (ys : List Answer) (q : Request) (y : Answer) →
     AppliesAll u qs ys v → Applies v q y w → AppliesAll u (qs ++ q ∷ []) (ys ++ y ∷ []) w
@@ -36,3 +23,12 @@ applies_push u v w qs ys q y more one st count h =
       subst (λ k. Shown w (after f.0 q y) k) (λ i s. sym (forwards_push qs ys st f.0 q y f.1 s (count s)) i)
           (subst (λ x. Shown w x (λ s. counted f.0 q y s (forwards st qs ys s (count s)))) g.1.1 g.2),
     )
+
+-- a step leads to lists that show some state
+pub shows_next : (v w : Listing) (q : Request) (y : Answer) → Applies v q y w → ShowsSome v → ShowsSome w
+shows_next v w q y f s = let g = f s.0 s.1 s.2 in (g.0, _, g.2)
+
+pub headline : (old : Listing) (qs : List Request) (ys : List Answer) (new : Listing) → AppliesAll old qs ys new → Headline old qs ys new
+headline old qs ys new f st count h =
+    let g = f st count h in
+    (g.0, record { run = g.1; shown = g.2; once = shown_once new g.0 (λ s. forwards st qs ys s (count s)) g.2 })

@@ -9,38 +9,12 @@ use Rattle.pool_machine.specs.Slots.{times}
 use Rattle.pool_machine.specs.State.{State, Waiting, inbox}
 use Rattle.pool_machine.specs.Steps.{link_one}
 use Rattle.pool_machine.specs.Sound.{Member, Rising}
-use Rattle.pool_machine.specs.Listing.{ListName, HomeOf, Loans, CacheOf, BatchOf, slots_in, if_numbered, Listing, BatchListing, inbox_listing, as_waiting, Counted, Shown}
-use Rattle.pool_machine.specs.Headline.{Applies}
+use Rattle.pool_machine.specs.Listing.{Listing, BatchListing, inbox_listing, as_waiting, Counted}
+use Rattle.pool_machine.proofs.Located.{ListName, HomeOf, Loans, CacheOf, BatchOf, slots_in, if_numbered, Located, LocatedStep}
 use Rattle.pool_machine.proofs.Basics.{filter_member, link_keeps}
-use Rattle.pool_machine.proofs.Keeps.{link_sound, Rising-filter}
+use Rattle.pool_machine.proofs.Batches.{same_number, row_member, waits_there, row_rises}
+use Rattle.pool_machine.proofs.Keeps.{link_sound}
 use Rattle.pool_machine.proofs.Refusals.{refusal_seen, refusal_agrees}
-
--- ---- batches by their numbers
-
--- two batches with one number are one
-pub same_number : (xs : List Waiting) (w u : Waiting) → Rising xs → Member w xs → Member u xs → w.number ≡ u.number → w ≡ u
-same_number [] w u r m n e = elim m [ ]
-same_number (x ∷ xs) w u r (inl p) (inl q) e = p ∙ sym q
-same_number (x ∷ xs) w u r (inl p) (inr n) e =
-    absurd (let l = r.0 u n in let z : w.number ≡ x.number = ap (λ (y : Waiting). y.number) p in omega arith)
-same_number (x ∷ xs) w u r (inr m) (inl q) e =
-    absurd (let l = r.0 w m in let z : u.number ≡ x.number = ap (λ (y : Waiting). y.number) q in omega arith)
-same_number (x ∷ xs) w u r (inr m) (inr n) e = same_number xs w u r.1 m n e
-
-pub row_member : (ws : List BatchListing) (j : ℕ) (d : BatchListing) → j < length ws → Member (as_waiting (get_or ws j d)) (map as_waiting ws)
-row_member [] j d l = absurd (omega arith)
-row_member (w ∷ ws) zero d l = inl refl
-row_member (w ∷ ws) (suc j) d l = inr (row_member ws j d (omega arith))
-
-module _ (v : Listing) (st : State) (count : Slot → ℕ) (h : Shown v st count) where
-  -- a batch of an inbox waits for its desk
-  pub waits_there : (b j : ℕ) (d : BatchListing) → j < length (inbox_listing v b) →
-      Member (as_waiting (get_or (inbox_listing v b) j d)) st.waiting × ((b == (get_or (inbox_listing v b) j d).address) ≡ true)
-  waits_there b j d l = filter_member (λ w. b == w.address) (as_waiting (get_or (inbox_listing v b) j d)) st.waiting
-      (subst (λ ws. Member (as_waiting (get_or (inbox_listing v b) j d)) ws) (h.frame.inboxes b) (row_member (inbox_listing v b) j d l))
-
-  pub row_rises : (b : ℕ) → Rising (map as_waiting (inbox_listing v b))
-  row_rises b = subst (λ ws. Rising ws) (sym (h.frame.inboxes b)) (Rising-filter (λ w. b == w.address) st.waiting h.sound.rising)
 
 -- ---- links
 
@@ -85,7 +59,7 @@ abbrev pub after_link : Listing → ℕ → ℕ → BatchListing → Listing
 after_link v b j w = record v { inboxes = set v.inboxes b (set (inbox_listing v b) j (linked w)) }
 
 module _ (v : Listing) (st : State) (count : Slot → ℕ) (n b j : ℕ) (d : BatchListing)
-    (h : Shown v st count) (l : b < length v.inboxes) (m : j < length (inbox_listing v b)) (e : (get_or (inbox_listing v b) j d).number ≡ n) where
+    (h : Located v st count) (l : b < length v.inboxes) (m : j < length (inbox_listing v b)) (e : (get_or (inbox_listing v b) j d).number ≡ n) where
   w : BatchListing
   w = get_or (inbox_listing v b) j d
 
@@ -104,14 +78,14 @@ module _ (v : Listing) (st : State) (count : Slot → ℕ) (n b j : ℕ) (d : Ba
   waiting_at : (c : ℕ) (y : Bool) → (b == c) ≡ y → map as_waiting (inbox_listing after c) ≡ filter (λ w. c == w.address) (map (link_one n) st.waiting)
   waiting_at c true q = subst (λ z. map as_waiting (inbox_listing after z) ≡ filter (λ w. z == w.address) (map (link_one n) st.waiting))
       (eqb-true b c q)
-      (ap (map as_waiting) here ∙ (link_row (inbox_listing v b) j n d (row_rises v st count h b) m e
+      (ap (map as_waiting) here ∙ (link_row (inbox_listing v b) j n d (row_rises v st h.frame h.sound.rising b) m e
       ∙ (ap (map (link_one n)) (h.frame.inboxes b) ∙ sym (filter_links n b st.waiting))))
   waiting_at c false q = ap (map as_waiting) (other c q) ∙ (h.frame.inboxes c
       ∙ (sym (links_none n (inbox st c) (λ u k. ne_eqb n u.number (λ r. eqb-false b c q (apart u k r)))) ∙ sym (filter_links n c st.waiting)))
     where
       apart : (u : Waiting) → Member u (inbox st c) → n ≡ u.number → b ≡ c
       apart u k r =
-          let x = waits_there v st count h b j d m in
+          let x = waits_there v st h.frame h.sound.rising b j d m in
           let y = filter_member (λ w. c == w.address) u st.waiting k in
           let z = same_number st.waiting _ u h.sound.rising x.0 y.0 (e ∙ r) in
           eqb-true b _ x.1 ∙ (ap (λ (w : Waiting). w.address) z ∙ sym (eqb-true c u.address y.1))
@@ -130,7 +104,7 @@ module _ (v : Listing) (st : State) (count : Slot → ℕ) (n b j : ℕ) (d : Ba
       (h.posted b j d m) (h.posted b)))
   posted_at c false q = subst (λ ws. All (λ (w : BatchListing). All (Counted st count) w.buffers) ws) (sym (other c q)) (h.posted c)
 
-  pub link_shown : Shown (after_link v b j (get_or (inbox_listing v b) j d)) (record st { waiting = map (link_one n) st.waiting }) count
+  pub link_shown : Located (after_link v b j (get_or (inbox_listing v b) j d)) (record st { waiting = map (link_one n) st.waiting }) count
   link_shown = record {
     sound = link_sound st count n h.sound;
     frame = record {
@@ -154,7 +128,7 @@ module _ (v : Listing) (st : State) (count : Slot → ℕ) (n b j : ℕ) (d : Ba
 -- an accepted link
 pub link_applies : (v : Listing) (n b j : ℕ) (d : BatchListing) → refusal_seen v (Link n) ≡ None → b < length v.inboxes →
     j < length (inbox_listing v b) →
-    (get_or (inbox_listing v b) j d).number ≡ n → Applies v (Link n) (Ok Done) (after_link v b j (get_or (inbox_listing v b) j d))
+    (get_or (inbox_listing v b) j d).number ≡ n → LocatedStep v (Link n) (Ok Done) (after_link v b j (get_or (inbox_listing v b) j d))
 link_applies v n b j d z l m e st count h = (
   record st { waiting = map (link_one n) st.waiting },
   (

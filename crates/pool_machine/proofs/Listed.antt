@@ -1,7 +1,7 @@
 -- A list that has certain slots, each once, is a permutation of the slots that pass a test.
 use Rattle.std.proofs.Common.{◌≡◌, ℕ, ◌+◌, ◌<◌, Bool, true, false, cond, List, [], ◌∷◌, ◌++◌, filter, IsPermutation, refl, sym, ap, ap₂, ◌∙◌, subst, arith, zero-add}
 use Rattle.std.proofs.lemmas.Bool.{false≢true}
-use Rattle.std.proofs.lemmas.List.Sorted.{IsPermutation-refl, IsPermutation-sym, IsPermutation-cons, IsPermutation-trans, IsPermutation-middle}
+use Rattle.std.proofs.lemmas.List.Sorted.{IsPermutation-refl, IsPermutation-sym, IsPermutation-cons, IsPermutation-trans, IsPermutation-middle, sum_by-IsPermutation}
 use Rattle.region_cut.specs.declared.slot.Slot.{Slot}
 use Rattle.pool_machine.specs.Slots.{same_slot, times, one_if}
 use Rattle.pool_machine.specs.State.{State, slots, is_slot}
@@ -64,11 +64,21 @@ times_filter p s (x ∷ xs) = go (p x) refl (same_slot s x) refl (p s) refl (tim
     go false k false m true r ih = ih ∙ (sym (zero-add (times s xs)) ∙ (ap (λ b. one_if b + times s xs) (sym m) ∙ sym (times_cons s x xs)))
     go false k false m false r ih = ih
 
--- the slots of a state that pass a test, from a list that has each of them once
+-- the slots of a state that pass a test, each once
+module _ (st : State) (c : Slot → ℕ) (p : Slot → Bool) (h : Sound st c) (within : (s : Slot) → p s ≡ true → is_slot st s ≡ true) where
+  pub filtered_once : (s : Slot) → times s (filter p (slots st)) ≡ one_if (p s)
+  filtered_once s = times_filter p s (slots st) ∙ go (p s) refl
+    where
+      go : (b : Bool) → p s ≡ b → cond (p s) (times s (slots st)) 0 ≡ one_if b
+      go true e = ap (λ b. cond b (times s (slots st)) 0) e ∙ (slots_once st c h s ∙ ap one_if (within s e))
+      go false e = ap (λ b. cond b (times s (slots st)) 0) e
+
+-- from a list that has each of them once
 pub listed : (st : State) (c : Slot → ℕ) (p : Slot → Bool) (xs : List Slot) → Sound st c →
     ((s : Slot) → p s ≡ true → is_slot st s ≡ true) → ((s : Slot) → times s xs ≡ one_if (p s)) → IsPermutation xs (filter p (slots st))
-listed st c p xs h within once = permutation_from_times xs (filter p (slots st)) (λ s. once s ∙ (go s (p s) refl ∙ sym (times_filter p s (slots st))))
-  where
-    go : (s : Slot) (b : Bool) → p s ≡ b → one_if b ≡ cond (p s) (times s (slots st)) 0
-    go s true e = sym (ap (λ b. cond b (times s (slots st)) 0) e ∙ (slots_once st c h s ∙ ap one_if (within s e)))
-    go s false e = sym (ap (λ b. cond b (times s (slots st)) 0) e)
+listed st c p xs h within once =
+    permutation_from_times xs (filter p (slots st)) (λ s. once s ∙ sym (filtered_once st c p h within s))
+
+-- and back
+pub times_permuted : (s : Slot) (xs ys : List Slot) → IsPermutation xs ys → times s xs ≡ times s ys
+times_permuted s xs ys p = sym (sum_by-IsPermutation (λ r. cond (same_slot s r) 1 0) xs ys p)

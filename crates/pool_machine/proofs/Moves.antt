@@ -4,7 +4,7 @@ use Rattle.std.proofs.lemmas.Bool.{eqb-true, eq-eqb, false≢true, true≢false}
 use Rattle.std.proofs.lemmas.List.Sorted.{sum_by_pushed}
 use Rattle.region_cut.specs.declared.slot.Slot.{Slot}
 use Rattle.pool_machine.specs.Slots.{same_slot, times, one_if}
-use Rattle.pool_machine.specs.Listing.{ListName, HomeOf, Loans, CacheOf, BatchOf, same_list, is_list}
+use Rattle.pool_machine.proofs.Located.{ListName, HomeOf, Loans, CacheOf, BatchOf, same_list, is_list}
 use Rattle.pool_machine.proofs.Basics.{same_slot_eq, same_slot_self}
 
 pub same_list_eq : (l m : ListName) → same_list l m ≡ true → l ≡ m

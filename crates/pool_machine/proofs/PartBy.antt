@@ -8,7 +8,8 @@ use Rattle.region_cut.specs.declared.slot.Slot.{Slot}
 use Rattle.pool_machine.specs.Slots.{times, one_if}
 use Rattle.pool_machine.specs.State.{State, Place, AtHome, OnLoan, InCache, InBatch, owner_of, class_of, slots, home_with, is_home, is_lent}
 use Rattle.pool_machine.specs.Sound.{Sound}
-use Rattle.pool_machine.specs.Listing.{ListName, HomeOf, Loans, list_at, list_of, is_list, slots_seen, Entry}
+use Rattle.pool_machine.specs.Listing.{slots_seen, Entry}
+use Rattle.pool_machine.proofs.Located.{ListName, HomeOf, Loans, list_at, list_of, is_list}
 use Rattle.pool_machine.proofs.Listed.{listed}
 
 pub any_same : {A : Type 0} (p q : A → Bool) (xs : List A) → ((x : A) → p x ≡ q x) → list_any p xs ≡ list_any q xs

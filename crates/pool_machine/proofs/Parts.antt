@@ -7,7 +7,8 @@ use Rattle.region_cut.specs.declared.slot.Slot.{Slot}
 use Rattle.pool_machine.specs.Slots.{same_slot, times, one_if}
 use Rattle.pool_machine.specs.State.{State, Place, owner_of, slots, near, in_bucket, bucket, opening, is_slot, class_of, slot_size, cached_bytes}
 use Rattle.pool_machine.specs.Sound.{Sound}
-use Rattle.pool_machine.specs.Listing.{ListName, HomeOf, Loans, CacheOf, BatchOf, list_at, list_of, is_list, slots_in, slots_seen, Listing, DeskListing, Entry, BatchListing, desk_listing, empty_desk, Shown, if_numbered, as_waiting, Labelled, Counted}
+use Rattle.pool_machine.specs.Listing.{slots_seen, Listing, DeskListing, Entry, BatchListing, desk_listing, empty_desk, as_waiting, Labelled, Counted}
+use Rattle.pool_machine.proofs.Located.{ListName, HomeOf, Loans, CacheOf, BatchOf, list_at, list_of, is_list, slots_in, if_numbered, Located}
 use Rattle.pool_machine.proofs.Basics.{same_slot_eq}
 use Rattle.pool_machine.proofs.Enumerate.{count_cons}
 use Rattle.pool_machine.proofs.Listed.{listed}
@@ -85,7 +86,7 @@ part_length st c l p q xs h labels once same =
         some (Some x) e = refl
 
 -- the number of a bucket's slots, from the cache
-pub bucket_length : (v : Listing) (st : State) (c : Slot → ℕ) (a t : ℕ) → Shown v st c →
+pub bucket_length : (v : Listing) (st : State) (c : Slot → ℕ) (a t : ℕ) → Located v st c →
     length (bucket st a t) ≡ length (filter (λ (e : Entry). nat_lt (near st a t) (near st e.owner t)) (desk_listing v a).cache)
 bucket_length v st c a t h =
     part_length st c (CacheOf a) (λ o. nat_lt (near st a t) (near st o t)) (in_bucket st a t) (desk_listing v a).cache h.sound
@@ -104,7 +105,7 @@ sizes_seen st (x ∷ xs) h =
     ∙ sym (sum_by-cons (λ (e : Entry). size_of e.class) x xs))
 
 -- the bytes in the cache of a are the sum of its buffers' sizes
-pub bytes_seen : (v : Listing) (st : State) (c : Slot → ℕ) (a : ℕ) → Shown v st c →
+pub bytes_seen : (v : Listing) (st : State) (c : Slot → ℕ) (a : ℕ) → Located v st c →
     cached_bytes st a ≡ sum_by (λ (e : Entry). size_of e.class) (desk_listing v a).cache
 bytes_seen v st c a h =
     bytes_listed st c (slots_in v) a h.sound h.in_place
@@ -133,9 +134,9 @@ no_batches : (s : Slot) (n m : ℕ) → times s (flat_map (λ ws. flat_map (if_n
 no_batches s n zero = refl
 no_batches s n (suc m) = no_batches s n m
 
-pub opening_shown : (desks chunks : ℕ) (digits : Scheme) (limit : ℕ) → IsScheme digits → desks ≤ 2 ^ digits.bits →
-    Shown (opened desks chunks digits limit) (opening desks chunks digits limit) (λ s. 0)
-opening_shown desks chunks digits limit i l = record {
+pub opening_located : (desks chunks : ℕ) (digits : Scheme) (limit : ℕ) → IsScheme digits → desks ≤ 2 ^ digits.bits →
+    Located (opened desks chunks digits limit) (opening desks chunks digits limit) (λ s. 0)
+opening_located desks chunks digits limit i l = record {
   sound = opening_sound desks chunks digits limit i l;
   frame = record {
     digits = refl;

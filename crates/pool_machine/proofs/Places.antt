@@ -2,10 +2,11 @@
 use Rattle.std.proofs.Common.{◌≡◌, ℕ, true, List, get_or, All, Option, Some, None, is_some, option_map, refl, ap, lt_of_lt_of_le, le_trans}
 use Rattle.region_cut.specs.declared.slot.Slot.{Slot}
 use Rattle.pool_machine.specs.State.{State, Place, owner_of}
-use Rattle.pool_machine.specs.Listing.{ListName, HomeOf, Loans, CacheOf, BatchOf, list_at, list_of, Listing, Entry, BatchListing, desk_listing, inbox_listing, Shown}
+use Rattle.pool_machine.specs.Listing.{Listing, Entry, BatchListing, desk_listing, inbox_listing}
+use Rattle.pool_machine.proofs.Located.{ListName, HomeOf, Loans, CacheOf, BatchOf, list_at, list_of, Located}
 use Rattle.pool_machine.proofs.FreeStep.{named_there, seen_counts, batch_counts, inbox_counts}
 
-module _ (v : Listing) (st : State) (count : Slot → ℕ) (h : Shown v st count) where
+module _ (v : Listing) (st : State) (count : Slot → ℕ) (h : Located v st count) where
   pub home_place : (b : ℕ) → All (λ (e : Entry). list_of st e.slot ≡ Some (HomeOf b)) (desk_listing v b).home
   home_place b = λ k d l. named_there v st count h (HomeOf b) (get_or (desk_listing v b).home k d).slot (seen_counts (desk_listing v b).home k d l)
 

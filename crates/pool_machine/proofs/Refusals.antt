@@ -14,8 +14,8 @@ use Rattle.pool_machine.specs.Slots.{same_slot, times, one_if}
 use Rattle.pool_machine.specs.State.{profile_at, least_class, State, Waiting, owner_of, class_of, slots, near, home_with, has_home, cached_by, in_bucket, inbox, is_lent}
 use Rattle.pool_machine.specs.Refusals.{first, conditions, refusal, no_desk, is_idle, is_half, front_ready, slot_at, may_grow}
 use Rattle.pool_machine.specs.Sound.{Member}
-use Rattle.pool_machine.specs.Listing.{Listing, Entry, BatchListing, HomeOf, Loans, CacheOf, list_of, is_list, slots_seen, desk_listing, inbox_listing, as_waiting, Shown}
-use Rattle.pool_machine.specs.Headline.{Applies}
+use Rattle.pool_machine.specs.Listing.{Listing, Entry, BatchListing, slots_seen, desk_listing, inbox_listing, as_waiting}
+use Rattle.pool_machine.proofs.Located.{HomeOf, Loans, CacheOf, list_of, is_list, Located, LocatedStep}
 use Rattle.digit_route.specs.Digits.{Scheme, common}
 use Rattle.digit_route.specs.Profiles.{profile_of}
 use Rattle.pool_machine.proofs.Basics.{Member-filter}
@@ -111,7 +111,7 @@ any_of_row p (ws ∷ is) (suc b) n e = ap (λ y. p ws || y) (any_of_row p is b n
     or_true true = refl
     or_true false = refl
 
-pub posted_any : (v : Listing) (st : State) (count : Slot → ℕ) → Shown v st count → (p : Waiting → Bool) →
+pub posted_any : (v : Listing) (st : State) (count : Slot → ℕ) → Located v st count → (p : Waiting → Bool) →
     list_any p st.waiting ≡ any_posted p v.inboxes
 posted_any v st count h p = bools_agree (list_any p st.waiting) (any_posted p v.inboxes) there back
   where
@@ -151,7 +151,7 @@ any_times s (x ∷ xs) e = subst (λ n. 0 < n) (sym (count_cons (same_slot s) x.
     go true f l = omega arith
     go false f l = let k = f l in omega arith
 
-pub lent_any : (v : Listing) (st : State) (count : Slot → ℕ) → Shown v st count → (s : Slot) →
+pub lent_any : (v : Listing) (st : State) (count : Slot → ℕ) → Located v st count → (s : Slot) →
     is_lent (st.place s) ≡ list_any (λ (e : Entry). same_slot s e.slot) v.lent
 lent_any v st count h s = go (is_lent (st.place s)) (sym (lent_named (owner_of st s) (st.place s)))
     (list_any (λ (e : Entry). same_slot s e.slot) v.lent) refl
@@ -183,7 +183,7 @@ all_below n (suc m) a l = elim (cases_lt a n) as (λ _. list_all (λ k. nat_lt k
   | inr p ↦ ap (λ b. b && list_all (λ k. nat_lt k n) (range_with_len (a + 1) m)) (le-ltb a n p) ∙ grind (arith, nat_tests)
 ]
 
-pub drawn_all : (v : Listing) (st : State) (count : Slot → ℕ) → Shown v st count →
+pub drawn_all : (v : Listing) (st : State) (count : Slot → ℕ) → Located v st count →
     list_all (λ k. is_some (st.drawn k)) (range_with_len 0 st.chunks) ≡ nat_le v.chunks (length v.drawn)
 drawn_all v st count h =
     ap₂ (λ n (f : ℕ → Bool). list_all f (range_with_len 0 n)) (sym h.frame.chunks)
@@ -192,7 +192,7 @@ drawn_all v st count h =
 
 -- ---- the conditions
 
-module _ (v : Listing) (st : State) (count : Slot → ℕ) (h : Shown v st count) where
+module _ (v : Listing) (st : State) (count : Slot → ℕ) (h : Located v st count) where
   no_desk_is : (a : ℕ) → no_desk st a ≡ nat_le (length v.desks) a
   no_desk_is a = ap (λ n. nat_le n a) (sym h.frame.desks)
 
@@ -268,9 +268,9 @@ module _ (v : Listing) (st : State) (count : Slot → ℕ) (h : Shown v st count
   refusal_agrees q = ap first (conditions_agree q)
 
 -- a refused request
-pub refused : (v : Listing) (q : Request) (r : Refusal) → refusal_seen v q ≡ Some r → Applies v q (Err r) v
+pub refused : (v : Listing) (q : Request) (r : Refusal) → refusal_seen v q ≡ Some r → LocatedStep v q (Err r) v
 refused v q r e st count h = (st, (inl (refusal_agrees v st count h q ∙ e), refl), h)
 
 -- want of memory
-pub no_memory : (v : Listing) (q : Request) → refusal_seen v q ≡ None → may_grow q ≡ true → Applies v q (Err NoMemory) v
+pub no_memory : (v : Listing) (q : Request) → refusal_seen v q ≡ None → may_grow q ≡ true → LocatedStep v q (Err NoMemory) v
 no_memory v q e g st count h = (st, (inr (refusal_agrees v st count h q ∙ e, g, refl), refl), h)

@@ -10,7 +10,8 @@ use Rattle.pool_machine.specs.Slots.{same_slot, times}
 use Rattle.pool_machine.specs.State.{State, Waiting, owner_of, near, inbox}
 use Rattle.pool_machine.specs.Refusals.{refusal}
 use Rattle.pool_machine.specs.Steps.{after_send}
-use Rattle.pool_machine.specs.Listing.{ListName, HomeOf, Loans, CacheOf, BatchOf, same_list, slots_in, slots_seen, if_numbered, Listing, DeskListing, Entry, BatchListing, desk_listing, inbox_listing, as_waiting, Labelled, Counted, Shown}
+use Rattle.pool_machine.specs.Listing.{slots_seen, Listing, DeskListing, Entry, BatchListing, desk_listing, inbox_listing, as_waiting, Labelled, Counted}
+use Rattle.pool_machine.proofs.Located.{ListName, HomeOf, Loans, CacheOf, BatchOf, same_list, slots_in, if_numbered, Located}
 use Rattle.pool_machine.proofs.Enumerate.{count_append}
 use Rattle.pool_machine.proofs.Moves.{SomeMove}
 use Rattle.pool_machine.proofs.InPlace.{sent_in_place}
@@ -63,7 +64,7 @@ seen_permuted s xs ys p = sum_by-IsPermutation (λ x. cond (same_slot s x) 1 0) 
     (IsPermutation-map (λ (x : Entry). x.slot) xs ys p)
 
 module _ (v : Listing) (st : State) (count : Slot → ℕ) (a t : ℕ) (bs : List Entry) (d : DeskListing)
-    (h : Shown v st count) (al : a < length v.desks) (tl : t < length v.inboxes) (f : SendEdits v st a t bs d) where
+    (h : Located v st count) (al : a < length v.desks) (tl : t < length v.inboxes) (f : SendEdits v st a t bs d) where
   owners : All (λ (e : Entry). e.owner ≡ owner_of st e.slot) (desk_listing v a).cache
   owners = λ k e l. (h.cached a k e l).0
 
@@ -160,7 +161,7 @@ module _ (v : Listing) (st : State) (count : Slot → ℕ) (a t : ℕ) (bs : Lis
       turned q = ne_eqb b t (λ r. eqb-false t b q (sym r))
 
   -- an accepted send
-  pub send_shown : refusal st (Send a t) ≡ None → Shown (after_sending v a t bs d) (after_send st a t) count
+  pub send_shown : refusal st (Send a t) ≡ None → Located (after_sending v a t bs d) (after_send st a t) count
   send_shown n = record {
     sound = send_step st count a t h.sound n;
     frame = record {

@@ -12,8 +12,8 @@ use Rattle.pool_machine.specs.State.{State, Waiting, Place, AtHome, OnLoan, InCa
 use Rattle.pool_machine.specs.Refusals.{refusal}
 use Rattle.pool_machine.specs.Steps.{after_take, front_of, front_number}
 use Rattle.pool_machine.specs.Sound.{Member, Rising}
-use Rattle.pool_machine.specs.Listing.{ListName, HomeOf, Loans, CacheOf, BatchOf, same_list, list_at, list_of, is_list, slots_in, slots_seen, if_numbered, Listing, DeskListing, Entry, BatchListing, desk_listing, inbox_listing, as_waiting, Labelled, Counted, Shown}
-use Rattle.pool_machine.specs.Headline.{Applies}
+use Rattle.pool_machine.specs.Listing.{slots_seen, Listing, DeskListing, Entry, BatchListing, desk_listing, inbox_listing, as_waiting, Labelled, Counted}
+use Rattle.pool_machine.proofs.Located.{ListName, HomeOf, Loans, CacheOf, BatchOf, same_list, list_at, list_of, is_list, slots_in, if_numbered, Located, LocatedStep}
 use Rattle.pool_machine.proofs.Basics.{none_holds, filter_member}
 use Rattle.pool_machine.proofs.Enumerate.{count_append}
 use Rattle.pool_machine.proofs.FloorSteps.{with_desk, desk_here, desk_other, desk_keeps}
@@ -21,7 +21,7 @@ use Rattle.pool_machine.proofs.SendStep.{seen_permuted}
 use Rattle.pool_machine.proofs.TakeStep.{TakeMoves, taken_in_place}
 use Rattle.pool_machine.proofs.Parts.{part_times, part_length}
 use Rattle.pool_machine.proofs.Keeps.{take_step}
-use Rattle.pool_machine.proofs.LinkStep.{same_number, row_member, waits_there, row_rises}
+use Rattle.pool_machine.proofs.Batches.{same_number, row_member, waits_there, row_rises}
 use Rattle.pool_machine.proofs.Places.{cache_place, posted_place, All-both}
 use Rattle.pool_machine.proofs.Refusals.{refusal_seen, refusal_agrees}
 
@@ -111,7 +111,7 @@ posted_is n o (Some (InCache a)) = refl
 posted_is n o (Some (InBatch m)) = refl
 
 module _ (v : Listing) (st : State) (count : Slot → ℕ) (b : ℕ) (w : BatchListing) (rest : List BatchListing) (d : DeskListing)
-    (h : Shown v st count) (l : b < length v.desks) (f : TakeEdits v b w rest d) where
+    (h : Located v st count) (l : b < length v.desks) (f : TakeEdits v b w rest d) where
   abbrev new : Listing
   new = after_taking v b rest d
 
@@ -137,7 +137,7 @@ module _ (v : Listing) (st : State) (count : Slot → ℕ) (b : ℕ) (w : BatchL
   other c q = get_or-set_other v.inboxes b c rest [] (λ r. eqb-false b c q (sym r))
 
   rises : Rising (as_waiting w ∷ map as_waiting rest)
-  rises = subst (λ ws. Rising ws) (ap (map as_waiting) f.front) (row_rises v st count h b)
+  rises = subst (λ ws. Rising ws) (ap (map as_waiting) f.front) (row_rises v st h.frame h.sound.rising b)
 
   nonempty : 0 < length (inbox_listing v b)
   nonempty = subst (λ ws. 0 < length ws) (sym f.front) (omega arith)
@@ -148,7 +148,7 @@ module _ (v : Listing) (st : State) (count : Slot → ℕ) (b : ℕ) (w : BatchL
   -- a batch of another desk has another number
   apart : (c : ℕ) → (b == c) ≡ false → (u : Waiting) → Member u (inbox st c) → (front_of st b == u.number) ≡ false
   apart c q u k = ne_eqb (front_of st b) u.number (λ r. eqb-false b c q (
-      let x = waits_there v st count h b 0 w nonempty in
+      let x = waits_there v st h.frame h.sound.rising b 0 w nonempty in
       let y = filter_member (λ w. c == w.address) u st.waiting k in
       let z = same_number st.waiting _ u h.sound.rising x.0 y.0 (ap (λ (p : BatchListing). p.number) first_is ∙ (sym number_is ∙ r)) in
       eqb-true b _ x.1 ∙ (ap (λ (w : Waiting). w.address) z ∙ sym (eqb-true c u.address y.1))))
@@ -331,7 +331,7 @@ module _ (v : Listing) (st : State) (count : Slot → ℕ) (b : ℕ) (w : BatchL
       ∙ (sym (filter_all (λ w. not (front_of st b == w.number)) (inbox st c) (λ u m. ap not (apart c q u m)))
       ∙ filter_swap (λ w. not (front_of st b == w.number)) (λ w. c == w.address) st.waiting))
 
-  pub take_shown : refusal st (Take b) ≡ None → Shown (after_taking v b rest d) (after_take st b)
+  pub take_shown : refusal st (Take b) ≡ None → Located (after_taking v b rest d) (after_take st b)
       (λ s. if is_posted (front_of st b) (st.place s) && not (owner_of st s == b) then suc (count s) else count s)
   take_shown z = record {
     sound = take_step st count b h.sound z;
@@ -366,7 +366,7 @@ module _ (v : Listing) (st : State) (count : Slot → ℕ) (b : ℕ) (w : BatchL
 -- an accepted take
 pub take_applies : (v : Listing) (b : ℕ) (w : BatchListing) (rest : List BatchListing) (d : DeskListing) → refusal_seen v (Take b) ≡ None →
     TakeEdits v b w rest d →
-    Applies v (Take b) (Ok (Counts (length (filter (λ (e : Entry). e.owner == b) w.buffers))
+    LocatedStep v (Take b) (Ok (Counts (length (filter (λ (e : Entry). e.owner == b) w.buffers))
     (length (filter (λ (e : Entry). not (e.owner == b)) w.buffers)))) (after_taking v b rest d)
 take_applies v b w rest d z f st count h =
     let l = leb-false (length v.desks) b (none_holds _ _ _ z).0 in

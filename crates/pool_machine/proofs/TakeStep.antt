@@ -5,7 +5,7 @@ use Rattle.region_cut.specs.declared.slot.Slot.{Slot}
 use Rattle.pool_machine.specs.Slots.{one_if}
 use Rattle.pool_machine.specs.State.{State, Place, AtHome, OnLoan, InCache, InBatch, is_posted, owner_of}
 use Rattle.pool_machine.specs.Steps.{after_take, front_of}
-use Rattle.pool_machine.specs.Listing.{ListName, HomeOf, Loans, CacheOf, BatchOf, same_list, list_at, list_of, is_list}
+use Rattle.pool_machine.proofs.Located.{ListName, HomeOf, Loans, CacheOf, BatchOf, same_list, list_at, list_of, is_list}
 use Rattle.pool_machine.proofs.Moves.{SomeMove, some_moved, same_list_eq}
 
 -- the batch n is taken by desk b: its own slots go home, the others into its cache

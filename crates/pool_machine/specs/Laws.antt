@@ -10,6 +10,7 @@ use Rattle.pool_machine.specs.Slots.{ExactlyOnce}
 use Rattle.pool_machine.specs.State.{State, opening, slots, least_class}
 use Rattle.pool_machine.specs.Steps.{Answer, Answers, Step, Run}
 use Rattle.pool_machine.specs.Forwards.{forwards}
+use Rattle.pool_machine.specs.Reached.{IsReached}
 use Rattle.pool_machine.specs.Sound.{IsOrderly, Sound}
 
 -- a pool of at most as many desks as there are numbers begins in a sound state
@@ -21,6 +22,10 @@ OpeningIsSound = (desks chunks : ℕ) (digits : Scheme) (limit : ℕ) → IsSche
 abbrev pub RunsStaySound : Type 0
 RunsStaySound = (requests : List Request) (answers : List Answer) (old new : State) (count : Slot → ℕ)
     → Sound old count → Run old requests answers new → Sound new (λ s. forwards old requests answers s (count s))
+
+-- so each state that a run of a new pool leads to is sound
+abbrev pub ReachedIsSound : Type 0
+ReachedIsSound = (st : State) (count : Slot → ℕ) → IsReached st count → Sound st count
 
 -- a sound state is orderly
 abbrev pub SoundIsOrderly : Type 0

@@ -6,6 +6,7 @@ pub mod Steps
 pub mod Forwards
 pub mod Sound
 pub mod Told
+pub mod Reached
 pub mod Listing
 pub mod Headline
 pub mod Laws

@@ -1,11 +1,12 @@
 -- What the machine speaks of in a floor: its lists of slots, and how they show a state.
-use Rattle.std.specs.Prelude.{◌≡◌, ℕ, Bool, true, false, ◌==◌, List, [], map, length, slice_get, slice_index_or, flat_map, option_map, if◌then◌else◌, All, Option, Some, None}
+use Rattle.std.specs.Prelude.{◌≡◌, ℕ, Bool, List, [], map, length, slice_get, slice_index_or, All, Option, None}
+use Rattle.std.specs.Prelude.{IsPermutation}
 use Rattle.region_cut.specs.declared.slot.Slot.{Slot}
 use Rattle.digit_route.specs.Digits.{Scheme}
 use Rattle.pool_machine.specs.declared.chunk.DrawnChunk.{DrawnChunk}
-use Rattle.pool_machine.specs.Slots.{times, one_if}
-use Rattle.pool_machine.specs.State.{State, Waiting, owner_of, class_of, inbox, Place, AtHome, OnLoan, InCache, InBatch}
-use Rattle.pool_machine.specs.Sound.{Sound}
+use Rattle.pool_machine.specs.State.{State, Waiting, owner_of, class_of, inbox, slots_of_batch}
+use Rattle.pool_machine.specs.Told.{home_slots, cached_slots, lent_slots}
+use Rattle.pool_machine.specs.Reached.{IsReached}
 
 -- a buffer, or a slot at home that was never handed out, without its bytes
 pub record Entry : Type 0 where
@@ -54,57 +55,13 @@ inbox_listing v b = slice_index_or v.inboxes b []
 abbrev pub as_waiting : BatchListing → Waiting
 as_waiting w = record { number = w.number; sender = w.sender; address = w.address; linked = w.linked }
 
--- ---- which list a slot is in
+-- ---- the state that a floor shows
 
--- a list of a floor: the slots at home with a desk, the lent buffers, a desk's cache, or a batch
-pub data ListName : Type 0 where
-  HomeOf : (desk : ℕ) → ListName
-  Loans : ListName
-  CacheOf : (desk : ℕ) → ListName
-  BatchOf : (number : ℕ) → ListName
-
--- the two are the same list
-abbrev pub same_list : ListName → ListName → Bool
-same_list (HomeOf a) (HomeOf b) = a == b
-same_list Loans Loans = true
-same_list (CacheOf a) (CacheOf b) = a == b
-same_list (BatchOf m) (BatchOf n) = m == n
-same_list _ _ = false
-
--- the list in which a slot of this owner is, at this place
-abbrev pub list_at : ℕ → Place → ListName
-list_at owner AtHome = HomeOf owner
-list_at owner OnLoan = Loans
-list_at owner (InCache a) = CacheOf a
-list_at owner (InBatch n) = BatchOf n
-
--- the list that the machine names for the slot
-abbrev pub list_of : State → Slot → Option ListName
-list_of st s = option_map (list_at (owner_of st s)) (st.place s)
-
--- l is the list that is named, where one is
-abbrev pub is_list : ListName → Option ListName → Bool
-is_list l None = false
-is_list l (Some m) = same_list l m
-
--- the slots of a list of the floor
+-- the slots of a list
 abbrev pub slots_seen : List Entry → List Slot
 slots_seen xs = map (λ (e : Entry). e.slot) xs
 
--- the slots of a batch, where it has the number n
-abbrev pub if_numbered : ℕ → BatchListing → List Slot
-if_numbered n w = if n == w.number then slots_seen w.buffers else []
-
--- the slots of the list of this name
-abbrev pub slots_in : Listing → ListName → List Slot
-slots_in v (HomeOf a) = slots_seen (desk_listing v a).home
-slots_in v Loans = slots_seen v.lent
-slots_in v (CacheOf a) = slots_seen (desk_listing v a).cache
-slots_in v (BatchOf n) = flat_map (λ ws. flat_map (if_numbered n) ws) v.inboxes
-
--- ---- the state that a floor shows
-
--- the buffer's owner and class are those of its slot
+-- the owner and the class of the entry are those of its slot
 abbrev pub Labelled : State → Entry → Type 0
 Labelled st e = (e.owner ≡ owner_of st e.slot) × (e.class ≡ class_of st e.slot)
 
@@ -124,16 +81,17 @@ pub record ShowsFrame (v : Listing) (st : State) : Type 0 where
   pub holder : (a : ℕ) → (desk_listing v a).worker ≡ st.holder a
   pub inboxes : (b : ℕ) → map as_waiting (inbox_listing v b) ≡ inbox st b
 
--- each slot is once in the list that the machine names for it, and in no other
-abbrev pub InPlace : Listing → State → Type 0
-InPlace v st = (l : ListName) (s : Slot) → times s (slots_in v l) ≡ one_if (is_list l (list_of st s))
+-- the list has these slots, each as often as it is there, and this holds of each entry
+abbrev pub HasSlots : (Entry → Type 0) → List Entry → List Slot → Type 0
+HasSlots P entries slots = IsPermutation (slots_seen entries) slots × All P entries
 
--- The floor's lists show this state, in which each slot was passed on so often.
+-- The floor's lists show this state, which a run of a new pool leads to: each list has the slots that the state has
+-- there, each once, with their owners and classes; in a cache or a batch also with how often they were passed on.
 pub record Shown (v : Listing) (st : State) (count : Slot → ℕ) : Type 0 where
-  pub sound : Sound st count
+  pub reached : IsReached st count
   pub frame : ShowsFrame v st
-  pub in_place : InPlace v st
-  pub homes : (a : ℕ) → All (Labelled st) (desk_listing v a).home
-  pub lent : All (Labelled st) v.lent
-  pub cached : (a : ℕ) → All (Counted st count) (desk_listing v a).cache
-  pub posted : (b : ℕ) → All (λ (w : BatchListing). All (Counted st count) w.buffers) (inbox_listing v b)
+  pub homes : (a : ℕ) → HasSlots (Labelled st) (desk_listing v a).home (home_slots st a)
+  pub lent : HasSlots (Labelled st) v.lent (lent_slots st)
+  pub caches : (a : ℕ) → HasSlots (Counted st count) (desk_listing v a).cache (cached_slots st a)
+  pub batches : (b : ℕ) → All (λ (w : BatchListing).
+      HasSlots (Counted st count) w.buffers (slots_of_batch st w.number)) (inbox_listing v b)

@@ -1,5 +1,5 @@
--- Which slots are where, and how many, as it is told of a state.
-use Rattle.std.specs.Prelude.{ℕ, Bool, ◌&&◌, ◌==◌, List, filter, length, flat_map, sum_by, count_by, is_some}
+-- Which slots are where, as it is told of a state.
+use Rattle.std.specs.Prelude.{ℕ, Bool, ◌&&◌, ◌==◌, List, filter, flat_map, count_by, is_some}
 use Rattle.std.specs.List.{range_with_len}
 use Rattle.region_cut.specs.declared.slot.Slot.{Slot}
 use Rattle.pool_machine.specs.State.{State, Waiting, owner_of, slots, is_home, is_lent, cached_by, slots_of_batch, inbox}
@@ -22,18 +22,6 @@ queued_slots st a = flat_map (λ (w : Waiting). slots_of_batch st w.number) (inb
 abbrev pub lent_slots : State → List Slot
 lent_slots st = filter (λ s. is_lent (st.place s)) (slots st)
 
--- how many they are, and how many chunks are drawn
-abbrev pub home_count : State → ℕ → ℕ
-home_count st a = length (home_slots st a)
-
-abbrev pub cached_count : State → ℕ → ℕ
-cached_count st a = length (cached_slots st a)
-
-abbrev pub queued_count : State → ℕ → ℕ
-queued_count st a = sum_by (λ (w : Waiting). length (slots_of_batch st w.number)) (inbox st a)
-
-abbrev pub lent_count : State → ℕ
-lent_count st = length (lent_slots st)
-
+-- how many chunks are drawn
 abbrev pub drawn_count : State → ℕ
 drawn_count st = count_by (λ k. is_some (st.drawn k)) (range_with_len 0 st.chunks)

@@ -8,7 +8,9 @@ ghost use Rattle.pool_machine.specs.declared.request.Request.{Request};
 ghost use Rattle.pool_machine.specs.State.{State, opening};
 ghost use Rattle.pool_machine.specs.Steps.{Answer, Run};
 ghost use Rattle.pool_machine.specs.Forwards.{forwards};
-ghost use Rattle.pool_machine.specs.Laws.{OpeningIsSound, RunsStaySound, SoundIsOrderly, SlotsAreListed, RunsAreOrderly, RunsKeepNumbers, AnswersFixTheState, RequestsAreAnswered, RefusalsChangeNothing, LeastClassIsLeast};
+ghost use Rattle.pool_machine.specs.Laws.{OpeningIsSound, RunsStaySound, ReachedIsSound, SoundIsOrderly, SlotsAreListed};
+ghost use Rattle.pool_machine.specs.Laws.{RunsAreOrderly, RunsKeepNumbers, AnswersFixTheState, RequestsAreAnswered};
+ghost use Rattle.pool_machine.specs.Laws.{RefusalsChangeNothing, LeastClassIsLeast};
 
 pub mod worked;
 
@@ -35,10 +37,12 @@ pub fn slots_are_passed_on_seldom()
         → (slot : Slot) → forwards (opening desks chunks digits limit) requests answers slot 0 < count digits }
 {}
 
-/// What each step keeps holds at the beginning and after every run, and whatever state it holds in is orderly.
+/// What each step keeps holds at the beginning and after every run, so in each state that a run of a new pool leads
+/// to; and whatever state it holds in is orderly.
 pub fn sound_states()
     ensures opening { OpeningIsSound }
     ensures runs { RunsStaySound }
+    ensures reached { ReachedIsSound }
     ensures orderly { SoundIsOrderly }
     ensures listed { SlotsAreListed }
 {}

@@ -7,6 +7,7 @@ use Rattle.std.proofs.lemmas.List.Sorted.{sum_by-IsPermutation, IsPermutation-ap
 use Rattle.region_cut.specs.declared.slot.Slot.{Slot}
 use Rattle.region_cut.specs.Classes.{slots_of}
 use Rattle.pool_machine.specs.declared.chunk.DrawnChunk.{DrawnChunk}
+use Rattle.pool_machine.specs.Laws.{ReachedIsSound}
 use Rattle.pool_machine.specs.Slots.{same_slot, times, one_if, has_index, is_drawn_slot}
 use Rattle.event_floor.specs.Floors.{FloorSeen}
 use Rattle.event_floor.specs.headline.Slots.{FloorsListSlots, ListsSlots, slots_on, slots_with}
@@ -57,7 +58,7 @@ has_no_slot : (i : ℕ) (o : Option DrawnChunk) → (i < slots_for (class_if o) 
 has_no_slot i None l = refl
 has_no_slot i (Some d) l = ⊎_elim (λ (m : i < slots_of d.class). absurd (l m)) (λ (m : slots_of d.class ≤ i). le-ltb i (slots_of d.class) m) (cases_lt i (slots_of d.class))
 
-module _ (law : FloorsListSlots) (v : FloorSeen) (drawn : List (Option ℕ)) (p : ShowsPool v) (tells : TellsDrawn v drawn) where
+module _ (sound : ReachedIsSound) (law : FloorsListSlots) (v : FloorSeen) (drawn : List (Option ℕ)) (p : ShowsPool v) (tells : TellsDrawn v drawn) where
   abbrev lists : ListsSlots v p.state
   lists = law v p.state p.passed p.shown
 
@@ -65,7 +66,7 @@ module _ (law : FloorsListSlots) (v : FloorSeen) (drawn : List (Option ℕ)) (p 
   past : (k : ℕ) → 1024 ≤ k → (o : Option DrawnChunk) → p.state.drawn k ≡ o → None ≡ class_if o
   past k l None e = refl
   past k l (Some d) e =
-      let a = (p.shown.sound.chunks_fit k d e).0 in
+      let a = ((sound p.state p.passed p.shown.reached).chunks_fit k d e).0 in
       let b = p.shown.frame.chunks in
       let f = p.few_chunks in
       absurd (omega (arith, a, b, f))
@@ -92,9 +93,9 @@ module _ (law : FloorsListSlots) (v : FloorSeen) (drawn : List (Option ℕ)) (p 
   no_fault found NoMemory perm f = refl
 
 -- so an audit of a floor finds nothing wrong
-pub finds_nothing : FloorsListSlots → (v : FloorSeen) (r : Verdict) → ShowsPool v → IfErr r (λ fault. IsFaultOn v fault) → FindsNothing (Some r)
-finds_nothing law v (Ok u) p f = tt
-finds_nothing law v (Err fault) p (drawn, found, tells, perm, f) = no_fault law v drawn p tells found fault perm f
+pub finds_nothing : ReachedIsSound → FloorsListSlots → (v : FloorSeen) (r : Verdict) → ShowsPool v → IfErr r (λ fault. IsFaultOn v fault) → FindsNothing (Some r)
+finds_nothing sound law v (Ok u) p f = tt
+finds_nothing sound law v (Err fault) p (drawn, found, tells, perm, f) = no_fault sound law v drawn p tells found fault perm f
 
 -- what holds of the slots in some order holds of them in order
 pub each_once : (v : FloorSeen) (drawn : List (Option ℕ)) (found : List Slot) → IsPermutation (slots_on v) found → ExactlyOnce drawn found → ExactlyOnce drawn (slots_on v)

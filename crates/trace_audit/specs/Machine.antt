@@ -7,7 +7,7 @@ use Rattle.digit_route.specs.Digits.{Scheme}
 use Rattle.event_floor.specs.Floors.{FloorSeen, desk_count, desk_at}
 use Rattle.pool_machine.specs.State.{State, opening}
 use Rattle.pool_machine.specs.Listing.{Shown}
-use Rattle.pool_machine.specs.Told.{home_count, cached_count, queued_count, lent_count, drawn_count}
+use Rattle.pool_machine.specs.Told.{home_slots, cached_slots, queued_slots, lent_slots, drawn_count}
 use Rattle.event_floor.specs.headline.Listing.{listing_of}
 use Rattle.event_floor.specs.Posted.{buffers_in, inbox_at}
 use Rattle.event_floor.specs.Seats.{home_of, cached_of}
@@ -33,7 +33,11 @@ Opens h start = Shown (listing_of start) (opening_of h) (λ slot. 0)
 
 -- how many slots are at home with a desk, in its cache, and in the batches that wait for it
 abbrev pub counts_in : State → ℕ → Counts
-counts_in st a = record { home = home_count st a; cached = cached_count st a; queued = queued_count st a }
+counts_in st a = record {
+  home = length (home_slots st a);
+  cached = length (cached_slots st a);
+  queued = length (queued_slots st a);
+}
 
 -- the same, as the floor counts it
 abbrev pub counts_at : FloorSeen → ℕ → Counts
@@ -53,7 +57,7 @@ pub record Tally : Type 0 where
 abbrev pub told_of : State → Tally
 told_of st = record {
   chunks = drawn_count st;
-  lent = lent_count st;
+  lent = length (lent_slots st);
   desks = map (counts_in st) (range_with_len 0 st.desks);
 }
 

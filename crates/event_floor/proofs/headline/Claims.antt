@@ -13,7 +13,7 @@ use Rattle.pool_machine.specs.declared.reply.Reply.TheVariants.{Chunk}
 use Rattle.event_floor.specs.Floors.{FloorSeen}
 use Rattle.event_floor.specs.Steps.{DrawsChunk}
 use Rattle.pool_machine.specs.Listing.{DeskListing}
-use Rattle.pool_machine.specs.Headline.{Applies}
+use Rattle.pool_machine.proofs.Located.{LocatedStep}
 use Rattle.event_floor.specs.headline.Listing.{entry_of, entry_at, desk_of, listing_of}
 use Rattle.event_floor.specs.headline.Whole.{IsWhole}
 use Rattle.pool_machine.proofs.ClaimStep.{ClaimEdits, after_claim, chunk_buffer, chunk_buffers, claim_applies}
@@ -28,7 +28,7 @@ unused_seen a k c g (suc n) i bs = ap (λ l. chunk_buffer k a c i ∷ l) (unused
 
 -- ---- Claim
 
-pub claim_done : (v w : FloorSeen) (a c k : ℕ) → IsWhole v → DrawsChunk v a c k w → Applies (listing_of v) (Claim a c) (Ok (Chunk k)) (listing_of w)
+pub claim_done : (v w : FloorSeen) (a c k : ℕ) → IsWhole v → DrawsChunk v a c k w → LocatedStep (listing_of v) (Claim a c) (Ok (Chunk k)) (listing_of w)
 claim_done v w a c k f s =
     let l = listing_of v in
     let d = s.before in
@@ -56,5 +56,5 @@ claim_done v w a c k f s =
     let shown : listing_of w ≡ after_claim l a c k new =
     ap listing_of s.same
     ∙ ap (λ xs. record l { desks = xs; drawn = v.drawn ++ record { owner = a; class = c } ∷ [] }) (with_seat_seen v a (HeldSeat d')) in
-    subst (λ z. Applies l (Claim a c) (Ok (Chunk k)) z) (sym shown)
+    subst (λ z. LocatedStep l (Claim a c) (Ok (Chunk k)) z) (sym shown)
     (claim_applies l a c k new (claim_accepted v a c d s.held s.is_class s.claims.needed left) edits)

@@ -25,12 +25,13 @@ use Rattle.event_floor.specs.Chunks.{ended_parts}
 use Rattle.event_floor.specs.Floors.{FloorSeen, desk_at, desk_count}
 use Rattle.pool_machine.specs.Slots.{one_if}
 use Rattle.pool_machine.specs.State.{State}
-use Rattle.pool_machine.specs.Listing.{Shown}
+use Rattle.pool_machine.proofs.Located.{Located}
 use Rattle.event_floor.specs.headline.Bytes.{Holds, LieAt, RestLies, EndsAsHeld}
 use Rattle.event_floor.specs.headline.Lying.{UnusedSlotsLie}
 use Rattle.event_floor.specs.headline.Known.{buffers_of, fresh_of, undrawn_parts, EndsAsDrawn, EndsKnown}
 use Rattle.event_floor.specs.headline.Listing.{desk_of, listing_of}
 use Rattle.event_floor.specs.headline.Headline.{Shows}
+use Rattle.pool_machine.proofs.Shown.{located}
 use Rattle.event_floor.specs.headline.Names.{HasName, HasNoName, AreNames, IsNamed, chunks_of, is_drawn_for}
 use Rattle.event_floor.specs.headline.Whole.{IsStocked, IsWhole}
 use Rattle.event_floor.proofs.headline.Found.{All-flat, All-parts, found, seat_each, buffers_named, taken_buffer}
@@ -109,7 +110,7 @@ owner_at : (o : Option DrawnChunk) (class : ℕ) → option_map (λ (d : DrawnCh
 owner_at None class e = absurd (true≢false (sym (ap is_some e)))
 owner_at (Some d) class e = (d, refl)
 
-module _ (v : FloorSeen) (names : List Carved) (n : AreNames names v) (st : State) (count : Slot → ℕ) (h : Shown (listing_of v) st count) where
+module _ (v : FloorSeen) (names : List Carved) (n : AreNames names v) (st : State) (count : Slot → ℕ) (h : Located (listing_of v) st count) where
   -- what holds of each chunk that a desk knows holds of each drawn chunk
   of_chunk : (P : Carved → Type 0) → All P (flat_map chunks_of v.desks) → (k : ℕ) (c : Carved) → slice_get names k ≡ Some c → P c
   of_chunk P all k c e =
@@ -360,15 +361,15 @@ module _ (v : FloorSeen) (whole : IsWhole v) (shows : Shows v) (named : IsNamed 
 
   pub floor_slots : All (HasKnownSlots first) chunks
   unfolding Shows IsNamed
-  floor_slots = slots_known v named.0 named.1 shows.0 shows.1 shows.2 first agree held chunks same
+  floor_slots = slots_known v named.0 named.1 shows.0 shows.1 (located (listing_of v) shows.0 shows.1 shows.2) first agree held chunks same
 
   pub floor_ends : (last : List Ended) → last ≡ map (ended_chunk first) chunks ++ first → Agrees last → KnownEndsStay → SlotsLieAtTheirRanges → SlicesLieInOrder → EndsKnown v last
   unfolding Shows IsNamed
   floor_ends last is agree' stay lie order =
-      subst (EndsKnown v) (sym is) (all_ends_known v named.0 named.1 shows.0 shows.1 shows.2 first agree held chunks same (subst Agrees is agree') stay whole.stocked left lie order)
+      subst (EndsKnown v) (sym is) (all_ends_known v named.0 named.1 shows.0 shows.1 (located (listing_of v) shows.0 shows.1 shows.2) first agree held chunks same (subst Agrees is agree') stay whole.stocked left lie order)
 
   pub floor_held : (last : List Ended) → last ≡ map (ended_chunk first) chunks ++ first → Agrees last → KnownEndsStay → EndsAsHeld v last
   unfolding Shows IsNamed
   floor_held last is agree' stay region lie =
       subst (λ (all : List Ended). StandsAt (flat_map (end_in all) v.parts) 0 region) (sym is)
-      (parts_stand v named.0 named.1 shows.0 shows.1 shows.2 first agree held chunks same (subst Agrees is agree') stay whole.stocked left region lie)
+      (parts_stand v named.0 named.1 shows.0 shows.1 (located (listing_of v) shows.0 shows.1 shows.2) first agree held chunks same (subst Agrees is agree') stay whole.stocked left region lie)

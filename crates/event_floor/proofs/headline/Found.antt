@@ -23,14 +23,15 @@ use Rattle.event_floor.specs.Seats.{home_of, cached_of}
 use Rattle.event_floor.specs.Floors.{FloorSeen, desk_at, desk_count, no_desk}
 use Rattle.pool_machine.specs.Slots.{same_slot, has_index, times, one_if}
 use Rattle.pool_machine.specs.State.{State}
-use Rattle.pool_machine.specs.Listing.{DeskListing, BatchListing, slots_seen, Shown}
+use Rattle.pool_machine.specs.Listing.{DeskListing, BatchListing, slots_seen}
+use Rattle.pool_machine.proofs.Located.{Located}
 use Rattle.pool_machine.specs.Headline.{joined}
 use Rattle.event_floor.specs.headline.Known.{buffers_with, buffers_of}
 use Rattle.event_floor.specs.headline.Listing.{entry_of, desk_of, batch_of, listing_of}
 use Rattle.event_floor.specs.headline.Names.{HasName, IsNamedHome, AreNames}
 use Rattle.pool_machine.proofs.Basics.{same_slot_eq}
 use Rattle.pool_machine.proofs.Enumerate.{count_cons, count_map}
-use Rattle.pool_machine.proofs.Joined.{shown_once}
+use Rattle.pool_machine.proofs.Joined.{located_once}
 use Rattle.event_floor.proofs.headline.Apart.{home_slots}
 use Rattle.event_floor.proofs.headline.Lists.{get_or_same}
 use Rattle.event_floor.proofs.headline.Named.{All-first, All-second}
@@ -175,7 +176,7 @@ module _ (v : FloorSeen) (names : List Carved) (n : AreNames names v) where
       (λ a l. All-append (HasName names) (kept_in (home_of (desk_at v a))) _ (kept_back (IsNamedHome names) (home_of (desk_at v a)) (n.desks a l).home) (n.desks a l).cached)))
       (All-append (HasName names) (buffers_lent v.lent) _ lent_named posted_named)
 
-  module _ (st : State) (count : Slot → ℕ) (h : Shown (listing_of v) st count) where
+  module _ (st : State) (count : Slot → ℕ) (h : Located (listing_of v) st count) where
     has_place : (o : Option DrawnChunk) (i class : ℕ) → option_map (λ (d : DrawnChunk). d.class) o ≡ Some class → i < slots_of class → has_index i o ≡ true
     has_place None i class e l = absurd (true≢false (sym (ap is_some e)))
     has_place (Some d) i class e l = lt-ltb i (slots_of d.class) (subst (λ c. i < slots_of c) (sym (some_is d.class class e)) l)
@@ -187,7 +188,7 @@ module _ (v : FloorSeen) (names : List Carved) (n : AreNames names v) where
         let few = is.few in
         let low : i < slots_of c.class = omega (arith, l, few) in
         ap (times s) (sym (places_joined v))
-        ∙ (shown_once (listing_of v) st count h s ∙ ap one_if (ap (has_index i) (sym (h.frame.drawn k)) ∙ has_place (slice_get v.drawn k) i c.class is.class low))
+        ∙ (located_once (listing_of v) st count h s ∙ ap one_if (ap (has_index i) (sym (h.frame.drawn k)) ∙ has_place (slice_get v.drawn k) i c.class is.class low))
 
     -- the buffer of a slot that was handed out
     pub taken_buffer : (K : Buffer → Type 0) → All K (buffers_of v) → (k i : ℕ) (c : Carved) (x : GName) → slice_get names k ≡ Some c → slice_get c.taken i ≡ Some x

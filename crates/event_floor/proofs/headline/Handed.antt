@@ -25,7 +25,7 @@ use Rattle.event_floor.specs.Floors.{FloorSeen, desk_at, no_desk}
 use Rattle.event_floor.specs.Steps.{LendsSlot}
 use Rattle.pool_machine.specs.Slots.{one_if}
 use Rattle.pool_machine.specs.State.{State}
-use Rattle.pool_machine.specs.Listing.{Shown}
+use Rattle.pool_machine.proofs.Located.{Located}
 use Rattle.event_floor.specs.headline.Listing.{listing_of}
 use Rattle.event_floor.specs.headline.Names.{HasName, HasNoName, IsNamedHome, IsNamedChunk, IsNamedDesk, AreNames, chunks_of, drew, is_drawn_for}
 use Rattle.pool_machine.proofs.Enumerate.{count_cons}
@@ -225,11 +225,11 @@ module _ (names : List Carved) (v w : FloorSeen) (a n : ℕ) (slot : Slot) (f : 
           (λ q h. All-to (HasName names) (HasName new_names) q.buffers kept_name h) (f.posted b);
     })
 
-  handed : (st : State) (count : Slot → ℕ) → Shown (listing_of v) st count → (x : AtHome) → GivenAs x buffer → Names x buffer s.before.drawn s.after.drawn
+  handed : (st : State) (count : Slot → ℕ) → Located (listing_of v) st count → (x : AtHome) → GivenAs x buffer → Names x buffer s.before.drawn s.after.drawn
       → IsPermutation s.before.home (x ∷ s.after.home) → (new : List Carved) × AreNames new w
   handed st count h (Kept c) g m p = (names, kept_lent c g p m)
   handed st count h (Fresh u) g m p =
       (_, fresh_lent u g m p (rest_apart v st count h a s.before (Fresh u) s.after.home s.held p) (others_apart v st count h a s.before (Fresh u) s.after.home s.held p))
 
-  pub alloc_named : (st : State) (count : Slot → ℕ) → Shown (listing_of v) st count → (new : List Carved) × AreNames new w
+  pub alloc_named : (st : State) (count : Slot → ℕ) → Located (listing_of v) st count → (new : List Carved) × AreNames new w
   alloc_named st count h = let g = s.allocs.1 in handed st count h g.from g.gives g.names g.others

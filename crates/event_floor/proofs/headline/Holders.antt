@@ -11,7 +11,7 @@ use Rattle.event_floor.specs.Seats.{adopted, retired, IsNumbered}
 use Rattle.event_floor.specs.Floors.{FloorSeen, with_seat, with_desk, IsIdle, IsHeld}
 use Rattle.event_floor.specs.Steps.{LacksHalfOf}
 use Rattle.pool_machine.specs.Listing.{Entry, DeskListing, desk_listing}
-use Rattle.pool_machine.specs.Headline.{Applies}
+use Rattle.pool_machine.proofs.Located.{LocatedStep}
 use Rattle.event_floor.specs.headline.Listing.{entry_of, desk_of, listing_of}
 use Rattle.event_floor.specs.headline.Whole.{IsWhole}
 use Rattle.pool_machine.proofs.Applied.{adopt_applies, retire_applies}
@@ -28,12 +28,12 @@ numbered_held v a d f h = subst (λ s. IsNumbered v.digits v.limit a s) h.1 (f.f
 
 -- ---- Adopt
 
-pub adopt_done : (v w : FloorSeen) (a x : ℕ) (d : IdleState) → IsIdle v a d → w ≡ with_desk v a (adopted x d) → Applies (listing_of v) (Adopt a x) (Ok Done) (listing_of w)
+pub adopt_done : (v w : FloorSeen) (a x : ℕ) (d : IdleState) → IsIdle v a d → w ≡ with_desk v a (adopted x d) → LocatedStep (listing_of v) (Adopt a x) (Ok Done) (listing_of w)
 adopt_done v w a x d h e =
     let l = listing_of v in
     let new = desk_of (HeldSeat (adopted x d)) in
     let seen = idle_seen v a d h in
-    subst (λ z. Applies l (Adopt a x) (Ok Done) z) (sym (ap listing_of e ∙ seat_listing v a (HeldSeat (adopted x d))))
+    subst (λ z. LocatedStep l (Adopt a x) (Ok Done) z) (sym (ap listing_of e ∙ seat_listing v a (HeldSeat (adopted x d))))
     (adopt_applies l a x new
     (passes _ NoDesk ((is_some (desk_listing l a).worker, Held) ∷ []) (is_desk_seen v a h.0) ∙ passes (is_some (desk_listing l a).worker) Held [] (ap (λ (z : DeskListing). is_some z.worker) seen))
     refl (ap (λ (z : DeskListing). z.home) (sym seen)) (ap (λ (z : DeskListing). z.cache) (sym seen)))
@@ -49,12 +49,12 @@ settled v a d h e f =
     (half_of_none v a f)
 
 pub retire_done : (v w : FloorSeen) (a : ℕ) (d : DeskState) → IsHeld v a d → d.cached ≡ [] → LacksHalfOf v a → w ≡ with_seat v a (IdleSeat (retired d))
-    → Applies (listing_of v) (Retire a) (Ok Done) (listing_of w)
+    → LocatedStep (listing_of v) (Retire a) (Ok Done) (listing_of w)
 retire_done v w a d h none lacks e =
     let l = listing_of v in
     let new = desk_of (IdleSeat (retired d)) in
     let seen = held_seen v a d h in
-    subst (λ z. Applies l (Retire a) (Ok Done) z) (sym (ap listing_of e ∙ seat_listing v a (IdleSeat (retired d))))
+    subst (λ z. LocatedStep l (Retire a) (Ok Done) z) (sym (ap listing_of e ∙ seat_listing v a (IdleSeat (retired d))))
     (retire_applies l a new
     (held_first v a ((unsettled v a, Unsettled) ∷ []) d h ∙ passes (unsettled v a) Unsettled [] (settled v a d h none lacks))
     refl (ap (λ (z : DeskListing). z.home) (sym seen)) (sym (ap (λ (z : DeskListing). z.cache) seen ∙ ap (map entry_of) none)))

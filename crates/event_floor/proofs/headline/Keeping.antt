@@ -21,6 +21,8 @@ use Rattle.event_floor.specs.Steps.{Answers}
 use Rattle.pool_machine.specs.Steps.{Answer}
 use Rattle.event_floor.specs.headline.Headline.{Shows}
 use Rattle.event_floor.specs.headline.Names.{HasName, IsNamedHome, IsNamedDesk, AreNames, IsNamed, chunks_of}
+use Rattle.pool_machine.proofs.Shown.{located}
+use Rattle.event_floor.specs.headline.Listing.{listing_of}
 use Rattle.event_floor.proofs.headline.Named.{adopt_named, retire_named, free_named, send_named, link_named, take_named}
 use Rattle.event_floor.proofs.headline.Taken.{claim_named}
 use Rattle.event_floor.proofs.headline.Handed.{alloc_named}
@@ -33,7 +35,7 @@ does_named names v w (Retire a) Done s n h = (names, retire_named names v n w a 
 does_named names v w (Retire a) _ s n h = elim h [ ]
 does_named names v w (Claim a c) (Chunk k) s n h = (_, claim_named names v w a c k n h)
 does_named names v w (Claim a c) _ s n h = elim h [ ]
-does_named names v w (Alloc a m) (Lent slot) s n h = alloc_named names v w a m slot n h s.0 s.1 s.2
+does_named names v w (Alloc a m) (Lent slot) s n h = alloc_named names v w a m slot n h s.0 s.1 (located (listing_of v) s.0 s.1 s.2)
 does_named names v w (Alloc a m) _ s n h = elim h [ ]
 does_named names v w (Free a pair) Home s n h = (names, free_named names v n w a pair.0 pair.1 _ h)
 does_named names v w (Free a pair) Cached s n h = (names, free_named names v n w a pair.0 pair.1 _ h)

@@ -28,8 +28,8 @@ use Rattle.event_floor.specs.Lent.{buffers_lent, place_of}
 use Rattle.event_floor.specs.Floors.{FloorSeen, IsHeld}
 use Rattle.event_floor.specs.Steps.{LendsSlot, TakesBack}
 use Rattle.pool_machine.specs.State.{State}
-use Rattle.pool_machine.specs.Listing.{Entry, DeskListing, Listing, ListName, Loans, HomeOf, list_of, same_list, desk_listing, Shown}
-use Rattle.pool_machine.specs.Headline.{Applies}
+use Rattle.pool_machine.specs.Listing.{Entry, DeskListing, Listing, desk_listing}
+use Rattle.pool_machine.proofs.Located.{ListName, Loans, HomeOf, list_of, same_list, Located, LocatedStep}
 use Rattle.event_floor.specs.headline.Listing.{entry_of, entry_at, desk_of, listing_of}
 use Rattle.event_floor.specs.headline.Whole.{IsWhole}
 use Rattle.pool_machine.proofs.Places.{home_place, lent_place}
@@ -51,7 +51,7 @@ gives_seen a (Fresh u) b g o = rw (g.0, g.1, g.2, o) refl
 
 -- what is at home isn't lent
 apart : (v : FloorSeen) (st : State) (count : Slot → ℕ) (a : ℕ) (d : DeskState) (s : AtHome) (home : List AtHome) (b c : Buffer)
-    → Shown (listing_of v) st count → IsHeld v a d → IsPermutation d.home (s ∷ home) → slot_at s ≡ b.slot
+    → Located (listing_of v) st count → IsHeld v a d → IsPermutation d.home (s ∷ home) → slot_at s ≡ b.slot
     → get_or v.lent (place_of b.slot) None ≡ Some c → c.slot ≡ b.slot → ⊥
 apart v st count a d s home b c h l p e m same =
     let lent : list_of st c.slot ≡ Some Loans =
@@ -105,7 +105,7 @@ module _ (v w : FloorSeen) (a n : ℕ) (slot : Slot) (f : IsWhole v) (s : LendsS
   pub in_table : lent_place_of < length v.lent
   in_table = let p = placed_slot in let t = f.floor.table in omega (arith, p.0, p.1, t)
 
-  was_empty : (st : State) (count : Slot → ℕ) → Shown (listing_of v) st count → get_or v.lent lent_place_of None ≡ None
+  was_empty : (st : State) (count : Slot → ℕ) → Located (listing_of v) st count → get_or v.lent lent_place_of None ≡ None
   was_empty st count h = go (get_or v.lent lent_place_of None) refl
     where
       go : (o : Option Buffer) → get_or v.lent lent_place_of None ≡ o → o ≡ None
@@ -139,10 +139,10 @@ module _ (v w : FloorSeen) (a n : ℕ) (slot : Slot) (f : IsWhole v) (s : LendsS
       ∙ ap₂ (λ xs ys. record (listing_of v) { desks = xs; lent = ys }) (with_seat_seen v a (HeldSeat s.after))
       (ap (λ z. map entry_of (buffers_lent (set v.lent (place_of z) (Some s.buffer)))) (sym s.is_slot))
 
-  pub alloc_done : Applies (listing_of v) (Alloc a n) (Ok (Lent slot)) (listing_of w)
+  pub alloc_done : LocatedStep (listing_of v) (Alloc a n) (Ok (Lent slot)) (listing_of w)
   alloc_done =
-      subst (λ z. Applies (listing_of v) (Alloc a n) (Ok (Lent z)) (listing_of w)) s.is_slot
-      (subst (λ z. Applies (listing_of v) (Alloc a n) (Ok (Lent s.buffer.slot)) z) (sym lent_shown)
+      subst (λ z. LocatedStep (listing_of v) (Alloc a n) (Ok (Lent z)) (listing_of w)) s.is_slot
+      (subst (λ z. LocatedStep (listing_of v) (Alloc a n) (Ok (Lent s.buffer.slot)) z) (sym lent_shown)
       (λ st count h. alloc_applies (listing_of v) a n (entry_of s.buffer) (map entry_of (buffers_lent (set v.lent lent_place_of (Some s.buffer)))) lender
       (alloc_accepted v a n s.buffer.class s.before lender_number.2 s.held s.allocs.0
       (has_slot s.allocs.1.from s.before.home s.after.home s.buffer.class s.allocs.1.others (gives_class s.allocs.1.from s.buffer s.allocs.1.gives)))
@@ -211,8 +211,8 @@ module _ (v w : FloorSeen) (a : ℕ) (pair : ℕ × ℕ) (r : Freed) (f : IsWhol
   free_shown : listing_of w ≡ after_edits (listing_of v) a lent_after freer
   free_shown = ap listing_of s.same ∙ ap (λ xs. record (listing_of v) { desks = xs; lent = lent_after }) (with_seat_seen v a (HeldSeat s.after))
 
-  pub free_done : Applies (listing_of v) (Free a pair) (Ok (reply_of r)) (listing_of w)
+  pub free_done : LocatedStep (listing_of v) (Free a pair) (Ok (reply_of r)) (listing_of w)
   free_done =
-      subst (λ z. Applies (listing_of v) (Free a pair) (Ok (reply_of r)) z) (sym free_shown)
+      subst (λ z. LocatedStep (listing_of v) (Free a pair) (Ok (reply_of r)) z) (sym free_shown)
       (free_applies (listing_of v) a pair (entry_of s.buffer) lent_after freer (reply_of r) (free_accepted v a pair s.before s.buffer s.held s.was_lent s.is_slot)
       s.is_slot (freeing r s.frees) (replies r s.frees))

@@ -12,7 +12,7 @@ use Rattle.slot_chain.specs.Slots.{slot_of}
 use Rattle.pool_desk.specs.Homes.{slot_at}
 use Rattle.pool_machine.specs.declared.chunk.DrawnChunk.{DrawnChunk}
 use Rattle.pool_machine.specs.Headline.{joined}
-use Rattle.pool_machine.specs.Listing.{ListName, HomeOf, Loans, CacheOf, BatchOf, DeskListing, BatchListing, list_of, is_list, slots_seen, inbox_listing, as_waiting, Shown}
+use Rattle.pool_machine.specs.Listing.{DeskListing, BatchListing, slots_seen, inbox_listing, as_waiting, Shown}
 use Rattle.pool_machine.specs.Slots.{same_slot, times, one_if}
 use Rattle.pool_machine.specs.State.{State, Waiting, owner_of, is_slot, slots, is_lent, is_posted, cached_by, slots_of_batch}
 use Rattle.pool_machine.specs.Told.{at_home_with, home_slots, cached_slots, queued_slots, lent_slots}
@@ -24,13 +24,9 @@ use Rattle.event_floor.specs.Seats.{home_of, cached_of}
 use Rattle.event_floor.specs.Floors.{FloorSeen, desk_count, desk_at, no_desk}
 use Rattle.event_floor.specs.headline.Listing.{entry_of, desk_of, batch_of, listing_of}
 use Rattle.event_floor.specs.headline.Slots.{slots_with, slots_on, ListsSlots}
-use Rattle.pool_machine.proofs.InPlace.{in_cache_is}
-use Rattle.pool_machine.proofs.Joined.{shown_once}
-use Rattle.pool_machine.proofs.Listed.{listed}
-use Rattle.pool_machine.proofs.PartBy.{some_list, at_home_is, lent_named}
-use Rattle.pool_machine.proofs.TakeFloor.{posted_is}
+use Rattle.pool_machine.proofs.Joined.{located_once}
+use Rattle.pool_machine.proofs.Shown.{located}
 use Rattle.event_floor.proofs.headline.Apart.{home_slots as home_seen}
-use Rattle.event_floor.proofs.headline.Counts.{batch_only}
 use Rattle.event_floor.proofs.headline.Views.{desk_seen, inbox_seen}
 
 -- ---- the slots of each list
@@ -161,15 +157,9 @@ module _ (v : FloorSeen) (st : State) (c : Slot → ℕ) (h : Shown (listing_of 
       omega (arith, a, l, x, y, z, d, e, f, g)
 
   pub once_on_floor : times s (slots_on v) ≡ one_if (is_slot st s)
-  once_on_floor = on_floor ∙ shown_once (listing_of v) st c h s
+  once_on_floor = on_floor ∙ located_once (listing_of v) st c (located (listing_of v) st c h) s
 
 -- ---- each list
-
--- a list that the machine names has the slots there
-named_slots : (v : FloorSeen) (st : State) (c : Slot → ℕ) (l : ListName) (q : Slot → Bool) (xs : List Slot) → Shown (listing_of v) st c
-    → ((s : Slot) → times s xs ≡ one_if (is_list l (list_of st s))) → ((s : Slot) → q s ≡ is_list l (list_of st s)) → IsPermutation xs (filter q (slots st))
-named_slots v st c l q xs h once same =
-    listed st c q xs h.sound (λ s e. sym (h.sound.placed s) ∙ some_list l (owner_of st s) (st.place s) (sym (same s) ∙ e)) (λ s. once s ∙ ap one_if (sym (same s)))
 
 flat_permuted : {X : Type 0} (f g : X → List Slot) (xs : List X) → ((j : ℕ) (d : X) → j < length xs → IsPermutation (f (get_or xs j d)) (g (get_or xs j d)))
     → IsPermutation (flat_map f xs) (flat_map g xs)
@@ -182,46 +172,30 @@ flat_of_map f g [] = refl
 flat_of_map f g (x ∷ xs) = ap (λ ys. f (g x) ++ ys) (flat_of_map f g xs)
 
 module _ (v : FloorSeen) (st : State) (c : Slot → ℕ) (h : Shown (listing_of v) st c) where
-  home_listed : (a : ℕ) → IsPermutation (map slot_at (home_of (desk_at v a))) (home_slots st a)
-  home_listed a =
-      named_slots v st c (HomeOf a) (at_home_with st a) (map slot_at (home_of (desk_at v a))) h
-      (λ s. ap (times s) (sym (home_seen (desk_at v a)) ∙ ap (λ (d : DeskListing). slots_seen d.home) (sym (desk_seen v a))) ∙ h.in_place (HomeOf a) s)
-      (λ s. sym (at_home_is a (owner_of st s) (st.place s)))
+  pub home_listed : (a : ℕ) → IsPermutation (map slot_at (home_of (desk_at v a))) (home_slots st a)
+  home_listed a = subst (λ xs. IsPermutation xs (home_slots st a))
+      (ap (λ (d : DeskListing). slots_seen d.home) (desk_seen v a) ∙ home_seen (desk_at v a)) (h.homes a).0
 
-  cache_listed : (a : ℕ) → IsPermutation (map slot_of (cached_of (desk_at v a))) (cached_slots st a)
-  cache_listed a =
-      named_slots v st c (CacheOf a) (cached_by st a) (map slot_of (cached_of (desk_at v a))) h
-      (λ s. ap (times s) (sym (seat_cache (desk_at v a)) ∙ ap (λ (d : DeskListing). slots_seen d.cache) (sym (desk_seen v a))) ∙ h.in_place (CacheOf a) s)
-      (λ s. sym (in_cache_is a (owner_of st s) (st.place s)))
+  pub cache_listed : (a : ℕ) → IsPermutation (map slot_of (cached_of (desk_at v a))) (cached_slots st a)
+  cache_listed a = subst (λ xs. IsPermutation xs (cached_slots st a))
+      (ap (λ (d : DeskListing). slots_seen d.cache) (desk_seen v a) ∙ seat_cache (desk_at v a)) (h.caches a).0
 
-  lent_listed : IsPermutation (map slot_of (buffers_lent v.lent)) (lent_slots st)
-  lent_listed =
-      named_slots v st c Loans (λ s. is_lent (st.place s)) (map slot_of (buffers_lent v.lent)) h
-      (λ s. ap (times s) (sym (seen_buffers (buffers_lent v.lent))) ∙ h.in_place Loans s)
-      (λ s. sym (lent_named (owner_of st s) (st.place s)))
+  pub lent_listed : IsPermutation (map slot_of (buffers_lent v.lent)) (lent_slots st)
+  lent_listed = subst (λ xs. IsPermutation xs (lent_slots st)) (seen_buffers (buffers_lent v.lent)) h.lent.0
 
-  batch_listed : (b j : ℕ) (d : BatchListing) → j < length (inbox_listing (listing_of v) b)
-      → IsPermutation (slots_seen (get_or (inbox_listing (listing_of v) b) j d).buffers) (slots_of_batch st (get_or (inbox_listing (listing_of v) b) j d).number)
-  batch_listed b j d m = ⊎_elim
-      (λ (l : b < length (listing_of v).inboxes).
-      let w = get_or (inbox_listing (listing_of v) b) j d in
-      named_slots v st c (BatchOf w.number) (λ s. is_posted w.number (st.place s)) (slots_seen w.buffers) h
-      (λ s. ap (times s) (sym (batch_only (listing_of v) st c h b j d l m)) ∙ h.in_place (BatchOf w.number) s)
-      (λ s. posted_is w.number (owner_of st s) (st.place s)))
-      (λ (l : length (listing_of v).inboxes ≤ b).
-      let none : length (inbox_listing (listing_of v) b) ≡ 0 = ap length (get_or-eq_default (listing_of v).inboxes [] l) in
-      absurd (omega (arith, none, m))) (cases_lt b (length (listing_of v).inboxes))
+  pub queue_seen : (b : ℕ) → flat_map (λ (w : BatchListing). slots_seen w.buffers) (inbox_listing (listing_of v) b)
+      ≡ map slot_of (buffers_in (inbox_at v.inboxes b))
+  queue_seen b = ap (flat_map (λ (w : BatchListing). slots_seen w.buffers)) (inbox_seen v b) ∙ seen_batches (inbox_at v.inboxes b)
 
-  queue_listed : (b : ℕ) → IsPermutation (map slot_of (buffers_in (inbox_at v.inboxes b))) (queued_slots st b)
+  pub queue_listed : (b : ℕ) → IsPermutation (map slot_of (buffers_in (inbox_at v.inboxes b))) (queued_slots st b)
   queue_listed b =
       let ws = inbox_listing (listing_of v) b in
-      let seen : flat_map (λ (w : BatchListing). slots_seen w.buffers) ws ≡ map slot_of (buffers_in (inbox_at v.inboxes b)) =
-      ap (flat_map (λ (w : BatchListing). slots_seen w.buffers)) (inbox_seen v b) ∙ seen_batches (inbox_at v.inboxes b) in
       let told : flat_map (λ (w : BatchListing). slots_of_batch st w.number) ws ≡ queued_slots st b =
       sym (flat_of_map (λ (w : Waiting). slots_of_batch st w.number) as_waiting ws) ∙ ap (flat_map (λ (w : Waiting). slots_of_batch st w.number)) (h.frame.inboxes b) in
-      subst (λ xs. IsPermutation xs (queued_slots st b)) seen
+      subst (λ xs. IsPermutation xs (queued_slots st b)) (queue_seen b)
       (subst (λ ys. IsPermutation (flat_map (λ (w : BatchListing). slots_seen w.buffers) ws) ys) told
-      (flat_permuted (λ (w : BatchListing). slots_seen w.buffers) (λ (w : BatchListing). slots_of_batch st w.number) ws (batch_listed b)))
+      (flat_permuted (λ (w : BatchListing). slots_seen w.buffers) (λ (w : BatchListing). slots_of_batch st w.number) ws
+      (λ j d m. (h.batches b j d m).0)))
 
 pub floor_lists : (v : FloorSeen) (st : State) (count : Slot → ℕ) → Shown (listing_of v) st count → ListsSlots v st
 floor_lists v st count h = record {

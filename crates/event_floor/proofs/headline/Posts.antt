@@ -19,8 +19,8 @@ use Rattle.event_floor.specs.Steps.{SendsBatch, LinksBatch, TakesFront}
 use Rattle.pool_machine.specs.State.{State, bucket, in_bucket, slots, slots_of_batch, is_posted, owner_of}
 use Rattle.pool_machine.specs.Steps.{Step, front_of, coming_home, going_on}
 use Rattle.pool_machine.specs.Forwards.{counted as forward_count}
-use Rattle.pool_machine.specs.Listing.{Entry, DeskListing, BatchListing, Listing, inbox_listing, Shown}
-use Rattle.pool_machine.specs.Headline.{Applies}
+use Rattle.pool_machine.specs.Listing.{Entry, DeskListing, BatchListing, Listing, inbox_listing}
+use Rattle.pool_machine.proofs.Located.{Located, LocatedStep}
 use Rattle.event_floor.specs.headline.Listing.{entry_of, entry_at, desk_of, batch_of, listing_of}
 use Rattle.event_floor.specs.headline.Whole.{IsWhole}
 use Rattle.pool_machine.proofs.Refusals.{goes_by}
@@ -39,7 +39,7 @@ inboxes_seen : (v : FloorSeen) (b : ℕ) (ps : List BatchSeen) → map (map batc
 inboxes_seen v b ps = set-map (map batch_of) v.inboxes b ps
 
 -- a state of the floor has few chunks
-few_slots : (v : FloorSeen) (st : State) → (count : Slot → ℕ) → IsWhole v → Shown (listing_of v) st count → length (slots st) ≤ 4194304
+few_slots : (v : FloorSeen) (st : State) → (count : Slot → ℕ) → IsWhole v → Located (listing_of v) st count → length (slots st) ≤ 4194304
 few_slots v st count f h = all_few st (subst (λ n. n ≤ 1024) h.frame.chunks f.few_chunks)
 
 -- ---- Send
@@ -106,7 +106,7 @@ module _ (v w : FloorSeen) (a t number count : ℕ) (f : IsWhole v) (s : SendsBa
       let k = capped_is (length s.batch.items) (omega (arith, g, l, q)) in
       q ∙ (sym k ∙ sym e)
 
-  pub send_done : Applies (listing_of v) (Send a t) (Ok (Batch number count)) (listing_of w)
+  pub send_done : LocatedStep (listing_of v) (Send a t) (Ok (Batch number count)) (listing_of w)
   send_done st passes h =
       let posts : length (listing_of v).inboxes ≡ length (listing_of v).desks =
       length-map v.inboxes (map batch_of) ∙ (f.floor.boxes ∙ (sym f.floor.count ∙ sym (length-map v.desks desk_of))) in
@@ -115,15 +115,15 @@ module _ (v w : FloorSeen) (a t number count : ℕ) (f : IsWhole v) (s : SendsBa
       let same : length sent ≡ count = counted_as count (length (bucket st a t)) s.counted g.1.0.1.1 few in
       subst (λ n. StepShown (Batch n count) st passes) (sym s.is_next)
       (subst (λ n. StepShown (Batch v.next n) st passes) same
-      (subst (λ z. (next : State) × Step st (Send a t) (Ok (Batch v.next (length sent))) next × Shown z next (λ x. forward_count st (Send a t) (Ok (Batch v.next (length sent))) x (passes x)))
+      (subst (λ z. (next : State) × Step st (Send a t) (Ok (Batch v.next (length sent))) next × Located z next (λ x. forward_count st (Send a t) (Ok (Batch v.next (length sent))) x (passes x)))
       (sym sent_shown) g))
     where
       StepShown : Reply → (st : State) → (Slot → ℕ) → Type 0
-      StepShown y st passes = (next : State) × Step st (Send a t) (Ok y) next × Shown (listing_of w) next (λ x. forward_count st (Send a t) (Ok y) x (passes x))
+      StepShown y st passes = (next : State) × Step st (Send a t) (Ok y) next × Located (listing_of w) next (λ x. forward_count st (Send a t) (Ok y) x (passes x))
 
 -- ---- Link
 
-pub link_done : (v w : FloorSeen) (n : ℕ) → LinksBatch v n w → Applies (listing_of v) (Link n) (Ok Done) (listing_of w)
+pub link_done : (v w : FloorSeen) (n : ℕ) → LinksBatch v n w → LocatedStep (listing_of v) (Link n) (Ok Done) (listing_of w)
 link_done v w n s =
     let ps = inbox_at v.inboxes s.inbox in
     let p = get_or ps s.place no_batch in
@@ -136,7 +136,7 @@ link_done v w n s =
     (inboxes_seen v s.inbox (set ps s.place (as_linked p))
     ∙ ap (set (listing_of v).inboxes s.inbox)
     (set-map batch_of ps s.place (as_linked p) ∙ ap₂ (λ ws x. set ws s.place (linked x)) (sym (inbox_seen v s.inbox)) (sym row))) in
-    subst (λ z. Applies (listing_of v) (Link n) (Ok Done) z) (sym shown)
+    subst (λ z. LocatedStep (listing_of v) (Link n) (Ok Done) z) (sym shown)
     (link_applies (listing_of v) n s.inbox s.place (batch_of no_batch) (link_accepted v n some)
     (subst (λ m. s.inbox < m) (sym (length-map v.inboxes (map batch_of))) s.half.0)
     (subst (λ ws. s.place < length ws) (sym (inbox_seen v s.inbox)) (subst (λ m. s.place < m) (sym (length-map ps batch_of)) s.half.1))
@@ -206,9 +206,9 @@ module _ (v w : FloorSeen) (b home on : ℕ) (f : IsWhole v) (s : TakesFront v b
       k ∙ (sym c ∙ sym e)
 
   abbrev ShownAs : Reply → Listing → (st : State) → (Slot → ℕ) → Type 0
-  ShownAs y z st passes = (next : State) × Step st (Take b) (Ok y) next × Shown z next (λ x. forward_count st (Take b) (Ok y) x (passes x))
+  ShownAs y z st passes = (next : State) × Step st (Take b) (Ok y) next × Located z next (λ x. forward_count st (Take b) (Ok y) x (passes x))
 
-  pub take_done : Applies (listing_of v) (Take b) (Ok (Counts home on)) (listing_of w)
+  pub take_done : LocatedStep (listing_of v) (Take b) (Ok (Counts home on)) (listing_of w)
   take_done st passes h =
       let g = take_applies (listing_of v) b taken_batch (map batch_of s.rest) taker (take_accepted v b s.before s.front s.rest s.held s.is_front s.linked) taking st passes h in
       let all = few_slots v st passes f h in

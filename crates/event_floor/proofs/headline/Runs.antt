@@ -10,9 +10,8 @@ use Rattle.pool_machine.specs.Headline.{AppliesAll as ListingAppliesAll}
 use Rattle.event_floor.specs.headline.Headline.{Shows, Applies, Headline}
 use Rattle.event_floor.specs.headline.Listing.{listing_of}
 use Rattle.event_floor.specs.headline.Whole.{IsWhole}
-use Rattle.pool_machine.proofs.Applied.{shows_next}
-use Rattle.pool_machine.proofs.Joins.{applies_none, applies_push}
-use Rattle.pool_machine.proofs.Headlines.{headline}
+use Rattle.pool_machine.proofs.Joins.{applies_none, applies_push, shows_next, headline}
+use Rattle.pool_machine.proofs.Shown.{applies}
 use Rattle.event_floor.proofs.headline.Serves.{serves}
 use Rattle.event_floor.proofs.headline.Wholes.{shows_opening}
 
@@ -22,7 +21,7 @@ AppliesAll old requests answers new = ListingAppliesAll (listing_of old) request
 
 pub step_applies : (v w : FloorSeen) (q : Request) (y : Answer) → IsWhole v → Answers v q y w → Applies v q y w
 unfolding Applies
-step_applies v w q y f h = serves v w q y f h
+step_applies v w q y f h = applies (listing_of v) (listing_of w) q y (serves v w q y f h)
 
 pub step_shows : (v w : FloorSeen) (q : Request) (y : Answer) → Applies v q y w → Shows v → Shows w
 unfolding Applies Shows

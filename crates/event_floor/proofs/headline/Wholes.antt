@@ -25,7 +25,8 @@ use Rattle.pool_machine.specs.Listing.{empty_desk, Shown}
 use Rattle.pool_machine.specs.State.{opening as machine_opening}
 use Rattle.event_floor.specs.headline.Listing.{entry_of, desk_of, batch_of, listing_of}
 use Rattle.event_floor.specs.headline.Whole.{IsWhole, IsStocked}
-use Rattle.pool_machine.proofs.Parts.{opened, opening_shown}
+use Rattle.pool_machine.proofs.Parts.{opened}
+use Rattle.pool_machine.proofs.Shown.{opening_shown}
 use Rattle.event_floor.proofs.headline.Tables.{present_replicate}
 use Rattle.event_floor.proofs.headline.Lends.{placed_slot, in_table}
 

@@ -7,7 +7,7 @@ use Rattle.pool_machine.specs.Headline.{Applies as ListingApplies, Headline as L
 use Rattle.pool_machine.specs.Headline.{ShowsSome as ListingShows}
 use Rattle.event_floor.specs.headline.Listing.{listing_of}
 
--- the floor's lists show some sound state of the machine
+-- the floor's lists show some state that a run of the machine leads to
 unfoldable pub Shows : FloorSeen → Type 0
 Shows v = ListingShows (listing_of v)
 
@@ -16,8 +16,7 @@ unfoldable pub Applies : FloorSeen → Request → Answer → FloorSeen → Type
 Applies old request answer new = ListingApplies (listing_of old) request answer (listing_of new)
 
 -- The answers are a run of the machine, from each state that the old lists show to one that the new lists show: each
--- slot of each drawn chunk is once in all lists joined, in the list that the machine names; each inbox has the
--- machine's batches in their order; and each buffer in a cache or a batch carries the count of the times that it was
--- passed on, which is less than a number has digits.
+-- list has the slots that the machine has there, each once; each inbox has the machine's batches in their order; and
+-- each buffer in a cache or a batch carries the count of the times that it was passed on.
 unfoldable pub Headline : FloorSeen → List Request → List Answer → FloorSeen → Type 0
 Headline old requests answers new = ListingHeadline (listing_of old) requests answers (listing_of new)

@@ -12,6 +12,7 @@ use crate::report::{close, line_of_bad, write_audit};
 use crate::wire::{Failed, Sink, write_all};
 use event_floor::Floor;
 use event_floor::laws::floors_list_slots;
+use pool_machine::laws::sound_states;
 use std::alloc::Global;
 use thiserror::Error;
 
@@ -83,6 +84,7 @@ fn tell_audit<W: Sink>(
         return Ok(None);
     }
     floors_list_slots();
+    sound_states();
     let answer = audit_floor(alloc, floor);
     match write_audit(answer, writer) {
         Ok(()) => Ok(Some(answer)),
