@@ -1,5 +1,5 @@
 -- A desk that a request looks at, and puts back as it was.
-use Rattle.std.proofs.Common.{◌≡◌, ℕ, ◌<◌, ◌≤◌, List, get_or, set, sym, ap, ◌∙◌, subst}
+use Rattle.std.proofs.Common.{◌≡◌, ℕ, ◌<◌, ◌≤◌, List, length, get_or, set, sym, ap, ◌∙◌, subst}
 use Rattle.std.proofs.lemmas.List.{get_or_read, set-get_or, length-set}
 use Rattle.std.specs.Prelude.{Option, Result, Ok, Err, OnErr, Bool, true, IsTrue, false}
 use Rattle.slot_chain.specs.Buffer.{Buffer}
@@ -17,6 +17,17 @@ within a n m k l e f = subst (λ z. a < z) (e ∙ f) l
 
 pub too_few : (v w : FloorSeen) (a n m : ℕ) → v ≡ w → n ≤ a → n ≡ m → m ≡ desk_count v → desk_count w ≤ a
 too_few v w a n m same l e f = subst (λ (z : FloorSeen). desk_count z ≤ a) same (subst (λ z. z ≤ a) (e ∙ f) l)
+
+-- the desk of the number is there, and held
+abbrev pub HeldThere : List AnyDesk → ℕ → DeskState → Type 0
+HeldThere desks a d = (a < length desks) × (get_or desks a no_desk ≡ Held d)
+
+-- what a request that passed the first two tests knows of its desk
+pub held_there : (desks : List AnyDesk) (a n m : ℕ) (x : AnyDesk) (d : DeskState) → a < n → n ≡ m → m ≡ length desks → x ≡ get_or desks a x → x ≡ Held d
+    → HeldThere desks a d
+held_there desks a n m x d l e f read is =
+    let there = within a n m (length desks) l e f in
+    (there, desk_read desks a x d there read is)
 
 pub is_idle : (v w : FloorSeen) (a : ℕ) (x : AnyDesk) (d : IdleState) → v ≡ w → a < desk_count v → x ≡ get_or v.desks a x → x ≡ Idle d → IsIdle w a d
 is_idle v w a x d same l read is = subst (λ (z : FloorSeen). IsIdle z a d) same (l, sym (get_or_read v.desks a x l read no_desk) ∙ is)

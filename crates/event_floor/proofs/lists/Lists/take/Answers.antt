@@ -1,50 +1,50 @@
-use Rattle.std.proofs.Common.{◌≡◌, ◌<◌, refl, get_or, sym, subst}
+use Rattle.std.proofs.Common.{◌<◌, refl, sym, subst}
 use Rattle.pool_machine.specs.declared.refusal.Refusal.TheVariants.{Nothing}
 use Rattle.pool_machine.specs.declared.request.Request.TheVariants.{Take}
 use Rattle.event_floor.specs.declared.any_desk.AnyDesk.TheVariants.{Held}
-use Rattle.event_floor.specs.Floors.{FloorSeen, no_desk}
+use Rattle.event_floor.specs.Floors.{FloorSeen}
 use Rattle.event_floor.specs.Steps.{Refuses}
 use Rattle.event_floor.proofs.SeatLaws.{handle_seated}
-use Rattle.event_floor.proofs.FloorLaws.{floor_settled, floor_seat, floor_inbox, desk_read, seated_at}
-use Rattle.event_floor.proofs.HeldLaws.{within, too_few, is_idle, floor_kept, view_kept, count_kept}
+use Rattle.event_floor.proofs.FloorLaws.{floor_settled, floor_seat, floor_inbox, seated_at}
+use Rattle.event_floor.proofs.HeldLaws.{HeldThere, held_there, within, too_few, is_idle, floor_kept, view_kept, count_kept}
 use Rattle.event_floor.proofs.PostLaws.{rest_posted, taken_address, taken_digits, taken_known}
 use Rattle.event_floor.proofs.StepLaws.{takes_front}
 use Rattle.event_floor.proofs.lists.Lists.take.Goals as goal
 
 pub handle-counts-requires-clause-address : goal.handle-counts-requires-clause-address
 handle-counts-requires-clause-address c =
-    let there = within _ _ _ _ c.if-place-len.false c.len.ensures c.self.inside.desks.ok.0 in
-    let held : get_or c.self.inside.desks.items c.args.b no_desk ≡ Held c.in-Held.desk = desk_read _ _ _ _ there c.index_mut.ensures.value c.in-Held.is in
+    let held : HeldThere c.self.inside.desks.items c.args.b c.in-Held.desk =
+    held_there _ _ _ _ _ _ c.if-place-len.false c.len.ensures c.self.inside.desks.ok.0 c.index_mut.ensures.value c.in-Held.is in
     let f = c.self.invariant in
-    let seat = seated_at c.args.b c.in-Held.desk f there held in
-    taken_address _ _ _ _ _ _ _ _ _ _ seat c.in-Some.ensures.leaves (f.posted c.args.b there)
+    let seat = seated_at c.args.b c.in-Held.desk f held.0 held.1 in
+    taken_address _ _ _ _ _ _ _ _ _ _ seat c.in-Some.ensures.leaves (f.posted c.args.b held.0)
 
 pub handle-counts-requires-clause-digits : goal.handle-counts-requires-clause-digits
 handle-counts-requires-clause-digits c =
-    let there = within _ _ _ _ c.if-place-len.false c.len.ensures c.self.inside.desks.ok.0 in
-    let held : get_or c.self.inside.desks.items c.args.b no_desk ≡ Held c.in-Held.desk = desk_read _ _ _ _ there c.index_mut.ensures.value c.in-Held.is in
+    let held : HeldThere c.self.inside.desks.items c.args.b c.in-Held.desk =
+    held_there _ _ _ _ _ _ c.if-place-len.false c.len.ensures c.self.inside.desks.ok.0 c.index_mut.ensures.value c.in-Held.is in
     let f = c.self.invariant in
-    let seat = seated_at c.args.b c.in-Held.desk f there held in
-    taken_digits _ _ _ _ _ _ _ _ _ _ seat c.in-Some.ensures.leaves (f.posted c.args.b there)
+    let seat = seated_at c.args.b c.in-Held.desk f held.0 held.1 in
+    taken_digits _ _ _ _ _ _ _ _ _ _ seat c.in-Some.ensures.leaves (f.posted c.args.b held.0)
 
 pub invariant_of-self-2 : goal.invariant_of-self-2
 invariant_of-self-2 c =
-    let there = within _ _ _ _ c.if-place-len.false c.len.ensures c.self.inside.desks.ok.0 in
-    let held : get_or c.self.inside.desks.items c.args.b no_desk ≡ Held c.in-Held.desk = desk_read _ _ _ _ there c.index_mut.ensures.value c.in-Held.is in
+    let held : HeldThere c.self.inside.desks.items c.args.b c.in-Held.desk =
+    held_there _ _ _ _ _ _ c.if-place-len.false c.len.ensures c.self.inside.desks.ok.0 c.index_mut.ensures.value c.in-Held.is in
     let f = c.self.invariant in
-    let seat = seated_at c.args.b c.in-Held.desk f there held in
-    let posted = f.posted c.args.b there in
+    let seat = seated_at c.args.b c.in-Held.desk f held.0 held.1 in
+    let posted = f.posted c.args.b held.0 in
     let took = c.in-Some.ensures in
     rw took.same
     (floor_settled (floor_inbox c.args.b _
-    (floor_seat c.args.b _ f there (handle_seated _ _ _ _ _ _ _ _ seat (taken_known _ _ _ _ _ _ _ _ took.leaves posted) c.handle-counts.ensures.parts)) there
+    (floor_seat c.args.b _ f held.0 (handle_seated _ _ _ _ _ _ _ _ seat (taken_known _ _ _ _ _ _ _ _ took.leaves posted) c.handle-counts.ensures.parts)) held.0
     (rest_posted _ _ _ _ _ _ _ _ took.leaves posted)))
 
 pub returns-clause-does : goal.returns-clause-does
 returns-clause-does c =
-    let there = within _ _ _ _ c.if-place-len.false c.len.ensures c.self.inside.desks.ok.0 in
-    let held : get_or c.self.inside.desks.items c.args.b no_desk ≡ Held c.in-Held.desk = desk_read _ _ _ _ there c.index_mut.ensures.value c.in-Held.is in
-    takes_front _ _ c.args.b c.in-Held.desk _ _ _ c.handle-counts.result c.self.view_is (there, held) c.in-Some.ensures c.handle-counts.ensures.parts c.handle-counts.ensures.counts
+    let held : HeldThere c.self.inside.desks.items c.args.b c.in-Held.desk =
+    held_there _ _ _ _ _ _ c.if-place-len.false c.len.ensures c.self.inside.desks.ok.0 c.index_mut.ensures.value c.in-Held.is in
+    takes_front _ _ c.args.b c.in-Held.desk _ _ _ c.handle-counts.result c.self.view_is held c.in-Some.ensures c.handle-counts.ensures.parts c.handle-counts.ensures.counts
 
 pub returns-then-place-len-clause-refuses : goal.returns-then-place-len-clause-refuses
 returns-then-place-len-clause-refuses c =
@@ -77,10 +77,10 @@ invariant_of-self-in_default-take c =
 
 pub returns-in_default-take-clause-refuses : goal.returns-in_default-take-clause-refuses
 returns-in_default-take-clause-refuses c =
-    let there = within _ _ _ _ c.if-place-len.false c.len.ensures c.self.inside.desks.ok.0 in
-    let held : get_or c.self.inside.desks.items c.args.b no_desk ≡ Held c.in-Held.desk = desk_read _ _ _ _ there c.index_mut.ensures.value c.in-Held.is in
+    let held : HeldThere c.self.inside.desks.items c.args.b c.in-Held.desk =
+    held_there _ _ _ _ _ _ c.if-place-len.false c.len.ensures c.self.inside.desks.ok.0 c.index_mut.ensures.value c.in-Held.is in
     subst (λ (v : FloorSeen). Refuses v (Take c.args.b) Nothing) c.self.view_is
-    ((c.in-Held.desk, (there, held)), c.in_default-take.ensures.0)
+    ((c.in-Held.desk, held), c.in_default-take.ensures.0)
 
 pub returns-in_default-take-clause-unchanged : goal.returns-in_default-take-clause-unchanged
 returns-in_default-take-clause-unchanged c =
