@@ -1,4 +1,4 @@
--- A desk stays in its seat, whatever its calls do.
+-- A desk stays one of its floor, whatever its calls do.
 use Rattle.std.proofs.Common.{◌≡◌, ℕ, zero, suc, ◌+◌, ◌<◌, ◌≤◌, Bool, true, false, List, [], ◌∷◌, ◌++◌, refl, sym, ap, ◌∙◌, subst, arith, All, drop, map, get_or, not, ◌==◌, ⊎_elim}
 use Rattle.std.specs.Prelude.{Ok, ◌&&◌, nat_le}
 use Rattle.std.specs.Borrow.{GName}
@@ -22,8 +22,8 @@ use Rattle.pool_desk.specs.declared.freed.Freed.{Freed}
 use Rattle.pool_desk.specs.declared.freed.Freed.TheVariants.{Home, Cached, Due}
 use Rattle.event_floor.specs.declared.any_desk.AnyDesk.{AnyDesk}
 use Rattle.event_floor.specs.declared.any_desk.AnyDesk.TheVariants.{Idle, Held}
-use Rattle.event_floor.specs.Seats.{IsNumbered, HasPlace, held_by, Releases}
-use Rattle.event_floor.specs.Floors.{IsKnown, IsSeated}
+use Rattle.event_floor.specs.Desks.{IsNumbered, HasPlace, held_by, Releases}
+use Rattle.event_floor.specs.Floors.{IsKnown, IsDeskOf}
 
 -- a test holds of each number below n
 abbrev all_below : (ℕ → Bool) → ℕ → Bool
@@ -104,9 +104,9 @@ same_cached n chunks xs ys e h = subst (λ z. All (IsKnown n chunks) z) (sym e) 
 same_home : (chunks : ℕ) (xs ys : List AtHome) → ys ≡ xs → All (HasPlace chunks) xs → All (HasPlace chunks) ys
 same_home chunks xs ys e h = subst (λ z. All (HasPlace chunks) z) (sym e) h
 
-pub claim_seated : (digits : Scheme) (limit n chunks a class : ℕ) (part : Part) (d d' : DeskState) → IsSeated digits limit n chunks a (Held d)
-    → class < class_count → part.chunk < chunks → Claims d part class d' → IsSeated digits limit n chunks a (Held d')
-claim_seated digits limit n chunks a class part d d' h l m c = record {
+pub claim_keeps : (digits : Scheme) (limit n chunks a class : ℕ) (part : Part) (d d' : DeskState) → IsDeskOf digits limit n chunks a (Held d)
+    → class < class_count → part.chunk < chunks → Claims d part class d' → IsDeskOf digits limit n chunks a (Held d')
+claim_keeps digits limit n chunks a class part d d' h l m c = record {
   numbered = numbered_drawn digits limit a d d' h.numbered c.same;
   placed = All-permutation (HasPlace chunks) _ d'.home c.home
       (All-append (HasPlace chunks) (unused_from part.chunk class part.bytes.ghost_name (slots_of class) 0 part.bytes.now) d.home
@@ -114,38 +114,38 @@ claim_seated digits limit n chunks a class part d d' h l m c = record {
   known = same_cached n chunks d.cached d'.cached (ap (λ (z : DeskState). z.cached) c.same) h.known;
 }
 
-pub alloc_seated : (digits : Scheme) (limit n chunks a size : ℕ) (d d' : DeskState) (b : Buffer) → IsSeated digits limit n chunks a (Held d)
-    → Allocs d size (Ok b) d' → IsSeated digits limit n chunks a (Held d')
-alloc_seated digits limit n chunks a size d d' b h s = record {
+pub alloc_keeps : (digits : Scheme) (limit n chunks a size : ℕ) (d d' : DeskState) (b : Buffer) → IsDeskOf digits limit n chunks a (Held d)
+    → Allocs d size (Ok b) d' → IsDeskOf digits limit n chunks a (Held d')
+alloc_keeps digits limit n chunks a size d d' b h s = record {
   numbered = numbered_drawn digits limit a d d' h.numbered s.2;
   placed = tail_of (HasPlace chunks) s.1.from d'.home (All-permutation (HasPlace chunks) d.home (s.1.from ∷ d'.home) s.1.others h.placed);
   known = same_cached n chunks d.cached d'.cached (ap (λ (z : DeskState). z.cached) s.2) h.known;
 }
 
 -- the buffer given out has a place
-pub alloc_placed : (digits : Scheme) (limit n chunks a size : ℕ) (d d' : DeskState) (b : Buffer) → IsSeated digits limit n chunks a (Held d)
+pub alloc_placed : (digits : Scheme) (limit n chunks a size : ℕ) (d d' : DeskState) (b : Buffer) → IsDeskOf digits limit n chunks a (Held d)
     → Allocs d size (Ok b) d' → (b.slot.chunk < chunks) × (b.slot.index < 256)
 alloc_placed digits limit n chunks a size d d' b h s =
     rw (same_slot s.1.from b s.1.gives)
     (head_of (HasPlace chunks) s.1.from d'.home (All-permutation (HasPlace chunks) d.home (s.1.from ∷ d'.home) s.1.others h.placed))
 
-caches_seated : (digits : Scheme) (limit n chunks a : ℕ) (d d' : DeskState) (b : Buffer) → IsSeated digits limit n chunks a (Held d)
-    → IsKnown n chunks b → Caches d b d' → IsSeated digits limit n chunks a (Held d')
-caches_seated digits limit n chunks a d d' b h k s = record {
+caches_keeps : (digits : Scheme) (limit n chunks a : ℕ) (d d' : DeskState) (b : Buffer) → IsDeskOf digits limit n chunks a (Held d)
+    → IsKnown n chunks b → Caches d b d' → IsDeskOf digits limit n chunks a (Held d')
+caches_keeps digits limit n chunks a d d' b h k s = record {
   numbered = numbered_cached digits limit a d d' h.numbered s.1;
   placed = same_home chunks d.home d'.home (ap (λ (z : DeskState). z.home) s.1) h.placed;
   known = All-permutation (IsKnown n chunks) (freed b ∷ d.cached) d'.cached s.2 (All-cons (IsKnown n chunks) (freed b) d.cached (known_freed n chunks b k) h.known);
 }
 
-pub free_seated : (digits : Scheme) (limit n chunks a : ℕ) (d d' : DeskState) (b : Buffer) (f : Freed) → IsSeated digits limit n chunks a (Held d)
-    → IsKnown n chunks b → Frees d b f d' → IsSeated digits limit n chunks a (Held d')
-free_seated digits limit n chunks a d d' b Home h k s = record {
+pub free_keeps : (digits : Scheme) (limit n chunks a : ℕ) (d d' : DeskState) (b : Buffer) (f : Freed) → IsDeskOf digits limit n chunks a (Held d)
+    → IsKnown n chunks b → Frees d b f d' → IsDeskOf digits limit n chunks a (Held d')
+free_keeps digits limit n chunks a d d' b Home h k s = record {
   numbered = numbered_home digits limit a d d' h.numbered s.1;
   placed = All-permutation (HasPlace chunks) (Kept (freed b) ∷ d.home) d'.home s.2 (All-cons (HasPlace chunks) (Kept (freed b)) d.home (k.chunk, k.index) h.placed);
   known = same_cached n chunks d.cached d'.cached (ap (λ (z : DeskState). z.cached) s.1) h.known;
 }
-free_seated digits limit n chunks a d d' b Cached h k s = caches_seated digits limit n chunks a d d' b h k s.0
-free_seated digits limit n chunks a d d' b Due h k s = caches_seated digits limit n chunks a d d' b h k s.0
+free_keeps digits limit n chunks a d d' b Cached h k s = caches_keeps digits limit n chunks a d d' b h k s.0
+free_keeps digits limit n chunks a d d' b Due h k s = caches_keeps digits limit n chunks a d d' b h k s.0
 
 -- the buffers of a batch that the desk gives are known, and so are those that it keeps
 given_known : (n chunks : ℕ) (s : Scheme) (a : ℕ) (old : List Buffer) (b : BatchState) (new : List Buffer) → All (IsKnown n chunks) old → Routed s a old b new
@@ -156,9 +156,9 @@ pub batch_known : (n chunks : ℕ) (s : Scheme) (a : ℕ) (old : List Buffer) (b
     → All (IsKnown n chunks) b.items
 batch_known n chunks s a old b new h g = all_left (IsKnown n chunks) b.items new (given_known n chunks s a old b new h g)
 
-pub send_seated : (digits : Scheme) (limit n chunks a : ℕ) (d d' : DeskState) (s : Scheme) (x : ℕ) (b : BatchState) → IsSeated digits limit n chunks a (Held d)
-    → d' ≡ record d { cached = d'.cached } → Routed s x d.cached b d'.cached → IsSeated digits limit n chunks a (Held d')
-send_seated digits limit n chunks a d d' s x b h same g = record {
+pub send_keeps : (digits : Scheme) (limit n chunks a : ℕ) (d d' : DeskState) (s : Scheme) (x : ℕ) (b : BatchState) → IsDeskOf digits limit n chunks a (Held d)
+    → d' ≡ record d { cached = d'.cached } → Routed s x d.cached b d'.cached → IsDeskOf digits limit n chunks a (Held d')
+send_keeps digits limit n chunks a d d' s x b h same g = record {
   numbered = numbered_cached digits limit a d d' h.numbered same;
   placed = same_home chunks d.home d'.home (ap (λ (z : DeskState). z.home) same) h.placed;
   known = all_right (IsKnown n chunks) b.items d'.cached (given_known n chunks s x d.cached b d'.cached h.known g);
@@ -170,9 +170,9 @@ kept_placed n chunks bs h = All-map (HasPlace chunks) (λ (b : Buffer). Kept b) 
 passed_known : (n chunks : ℕ) (bs : List Buffer) → All (IsKnown n chunks) bs → All (IsKnown n chunks) (map passed_on bs)
 passed_known n chunks bs h = All-map (IsKnown n chunks) passed_on bs (λ k d l. known_passed_on n chunks (get_or bs k d) (h k d l))
 
-pub handle_seated : (digits : Scheme) (limit n chunks a : ℕ) (d d' : DeskState) (bs : List Buffer) → IsSeated digits limit n chunks a (Held d)
-    → All (IsKnown n chunks) bs → Handles d bs d' → IsSeated digits limit n chunks a (Held d')
-handle_seated digits limit n chunks a d d' bs h k s = record {
+pub handle_keeps : (digits : Scheme) (limit n chunks a : ℕ) (d d' : DeskState) (bs : List Buffer) → IsDeskOf digits limit n chunks a (Held d)
+    → All (IsKnown n chunks) bs → Handles d bs d' → IsDeskOf digits limit n chunks a (Held d')
+handle_keeps digits limit n chunks a d d' bs h k s = record {
   numbered = numbered_as digits limit a d d' h.numbered (ap (λ (z : DeskState). z.number) s.same) (ap (λ (z : DeskState). z.limit) s.same) (ap (λ (z : DeskState). z.digits) s.same);
   placed = All-permutation (HasPlace chunks) (map (λ (b : Buffer). Kept b) (own d.number bs) ++ d.home) d'.home s.home
       (All-append (HasPlace chunks) (map (λ (b : Buffer). Kept b) (own d.number bs)) d.home
@@ -182,14 +182,14 @@ handle_seated digits limit n chunks a d d' bs h k s = record {
       (passed_known n chunks (others d.number bs) (All-filter (λ (b : Buffer). not (b.owner == d.number)) (IsKnown n chunks) bs k)) h.known);
 }
 
-pub adopt_seated : (digits : Scheme) (limit n chunks a worker : ℕ) (s : AnyDesk) → IsSeated digits limit n chunks a s → IsSeated digits limit n chunks a (held_by worker s)
-adopt_seated digits limit n chunks a worker (Idle d) h = record { numbered = h.numbered; placed = h.placed; known = All-nil (IsKnown n chunks) }
-adopt_seated digits limit n chunks a worker (Held d) h = h
+pub adopt_keeps : (digits : Scheme) (limit n chunks a worker : ℕ) (s : AnyDesk) → IsDeskOf digits limit n chunks a s → IsDeskOf digits limit n chunks a (held_by worker s)
+adopt_keeps digits limit n chunks a worker (Idle d) h = record { numbered = h.numbered; placed = h.placed; known = All-nil (IsKnown n chunks) }
+adopt_keeps digits limit n chunks a worker (Held d) h = h
 
-pub release_seated : (digits : Scheme) (limit n chunks a : ℕ) (s s' : AnyDesk) (done : Bool) → IsSeated digits limit n chunks a s → Releases s done s'
-    → IsSeated digits limit n chunks a s'
-release_seated digits limit n chunks a (Idle d) s' true h r = absurd r
-release_seated digits limit n chunks a (Idle d) s' false h r = subst (λ z. IsSeated digits limit n chunks a z) (sym r) h
-release_seated digits limit n chunks a (Held d) s' true h r =
-    subst (λ z. IsSeated digits limit n chunks a z) (sym r.1) (record { numbered = h.numbered; placed = h.placed; known = All-nil (IsKnown n chunks) })
-release_seated digits limit n chunks a (Held d) s' false h r = subst (λ z. IsSeated digits limit n chunks a z) (sym r.1) h
+pub release_keeps : (digits : Scheme) (limit n chunks a : ℕ) (s s' : AnyDesk) (done : Bool) → IsDeskOf digits limit n chunks a s → Releases s done s'
+    → IsDeskOf digits limit n chunks a s'
+release_keeps digits limit n chunks a (Idle d) s' true h r = absurd r
+release_keeps digits limit n chunks a (Idle d) s' false h r = subst (λ z. IsDeskOf digits limit n chunks a z) (sym r) h
+release_keeps digits limit n chunks a (Held d) s' true h r =
+    subst (λ z. IsDeskOf digits limit n chunks a z) (sym r.1) (record { numbered = h.numbered; placed = h.placed; known = All-nil (IsKnown n chunks) })
+release_keeps digits limit n chunks a (Held d) s' false h r = subst (λ z. IsDeskOf digits limit n chunks a z) (sym r.1) h

@@ -14,10 +14,10 @@ use Rattle.digit_route.specs.Profiles.{profile_of}
 use Rattle.pool_desk.specs.Desks.{DeskState, profile_at}
 use Rattle.event_floor.specs.declared.any_desk.AnyDesk.{AnyDesk}
 use Rattle.event_floor.specs.declared.any_desk.AnyDesk.TheVariants.{Idle, Held}
-use Rattle.event_floor.specs.Seats.{new_desk, new_desks, HasPlace}
+use Rattle.event_floor.specs.Desks.{new_desk, new_desks, HasPlace}
 use Rattle.event_floor.specs.Lent.{AreInPlace, lent_at, place_of}
-use Rattle.event_floor.specs.Posted.{BatchSeen, inbox_at}
-use Rattle.event_floor.specs.Floors.{AreOwned, IsKnown, IsSeated, IsPostedTo, IsFloorOf, IsFloor, no_desk, last_number}
+use Rattle.event_floor.specs.Inboxes.{QueuedState, inbox_at}
+use Rattle.event_floor.specs.Floors.{AreOwned, IsKnown, IsDeskOf, IsQueuedAt, IsFloorOf, IsFloor, no_desk, last_number}
 
 -- one of a list is another, and each other one stays
 each_set : {X : Type 0} (P : ℕ → X → Type 0) (xs : List X) (n a : ℕ) (x d : X) → length xs ≡ n → a < n → P a x
@@ -27,27 +27,27 @@ each_set P xs n a x d count l p each b m =
     (λ (other : _ × (b ≢ a)). rw (get_or-set_other xs a b x d other.1) (each b m)) (eqb_tells b a)
 
 -- where the number of desks is that of a list of them
-pub floor_settled : {n : ℕ} {digits : Scheme} {limit chunks : ℕ} {desks : List AnyDesk} {lent : List (Option Buffer)} {inboxes : List (List BatchSeen)} {next : ℕ}
+pub floor_settled : {n : ℕ} {digits : Scheme} {limit chunks : ℕ} {desks : List AnyDesk} {lent : List (Option Buffer)} {inboxes : List (List QueuedState)} {next : ℕ}
     → IsFloorOf n digits limit chunks desks lent inboxes next → IsFloor digits limit chunks desks lent inboxes next
 floor_settled {n} {digits} {limit} {chunks} {desks} {lent} {inboxes} {next} f = subst (λ m. IsFloorOf m digits limit chunks desks lent inboxes next) (sym f.count) f
 
-pub floor_seat : {n : ℕ} {digits : Scheme} {limit chunks : ℕ} {desks : List AnyDesk} {lent : List (Option Buffer)} {inboxes : List (List BatchSeen)} {next : ℕ} (a : ℕ) (s : AnyDesk)
-    → IsFloorOf n digits limit chunks desks lent inboxes next → a < n → IsSeated digits limit n chunks a s
+pub floor_desk : {n : ℕ} {digits : Scheme} {limit chunks : ℕ} {desks : List AnyDesk} {lent : List (Option Buffer)} {inboxes : List (List QueuedState)} {next : ℕ} (a : ℕ) (s : AnyDesk)
+    → IsFloorOf n digits limit chunks desks lent inboxes next → a < n → IsDeskOf digits limit n chunks a s
     → IsFloorOf n digits limit chunks (set desks a s) lent inboxes next
-floor_seat {n} {digits} {limit} {chunks} {desks} {lent} {inboxes} {next} a s f l h = record {
+floor_desk {n} {digits} {limit} {chunks} {desks} {lent} {inboxes} {next} a s f l h = record {
   count = length-set desks a s ∙ f.count;
   few = f.few;
   fewer = f.fewer;
   table = f.table;
   owned = f.owned;
-  seated = each_set (λ b z. IsSeated digits limit n chunks b z) desks n a s no_desk f.count l h f.seated;
-  boxes = f.boxes;
-  posted = f.posted;
+  each_desk = each_set (λ b z. IsDeskOf digits limit n chunks b z) desks n a s no_desk f.count l h f.each_desk;
+  inbox_count = f.inbox_count;
+  queued = f.queued;
   next_low = f.next_low;
   next_high = f.next_high;
 }
 
-pub floor_lent : {n : ℕ} {digits : Scheme} {limit chunks : ℕ} {desks : List AnyDesk} {lent : List (Option Buffer)} {inboxes : List (List BatchSeen)} {next : ℕ} (lent' : List (Option Buffer))
+pub floor_lent : {n : ℕ} {digits : Scheme} {limit chunks : ℕ} {desks : List AnyDesk} {lent : List (Option Buffer)} {inboxes : List (List QueuedState)} {next : ℕ} (lent' : List (Option Buffer))
     → IsFloorOf n digits limit chunks desks lent inboxes next → length lent' ≡ length lent → AreOwned n lent'
     → IsFloorOf n digits limit chunks desks lent' inboxes next
 floor_lent lent' f e own = record {
@@ -56,15 +56,15 @@ floor_lent lent' f e own = record {
   fewer = f.fewer;
   table = e ∙ f.table;
   owned = own;
-  seated = f.seated;
-  boxes = f.boxes;
-  posted = f.posted;
+  each_desk = f.each_desk;
+  inbox_count = f.inbox_count;
+  queued = f.queued;
   next_low = f.next_low;
   next_high = f.next_high;
 }
 
-pub floor_inbox : {n : ℕ} {digits : Scheme} {limit chunks : ℕ} {desks : List AnyDesk} {lent : List (Option Buffer)} {inboxes : List (List BatchSeen)} {next : ℕ} (b : ℕ) (ps : List BatchSeen)
-    → IsFloorOf n digits limit chunks desks lent inboxes next → b < n → All (IsPostedTo digits n chunks next b) ps
+pub floor_inbox : {n : ℕ} {digits : Scheme} {limit chunks : ℕ} {desks : List AnyDesk} {lent : List (Option Buffer)} {inboxes : List (List QueuedState)} {next : ℕ} (b : ℕ) (ps : List QueuedState)
+    → IsFloorOf n digits limit chunks desks lent inboxes next → b < n → All (IsQueuedAt digits n chunks next b) ps
     → IsFloorOf n digits limit chunks desks lent (set inboxes b ps) next
 floor_inbox {n} {digits} {limit} {chunks} {desks} {lent} {inboxes} {next} b ps f l h = record {
   count = f.count;
@@ -72,14 +72,14 @@ floor_inbox {n} {digits} {limit} {chunks} {desks} {lent} {inboxes} {next} b ps f
   fewer = f.fewer;
   table = f.table;
   owned = f.owned;
-  seated = f.seated;
-  boxes = length-set inboxes b ps ∙ f.boxes;
-  posted = each_set (λ b z. All (IsPostedTo digits n chunks next b) z) inboxes n b ps [] f.boxes l h f.posted;
+  each_desk = f.each_desk;
+  inbox_count = length-set inboxes b ps ∙ f.inbox_count;
+  queued = each_set (λ b z. All (IsQueuedAt digits n chunks next b) z) inboxes n b ps [] f.inbox_count l h f.queued;
   next_low = f.next_low;
   next_high = f.next_high;
 }
 
-later : {digits : Scheme} {n chunks next b : ℕ} (p : BatchSeen) → IsPostedTo digits n chunks next b p → IsPostedTo digits n chunks (next + 1) b p
+later : {digits : Scheme} {n chunks next b : ℕ} (p : QueuedState) → IsQueuedAt digits n chunks next b p → IsQueuedAt digits n chunks (next + 1) b p
 later p h = record {
   numbered = (let l = h.numbered in omega (arith, l));
   address = h.address;
@@ -89,7 +89,7 @@ later p h = record {
 }
 
 -- one more number was given
-pub floor_next : {n : ℕ} {digits : Scheme} {limit chunks : ℕ} {desks : List AnyDesk} {lent : List (Option Buffer)} {inboxes : List (List BatchSeen)} {next : ℕ}
+pub floor_next : {n : ℕ} {digits : Scheme} {limit chunks : ℕ} {desks : List AnyDesk} {lent : List (Option Buffer)} {inboxes : List (List QueuedState)} {next : ℕ}
     → IsFloorOf n digits limit chunks desks lent inboxes next → next ≤ last_number
     → IsFloorOf n digits limit chunks desks lent inboxes (next + 1)
 floor_next {n} {digits} {limit} {chunks} {desks} {lent} {inboxes} {next} f l = record {
@@ -98,9 +98,9 @@ floor_next {n} {digits} {limit} {chunks} {desks} {lent} {inboxes} {next} f l = r
   fewer = f.fewer;
   table = f.table;
   owned = f.owned;
-  seated = f.seated;
-  boxes = f.boxes;
-  posted = λ b m k d i. later (get_or (inbox_at inboxes b) k d) (f.posted b m k d i);
+  each_desk = f.each_desk;
+  inbox_count = f.inbox_count;
+  queued = λ b m k d i. later (get_or (inbox_at inboxes b) k d) (f.queued b m k d i);
   next_low = (let e = f.next_low in omega (arith, e));
   next_high = omega (arith, l);
 }
@@ -143,25 +143,25 @@ chunk_within chunks chunk index n l e = omega (arith, l, e)
 pub desk_read : (desks : List AnyDesk) (a : ℕ) (x : AnyDesk) (d : DeskState) → a < length desks → x ≡ get_or desks a x → x ≡ Held d → get_or desks a no_desk ≡ Held d
 desk_read desks a x d l read is = sym (get_or_read desks a x l read no_desk) ∙ is
 
-pub seated_read : {n : ℕ} {digits : Scheme} {limit chunks : ℕ} {desks : List AnyDesk} {lent : List (Option Buffer)} {inboxes : List (List BatchSeen)} {next : ℕ} (a : ℕ) (x : AnyDesk)
-    → IsFloorOf n digits limit chunks desks lent inboxes next → a < n → x ≡ get_or desks a x → IsSeated digits limit n chunks a x
-seated_read {n} {digits} {limit} {chunks} {desks} a x f l read =
-    subst (λ z. IsSeated digits limit n chunks a z) (sym (get_or_read desks a x (let e = f.count in omega (arith, l, e)) read no_desk)) (f.seated a l)
+pub desk_of_floor : {n : ℕ} {digits : Scheme} {limit chunks : ℕ} {desks : List AnyDesk} {lent : List (Option Buffer)} {inboxes : List (List QueuedState)} {next : ℕ} (a : ℕ) (x : AnyDesk)
+    → IsFloorOf n digits limit chunks desks lent inboxes next → a < n → x ≡ get_or desks a x → IsDeskOf digits limit n chunks a x
+desk_of_floor {n} {digits} {limit} {chunks} {desks} a x f l read =
+    subst (λ z. IsDeskOf digits limit n chunks a z) (sym (get_or_read desks a x (let e = f.count in omega (arith, l, e)) read no_desk)) (f.each_desk a l)
 
-pub seated_at : {n : ℕ} {digits : Scheme} {limit chunks : ℕ} {desks : List AnyDesk} {lent : List (Option Buffer)} {inboxes : List (List BatchSeen)} {next : ℕ} (a : ℕ) (d : DeskState)
-    → IsFloorOf n digits limit chunks desks lent inboxes next → a < n → get_or desks a no_desk ≡ Held d → IsSeated digits limit n chunks a (Held d)
-seated_at {n} {digits} {limit} {chunks} a d f l is = subst (λ z. IsSeated digits limit n chunks a z) is (f.seated a l)
+pub held_desk_of : {n : ℕ} {digits : Scheme} {limit chunks : ℕ} {desks : List AnyDesk} {lent : List (Option Buffer)} {inboxes : List (List QueuedState)} {next : ℕ} (a : ℕ) (d : DeskState)
+    → IsFloorOf n digits limit chunks desks lent inboxes next → a < n → get_or desks a no_desk ≡ Held d → IsDeskOf digits limit n chunks a (Held d)
+held_desk_of {n} {digits} {limit} {chunks} a d f l is = subst (λ z. IsDeskOf digits limit n chunks a z) is (f.each_desk a l)
 
 -- the same of an inbox
-pub inbox_read : (inboxes : List (List BatchSeen)) (b : ℕ) (x : List BatchSeen) → b < length inboxes → x ≡ get_or inboxes b x → inbox_at inboxes b ≡ x
+pub inbox_read : (inboxes : List (List QueuedState)) (b : ℕ) (x : List QueuedState) → b < length inboxes → x ≡ get_or inboxes b x → inbox_at inboxes b ≡ x
 inbox_read inboxes b x l read = sym (get_or_read inboxes b x l read [])
 
 -- the desk takes the buffers of all desks, and uses the classes that a claim may name
-pub takes_owner : {n : ℕ} {digits : Scheme} {limit chunks : ℕ} {desks : List AnyDesk} {lent : List (Option Buffer)} {inboxes : List (List BatchSeen)} {next : ℕ} (a : ℕ) (d : DeskState) (owner : ℕ)
-    → IsFloorOf n digits limit chunks desks lent inboxes next → IsSeated digits limit n chunks a (Held d) → owner < n → owner < 2 ^ d.digits.bits
+pub takes_owner : {n : ℕ} {digits : Scheme} {limit chunks : ℕ} {desks : List AnyDesk} {lent : List (Option Buffer)} {inboxes : List (List QueuedState)} {next : ℕ} (a : ℕ) (d : DeskState) (owner : ℕ)
+    → IsFloorOf n digits limit chunks desks lent inboxes next → IsDeskOf digits limit n chunks a (Held d) → owner < n → owner < 2 ^ d.digits.bits
 takes_owner a d owner f s own = rw s.numbered.2 (let few = f.few in omega (arith, own, few))
 
-pub uses_class : {digits : Scheme} {limit n chunks a : ℕ} (d : DeskState) (class : ℕ) → IsSeated digits limit n chunks a (Held d)
+pub uses_class : {digits : Scheme} {limit n chunks a : ℕ} (d : DeskState) (class : ℕ) → IsDeskOf digits limit n chunks a (Held d)
     → class < classes_of (profile_of digits.bits) → class < classes_of (profile_at d)
 uses_class d class s few = rw s.numbered.2 few
 
@@ -186,21 +186,21 @@ unfolding new_desks
 new_desks_length digits limit zero = refl
 new_desks_length digits limit (suc n) = let h = new_desks_length digits limit n in length-append (new_desks digits limit n) _ ∙ omega (arith, h)
 
-pub idle_seats_more : (digits : Scheme) (limit n : ℕ) → new_desks digits limit n ++ Idle (new_desk digits limit n) ∷ [] ≡ new_desks digits limit (n + 1)
+pub idle_desks_more : (digits : Scheme) (limit n : ℕ) → new_desks digits limit n ++ Idle (new_desk digits limit n) ∷ [] ≡ new_desks digits limit (n + 1)
 unfolding new_desks
-idle_seats_more digits limit n = rw add-one refl
+idle_desks_more digits limit n = rw add-one refl
 
-idle_seats_at : (digits : Scheme) (limit n a : ℕ) → a < n → get_or (new_desks digits limit n) a no_desk ≡ Idle (new_desk digits limit a)
+idle_desks_at : (digits : Scheme) (limit n a : ℕ) → a < n → get_or (new_desks digits limit n) a no_desk ≡ Idle (new_desk digits limit a)
 unfolding new_desks
-idle_seats_at digits limit zero a l = absurd (omega (arith, l))
-idle_seats_at digits limit (suc n) a l =
+idle_desks_at digits limit zero a l = absurd (omega (arith, l))
+idle_desks_at digits limit (suc n) a l =
     ⊎_elim (λ (same : (eqb a n ≡ true) × (a ≡ n)).
     rw same.1 (subst (λ z. get_or (new_desks digits limit n ++ Idle (new_desk digits limit n) ∷ []) z no_desk ≡ Idle (new_desk digits limit n)) (new_desks_length digits limit n) (get_or-append_seam (new_desks digits limit n) _ [] no_desk)))
     (λ (other : (eqb a n ≡ false) × (a ≢ n)). let ne = other.1 in
-    get_or_append_left (new_desks digits limit n) _ no_desk a (rw (new_desks_length digits limit n) (omega (arith, l, ne))) ∙ idle_seats_at digits limit n a (omega (arith, l, ne))) (eqb_tells a n)
+    get_or_append_left (new_desks digits limit n) _ no_desk a (rw (new_desks_length digits limit n) (omega (arith, l, ne))) ∙ idle_desks_at digits limit n a (omega (arith, l, ne))) (eqb_tells a n)
 
-new_seated : (digits : Scheme) (limit n chunks a : ℕ) → IsSeated digits limit n chunks a (Idle (new_desk digits limit a))
-new_seated digits limit n chunks a = record { numbered = (refl, refl, refl); placed = All-nil (HasPlace chunks); known = All-nil (IsKnown n chunks) }
+new_keeps : (digits : Scheme) (limit n chunks a : ℕ) → IsDeskOf digits limit n chunks a (Idle (new_desk digits limit a))
+new_keeps digits limit n chunks a = record { numbered = (refl, refl, refl); placed = All-nil (HasPlace chunks); known = All-nil (IsKnown n chunks) }
 
 pub opening_is_floor : (digits : Scheme) (limit chunks n : ℕ) → n ≤ 2 ^ digits.bits → n ≤ 4096
     → IsFloorOf n digits limit chunks (new_desks digits limit n) (replicate (256 * chunks) None) (replicate n []) 1
@@ -210,9 +210,9 @@ opening_is_floor digits limit chunks n few fewer = record {
   fewer = fewer;
   table = length-replicate (256 * chunks) None;
   owned = nothing_owned n (256 * chunks);
-  seated = λ a l. rw (idle_seats_at digits limit n a l) (new_seated digits limit n chunks a);
-  boxes = length-replicate {A = List BatchSeen} n [];
-  posted = λ b l. rw (get_or-replicate {A = List BatchSeen} n b [] [] l) (All-nil (IsPostedTo digits n chunks 1 b));
+  each_desk = λ a l. rw (idle_desks_at digits limit n a l) (new_keeps digits limit n chunks a);
+  inbox_count = length-replicate {A = List QueuedState} n [];
+  queued = λ b l. rw (get_or-replicate {A = List QueuedState} n b [] [] l) (All-nil (IsQueuedAt digits n chunks 1 b));
   next_low = omega arith;
   next_high = omega arith;
 }

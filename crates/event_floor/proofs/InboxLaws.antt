@@ -5,47 +5,47 @@ use Rattle.digit_route.specs.Digits.{Scheme}
 use Rattle.digit_route.specs.States.{BatchState}
 use Rattle.pool_desk.specs.Desks.{DeskState}
 use Rattle.event_floor.specs.declared.any_desk.AnyDesk.TheVariants.{Held}
-use Rattle.event_floor.specs.Posted.{BatchSeen, SendsInto, LeavesFront, sent_as}
-use Rattle.event_floor.specs.Floors.{IsKnown, IsSeated, IsPostedTo}
-use Rattle.event_floor.proofs.SeatLaws.{batch_known, head_of, tail_of}
+use Rattle.event_floor.specs.Inboxes.{QueuedState, SendsInto, LeavesFront, sent_as}
+use Rattle.event_floor.specs.Floors.{IsKnown, IsDeskOf, IsQueuedAt}
+use Rattle.event_floor.proofs.DeskLaws.{batch_known, head_of, tail_of}
 
 -- a desk's batch comes to those that wait
-pub sent_posted : (digits : Scheme) (limit n chunks next a t number count : ℕ) (d d' : DeskState) (old new : List BatchSeen) → All (IsPostedTo digits n chunks next t) old
-    → IsSeated digits limit n chunks a (Held d) → a < n → number < next → SendsInto d t number count old d' new → All (IsPostedTo digits n chunks next t) new
-sent_posted digits limit n chunks next a t number count d d' old new h seat l m s =
-    subst (λ z. All (IsPostedTo digits n chunks next t) z) (sym s.posted)
-    (All-append (IsPostedTo digits n chunks next t) old (sent_as number s.batch ∷ []) h
-    (All-cons (IsPostedTo digits n chunks next t) (sent_as number s.batch) [] (record {
+pub sent_queued : (digits : Scheme) (limit n chunks next a t number count : ℕ) (d d' : DeskState) (old new : List QueuedState) → All (IsQueuedAt digits n chunks next t) old
+    → IsDeskOf digits limit n chunks a (Held d) → a < n → number < next → SendsInto d t number count old d' new → All (IsQueuedAt digits n chunks next t) new
+sent_queued digits limit n chunks next a t number count d d' old new h own_desk l m s =
+    subst (λ z. All (IsQueuedAt digits n chunks next t) z) (sym s.queued)
+    (All-append (IsQueuedAt digits n chunks next t) old (sent_as number s.batch ∷ []) h
+    (All-cons (IsQueuedAt digits n chunks next t) (sent_as number s.batch) [] (record {
       numbered = m;
       address = s.address;
-      sender = rw (s.gives.sender ∙ seat.numbered.0) l;
-      digits_are = s.gives.digits ∙ seat.numbered.2;
-      known = batch_known n chunks d.digits d.number d.cached s.batch d'.cached seat.known s.gives;
-    }) (All-nil (IsPostedTo digits n chunks next t))))
+      sender = rw (s.gives.sender ∙ own_desk.numbered.0) l;
+      digits_are = s.gives.digits ∙ own_desk.numbered.2;
+      known = batch_known n chunks d.digits d.number d.cached s.batch d'.cached own_desk.known s.gives;
+    }) (All-nil (IsQueuedAt digits n chunks next t))))
 
 -- the front of an inbox, and those behind it
-pub front_posted : (digits : Scheme) (n chunks next b : ℕ) (batch : BatchState) (x rest : List BatchSeen) (s : LeavesFront batch x rest) → All (IsPostedTo digits n chunks next b) x
-    → IsPostedTo digits n chunks next b s.front
-front_posted digits n chunks next b batch x rest s h =
-    head_of (IsPostedTo digits n chunks next b) s.front rest (subst (λ z. All (IsPostedTo digits n chunks next b) z) s.is_front h)
+pub front_queued : (digits : Scheme) (n chunks next b : ℕ) (batch : BatchState) (x rest : List QueuedState) (s : LeavesFront batch x rest) → All (IsQueuedAt digits n chunks next b) x
+    → IsQueuedAt digits n chunks next b s.front
+front_queued digits n chunks next b batch x rest s h =
+    head_of (IsQueuedAt digits n chunks next b) s.front rest (subst (λ z. All (IsQueuedAt digits n chunks next b) z) s.is_front h)
 
-pub rest_posted : (digits : Scheme) (n chunks next b : ℕ) (batch : BatchState) (x rest : List BatchSeen) → LeavesFront batch x rest → All (IsPostedTo digits n chunks next b) x
-    → All (IsPostedTo digits n chunks next b) rest
-rest_posted digits n chunks next b batch x rest s h =
-    tail_of (IsPostedTo digits n chunks next b) s.front rest (subst (λ z. All (IsPostedTo digits n chunks next b) z) s.is_front h)
+pub rest_queued : (digits : Scheme) (n chunks next b : ℕ) (batch : BatchState) (x rest : List QueuedState) → LeavesFront batch x rest → All (IsQueuedAt digits n chunks next b) x
+    → All (IsQueuedAt digits n chunks next b) rest
+rest_queued digits n chunks next b batch x rest s h =
+    tail_of (IsQueuedAt digits n chunks next b) s.front rest (subst (λ z. All (IsQueuedAt digits n chunks next b) z) s.is_front h)
 
 -- a batch taken from the inbox of a desk is addressed to it, has its digits, and its buffers are known
-pub taken_address : (digits : Scheme) (limit n chunks next b : ℕ) (d : DeskState) (batch : BatchState) (x rest : List BatchSeen) → IsSeated digits limit n chunks b (Held d)
-    → LeavesFront batch x rest → All (IsPostedTo digits n chunks next b) x → batch.address ≡ d.number
-taken_address digits limit n chunks next b d batch x rest seat s h =
-    s.address ∙ ((front_posted digits n chunks next b batch x rest s h).address ∙ sym seat.numbered.0)
+pub taken_address : (digits : Scheme) (limit n chunks next b : ℕ) (d : DeskState) (batch : BatchState) (x rest : List QueuedState) → IsDeskOf digits limit n chunks b (Held d)
+    → LeavesFront batch x rest → All (IsQueuedAt digits n chunks next b) x → batch.address ≡ d.number
+taken_address digits limit n chunks next b d batch x rest own_desk s h =
+    s.address ∙ ((front_queued digits n chunks next b batch x rest s h).address ∙ sym own_desk.numbered.0)
 
-pub taken_digits : (digits : Scheme) (limit n chunks next b : ℕ) (d : DeskState) (batch : BatchState) (x rest : List BatchSeen) → IsSeated digits limit n chunks b (Held d)
-    → LeavesFront batch x rest → All (IsPostedTo digits n chunks next b) x → batch.digits ≡ d.digits
-taken_digits digits limit n chunks next b d batch x rest seat s h =
-    s.digits ∙ ((front_posted digits n chunks next b batch x rest s h).digits_are ∙ sym seat.numbered.2)
+pub taken_digits : (digits : Scheme) (limit n chunks next b : ℕ) (d : DeskState) (batch : BatchState) (x rest : List QueuedState) → IsDeskOf digits limit n chunks b (Held d)
+    → LeavesFront batch x rest → All (IsQueuedAt digits n chunks next b) x → batch.digits ≡ d.digits
+taken_digits digits limit n chunks next b d batch x rest own_desk s h =
+    s.digits ∙ ((front_queued digits n chunks next b batch x rest s h).digits_are ∙ sym own_desk.numbered.2)
 
-pub taken_known : (digits : Scheme) (n chunks next b : ℕ) (batch : BatchState) (x rest : List BatchSeen) → LeavesFront batch x rest → All (IsPostedTo digits n chunks next b) x
+pub taken_known : (digits : Scheme) (n chunks next b : ℕ) (batch : BatchState) (x rest : List QueuedState) → LeavesFront batch x rest → All (IsQueuedAt digits n chunks next b) x
     → All (IsKnown n chunks) batch.items
 taken_known digits n chunks next b batch x rest s h =
-    subst (λ z. All (IsKnown n chunks) z) (sym s.items) (front_posted digits n chunks next b batch x rest s h).known
+    subst (λ z. All (IsKnown n chunks) z) (sym s.items) (front_queued digits n chunks next b batch x rest s h).known

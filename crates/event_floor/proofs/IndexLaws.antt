@@ -8,11 +8,11 @@ use Rattle.std.proofs.lemmas.List.{get_or_default, get_or-set_same, get_or-set_o
 use Rattle.std.proofs.Math.Seq.{get_or-append_seam}
 use Rattle.digit_route.specs.States.{BatchState}
 use Rattle.event_floor.specs.declared.unlinked.Unlinked.{Unlinked}
-use Rattle.event_floor.specs.Posted.{BatchSeen, inbox_at, as_linked, no_batch, IsHalf, IsHalfOf, NumbersRise, SomePosted, NonePosted, HasNoFront, LeavesFront}
+use Rattle.event_floor.specs.Inboxes.{QueuedState, inbox_at, as_linked, no_batch, IsHalf, IsHalfOf, NumbersRise, SomeQueued, NoneQueued, HasNoFront, LeavesFront}
 use Rattle.event_floor.proofs.FloorLaws.{inbox_read}
-use Rattle.event_floor.specs.Unlinked.{UnlinkedSeen, half_of, HasHalf, WaitsHalf, IsIndexOf}
+use Rattle.event_floor.specs.Unlinked.{UnlinkedState, half_of, HasHalf, WaitsHalf, IsIndexOf}
 
-abbrev pub batch_at : List BatchSeen → ℕ → BatchSeen
+abbrev pub batch_at : List QueuedState → ℕ → QueuedState
 batch_at ps k = get_or ps k no_batch
 
 abbrev pub Entry : ℕ → ℕ → Unlinked
@@ -20,72 +20,72 @@ Entry sender inbox = record { sender = sender; inbox = inbox }
 
 -- ---- in the inbox of one desk
 
-pushed_before : (ps : List BatchSeen) (p : BatchSeen) (n s : ℕ) → HasHalf ps n s → HasHalf (ps ++ p ∷ []) n s
+pushed_before : (ps : List QueuedState) (p : QueuedState) (n s : ℕ) → HasHalf ps n s → HasHalf (ps ++ p ∷ []) n s
 pushed_before ps p n s (k, l, half, is) =
     let e : batch_at (ps ++ p ∷ []) k ≡ batch_at ps k = get_or_append_left ps (p ∷ []) no_batch k l in
-    (k, (let a = length-append ps (p ∷ []) in omega (arith, l, a)), subst (λ z. IsHalf n z) (sym e) half, ap (λ (z : BatchSeen). z.sender) e ∙ is)
+    (k, (let a = length-append ps (p ∷ []) in omega (arith, l, a)), subst (λ z. IsHalf n z) (sym e) half, ap (λ (z : QueuedState). z.sender) e ∙ is)
 
-pushed_here : (ps : List BatchSeen) (p : BatchSeen) → p.linked ≡ false → HasHalf (ps ++ p ∷ []) p.number p.sender
+pushed_here : (ps : List QueuedState) (p : QueuedState) → p.linked ≡ false → HasHalf (ps ++ p ∷ []) p.number p.sender
 pushed_here ps p half =
     let e : batch_at (ps ++ p ∷ []) (length ps) ≡ p = get_or-append_seam ps p [] no_batch in
-    (length ps, (let a = length-append ps (p ∷ []) in omega (arith, a)), subst (λ z. IsHalf p.number z) (sym e) (refl, half), ap (λ (z : BatchSeen). z.sender) e)
+    (length ps, (let a = length-append ps (p ∷ []) in omega (arith, a)), subst (λ z. IsHalf p.number z) (sym e) (refl, half), ap (λ (z : QueuedState). z.sender) e)
 
-pushed_cases : (ps : List BatchSeen) (p : BatchSeen) (n s : ℕ) → HasHalf (ps ++ p ∷ []) n s → HasHalf ps n s ⊎ ((p.number ≡ n) × (p.sender ≡ s))
+pushed_cases : (ps : List QueuedState) (p : QueuedState) (n s : ℕ) → HasHalf (ps ++ p ∷ []) n s → HasHalf ps n s ⊎ ((p.number ≡ n) × (p.sender ≡ s))
 pushed_cases ps p n s (k, l, half, is) =
     ⊎_elim (λ (m : k < length ps).
     let e : batch_at (ps ++ p ∷ []) k ≡ batch_at ps k = get_or_append_left ps (p ∷ []) no_batch k m in
-    inl (k, m, subst (λ z. IsHalf n z) e half, sym (ap (λ (z : BatchSeen). z.sender) e) ∙ is))
+    inl (k, m, subst (λ z. IsHalf n z) e half, sym (ap (λ (z : QueuedState). z.sender) e) ∙ is))
     (λ (m : length ps ≤ k).
     let last : k ≡ length ps = (let a = length-append ps (p ∷ []) in omega (arith, l, m, a)) in
     let e : batch_at (ps ++ p ∷ []) k ≡ p = ap (batch_at (ps ++ p ∷ [])) last ∙ get_or-append_seam ps p [] no_batch in
-    inr ((subst (λ z. IsHalf n z) e half).0, sym (ap (λ (z : BatchSeen). z.sender) e) ∙ is)) (cases_lt k (length ps))
+    inr ((subst (λ z. IsHalf n z) e half).0, sym (ap (λ (z : QueuedState). z.sender) e) ∙ is)) (cases_lt k (length ps))
 
-popped : (p : BatchSeen) (ps : List BatchSeen) (n s : ℕ) → p.linked ≡ true → HasHalf (p ∷ ps) n s → HasHalf ps n s
+popped : (p : QueuedState) (ps : List QueuedState) (n s : ℕ) → p.linked ≡ true → HasHalf (p ∷ ps) n s → HasHalf ps n s
 popped p ps n s linked (zero, l, half, is) = absurd (cc)
 popped p ps n s linked (suc k, l, half, is) = (k, omega (arith, l), half, is)
 
-popped_back : (p : BatchSeen) (ps : List BatchSeen) (n s : ℕ) → HasHalf ps n s → HasHalf (p ∷ ps) n s
+popped_back : (p : QueuedState) (ps : List QueuedState) (n s : ℕ) → HasHalf ps n s → HasHalf (p ∷ ps) n s
 popped_back p ps n s (k, l, half, is) = (suc k, omega (arith, l), half, is)
 
 -- the inbox with the batch at a place linked
-abbrev pub linked_at : List BatchSeen → ℕ → List BatchSeen
+abbrev pub linked_at : List QueuedState → ℕ → List QueuedState
 linked_at ps k = set ps k (as_linked (batch_at ps k))
 
 -- two places with one number are one
-one_place : (ps : List BatchSeen) (i j : ℕ) → NumbersRise ps → i < length ps → j < length ps → (batch_at ps i).number ≡ (batch_at ps j).number → i ≡ j
+one_place : (ps : List QueuedState) (i j : ℕ) → NumbersRise ps → i < length ps → j < length ps → (batch_at ps i).number ≡ (batch_at ps j).number → i ≡ j
 one_place ps i j rise l m e =
     ⊎_elim (λ (below : i < j). let r = rise i j no_batch below m in absurd (omega (arith, r, e)))
     (λ (above : j ≤ i). ⊎_elim (λ (same : (eqb i j ≡ true) × (i ≡ j)). same.1)
     (λ (other : (eqb i j ≡ false) × (i ≢ j)). let ne = other.1 in let r = rise j i no_batch (omega (arith, above, ne)) l in absurd (omega (arith, r, e))) (eqb_tells i j)) (cases_lt i j)
 
-linked_cases : (ps : List BatchSeen) (k number n s : ℕ) → NumbersRise ps → k < length ps → IsHalf number (batch_at ps k) → HasHalf (linked_at ps k) n s → HasHalf ps n s × (n ≢ number)
+linked_cases : (ps : List QueuedState) (k number n s : ℕ) → NumbersRise ps → k < length ps → IsHalf number (batch_at ps k) → HasHalf (linked_at ps k) n s → HasHalf ps n s × (n ≢ number)
 linked_cases ps k number n s rise l is_half (i, m, half, is) =
     let m' : i < length ps = (let e = length-set ps k (as_linked (batch_at ps k)) in omega (arith, m, e)) in
     ⊎_elim (λ (same : (eqb i k ≡ true) × (i ≡ k)).
     let e : batch_at (linked_at ps k) i ≡ as_linked (batch_at ps k) = ap (batch_at (linked_at ps k)) same.1 ∙ get_or-set_same ps k (as_linked (batch_at ps k)) no_batch l in
-    let says : true ≡ false = sym (ap (λ (z : BatchSeen). z.linked) e) ∙ half.1 in absurd (cc))
+    let says : true ≡ false = sym (ap (λ (z : QueuedState). z.linked) e) ∙ half.1 in absurd (cc))
     (λ (other : (eqb i k ≡ false) × (i ≢ k)).
     let e : batch_at (linked_at ps k) i ≡ batch_at ps i = get_or-set_other ps k i (as_linked (batch_at ps k)) no_batch other.1 in
     let was : IsHalf n (batch_at ps i) = subst (λ z. IsHalf n z) e half in
-    ((i, m', was, sym (ap (λ (z : BatchSeen). z.sender) e) ∙ is), λ (q : n ≡ number). other.1 (one_place ps i k rise m' l (was.0 ∙ (q ∙ sym is_half.0))))) (eqb_tells i k)
+    ((i, m', was, sym (ap (λ (z : QueuedState). z.sender) e) ∙ is), λ (q : n ≡ number). other.1 (one_place ps i k rise m' l (was.0 ∙ (q ∙ sym is_half.0))))) (eqb_tells i k)
 
-linked_others : (ps : List BatchSeen) (k number n s : ℕ) → IsHalf number (batch_at ps k) → HasHalf ps n s → n ≢ number → HasHalf (linked_at ps k) n s
+linked_others : (ps : List QueuedState) (k number n s : ℕ) → IsHalf number (batch_at ps k) → HasHalf ps n s → n ≢ number → HasHalf (linked_at ps k) n s
 linked_others ps k number n s is_half (i, m, half, is) ne =
     let apart : i ≢ k = λ (q : i ≡ k). ne (sym half.0 ∙ (ap (λ z. (batch_at ps z).number) q ∙ is_half.0)) in
     let e : batch_at (linked_at ps k) i ≡ batch_at ps i = get_or-set_other ps k i (as_linked (batch_at ps k)) no_batch apart in
-    (i, (let q = length-set ps k (as_linked (batch_at ps k)) in omega (arith, m, q)), subst (λ z. IsHalf n z) (sym e) half, ap (λ (z : BatchSeen). z.sender) e ∙ is)
+    (i, (let q = length-set ps k (as_linked (batch_at ps k)) in omega (arith, m, q)), subst (λ z. IsHalf n z) (sym e) half, ap (λ (z : QueuedState). z.sender) e ∙ is)
 
 -- ---- in the inboxes of all desks, where that of b is another
 
-set_here : (old : List (List BatchSeen)) (b : ℕ) (ps : List BatchSeen) (n s : ℕ) → b < length old → HasHalf ps n s → WaitsHalf (set old b ps) n s b
+set_here : (old : List (List QueuedState)) (b : ℕ) (ps : List QueuedState) (n s : ℕ) → b < length old → HasHalf ps n s → WaitsHalf (set old b ps) n s b
 set_here old b ps n s l h =
     ((let e = length-set old b ps in omega (arith, l, e)), subst (λ z. HasHalf z n s) (sym (get_or-set_same old b ps [] l)) h)
 
-set_other : (old : List (List BatchSeen)) (b : ℕ) (ps : List BatchSeen) (n s c : ℕ) → c ≢ b → WaitsHalf old n s c → WaitsHalf (set old b ps) n s c
+set_other : (old : List (List QueuedState)) (b : ℕ) (ps : List QueuedState) (n s c : ℕ) → c ≢ b → WaitsHalf old n s c → WaitsHalf (set old b ps) n s c
 set_other old b ps n s c ne (l, h) =
     ((let e = length-set old b ps in omega (arith, l, e)), subst (λ z. HasHalf z n s) (sym (get_or-set_other old b c ps [] ne)) h)
 
-set_cases : (old : List (List BatchSeen)) (b : ℕ) (ps : List BatchSeen) (n s c : ℕ) → b < length old → WaitsHalf (set old b ps) n s c
+set_cases : (old : List (List QueuedState)) (b : ℕ) (ps : List QueuedState) (n s c : ℕ) → b < length old → WaitsHalf (set old b ps) n s c
     → ((c ≡ b) × HasHalf ps n s) ⊎ ((c ≢ b) × WaitsHalf old n s c)
 set_cases old b ps n s c l (m, h) =
     ⊎_elim (λ (same : (eqb c b ≡ true) × (c ≡ b)).
@@ -95,7 +95,7 @@ set_cases old b ps n s c l (m, h) =
 
 -- ---- the index, after a batch is taken
 
-pub index_taken : (old : List (List BatchSeen)) (v : UnlinkedSeen) (b : ℕ) (p : BatchSeen) (ps : List BatchSeen) → IsIndexOf old v → b < length old → inbox_at old b ≡ p ∷ ps → p.linked ≡ true
+pub index_taken : (old : List (List QueuedState)) (v : UnlinkedState) (b : ℕ) (p : QueuedState) (ps : List QueuedState) → IsIndexOf old v → b < length old → inbox_at old b ≡ p ∷ ps → p.linked ≡ true
     → IsIndexOf (set old b ps) v
 index_taken old v b p ps index l front linked = record {
   desks = index.desks ∙ sym (length-set old b ps);
@@ -112,7 +112,7 @@ index_taken old v b p ps index l front linked = record {
 }
 
 -- or nothing is
-pub index_after_take : (old : List (List BatchSeen)) (v : UnlinkedSeen) (b : ℕ) (x new : List BatchSeen) (result : Option BatchState) → IsIndexOf old v → b < length old → x ≡ get_or old b x
+pub index_after_take : (old : List (List QueuedState)) (v : UnlinkedState) (b : ℕ) (x new : List QueuedState) (result : Option BatchState) → IsIndexOf old v → b < length old → x ≡ get_or old b x
     → MatchOption result (HasNoFront x × (new ≡ x)) (λ (batch : BatchState). LeavesFront batch x new) → IsIndexOf (set old b new) v
 index_after_take old v b x new None index l read left =
     let same : set old b new ≡ old = ap (set old b) (left.1 ∙ sym (inbox_read old b x l read)) ∙ set-get_or old b [] in
@@ -127,7 +127,7 @@ none_some a e = absurd (cc)
 
 -- ---- after a batch is sent
 
-pub index_sent : (old : List (List BatchSeen)) (v w : UnlinkedSeen) (t number sender : ℕ) (p : BatchSeen) → IsIndexOf old v → t < length old → p.number ≡ number → p.sender ≡ sender
+pub index_sent : (old : List (List QueuedState)) (v w : UnlinkedState) (t number sender : ℕ) (p : QueuedState) → IsIndexOf old v → t < length old → p.number ≡ number → p.sender ≡ sender
     → p.linked ≡ false → half_of v number ≡ None → w.desks ≡ v.desks → ((n : ℕ) → half_of w n ≡ cond (nat_eq number n) (Some (Entry sender t)) (half_of v n))
     → IsIndexOf (set old t (inbox_at old t ++ p ∷ [])) w
 index_sent old v w t number sender p index l is_number is_sender half absent desks becomes =
@@ -165,7 +165,7 @@ index_sent old v w t number sender p index l is_number is_sender half absent des
     }
 
 -- an index that answers as another does
-index_alike : (old : List (List BatchSeen)) (v w : UnlinkedSeen) → IsIndexOf old v → w.desks ≡ v.desks → ((n : ℕ) → half_of w n ≡ half_of v n) → IsIndexOf old w
+index_alike : (old : List (List QueuedState)) (v w : UnlinkedState) → IsIndexOf old v → w.desks ≡ v.desks → ((n : ℕ) → half_of w n ≡ half_of v n) → IsIndexOf old w
 index_alike old v w index desks same = record {
   desks = desks ∙ index.desks;
   waits = λ n h found. index.waits n h (sym (same n) ∙ found);
@@ -173,14 +173,14 @@ index_alike old v w index desks same = record {
 }
 
 -- a number that wasn't there was taken out, at once or after it came
-pub index_without : (old : List (List BatchSeen)) (v w : UnlinkedSeen) (number : ℕ) → IsIndexOf old v → half_of v number ≡ None → w.desks ≡ v.desks
+pub index_without : (old : List (List QueuedState)) (v w : UnlinkedState) (number : ℕ) → IsIndexOf old v → half_of v number ≡ None → w.desks ≡ v.desks
     → ((n : ℕ) → half_of w n ≡ cond (nat_eq number n) None (half_of v n)) → IsIndexOf old w
 index_without old v w number index absent desks removed =
     index_alike old v w index desks (λ n.
     ⊎_elim (λ (same : (eqb number n ≡ true) × (number ≡ n)). removed n ∙ (ap (λ z. cond z None (half_of v n)) same.0 ∙ (sym absent ∙ ap (half_of v) same.1)))
     (λ (other : (eqb number n ≡ false) × (number ≢ n)). removed n ∙ ap (λ z. cond z None (half_of v n)) other.0) (eqb_tells number n))
 
-pub index_refused : (old : List (List BatchSeen)) (v w u : UnlinkedSeen) (number : ℕ) (h : Unlinked) → IsIndexOf old v → half_of v number ≡ None → w.desks ≡ v.desks → u.desks ≡ w.desks
+pub index_refused : (old : List (List QueuedState)) (v w u : UnlinkedState) (number : ℕ) (h : Unlinked) → IsIndexOf old v → half_of v number ≡ None → w.desks ≡ v.desks → u.desks ≡ w.desks
     → ((n : ℕ) → half_of w n ≡ cond (nat_eq number n) (Some h) (half_of v n)) → ((n : ℕ) → half_of u n ≡ cond (nat_eq number n) None (half_of w n)) → IsIndexOf old u
 index_refused old v w u number h index absent desks desks' added removed =
     index_without old v u number index absent (desks' ∙ desks) (λ n.
@@ -191,15 +191,15 @@ index_refused old v w u number h index absent desks desks' added removed =
     (ap (λ z. cond z (Some h) (half_of v n)) other.0 ∙ sym (ap (λ z. cond z None (half_of v n)) other.0))))) (eqb_tells number n))
 
 -- a number above all is not there
-pub absent_above : (old : List (List BatchSeen)) (v : UnlinkedSeen) (number : ℕ) (o : Option Unlinked) → IsIndexOf old v
-    → ((b : ℕ) → b < length old → All (λ (p : BatchSeen). p.number < number) (inbox_at old b)) → half_of v number ≡ o → o ≡ None
+pub absent_above : (old : List (List QueuedState)) (v : UnlinkedState) (number : ℕ) (o : Option Unlinked) → IsIndexOf old v
+    → ((b : ℕ) → b < length old → All (λ (p : QueuedState). p.number < number) (inbox_at old b)) → half_of v number ≡ o → o ≡ None
 absent_above old v number None index below is = refl
 absent_above old v number (Some h) index below is =
     let (l, (k, m, half, sender)) = index.waits number h is in let b = below h.inbox l k no_batch m in let e = half.0 in absurd (omega (arith, b, e))
 
 -- ---- after a batch is linked
 
-pub index_linked : (old : List (List BatchSeen)) (v w : UnlinkedSeen) (b k number : ℕ) → IsIndexOf old v → NumbersRise (inbox_at old b) → b < length old → k < length (inbox_at old b)
+pub index_linked : (old : List (List QueuedState)) (v w : UnlinkedState) (b k number : ℕ) → IsIndexOf old v → NumbersRise (inbox_at old b) → b < length old → k < length (inbox_at old b)
     → IsHalf number (batch_at (inbox_at old b) k) → w.desks ≡ v.desks → ((n : ℕ) → half_of w n ≡ cond (nat_eq number n) None (half_of v n))
     → IsIndexOf (set old b (linked_at (inbox_at old b) k)) w
 index_linked old v w b k number index rise l m half desks becomes =
@@ -233,19 +233,19 @@ index_linked old v w b k number index rise l m half desks becomes =
 -- ---- what the index tells
 
 -- a batch that still has to be linked is known by its number, from any stand-in
-half_known : (old : List (List BatchSeen)) (v : UnlinkedSeen) (b k number : ℕ) (d : BatchSeen) → IsIndexOf old v → b < length old → k < length (inbox_at old b)
+half_known : (old : List (List QueuedState)) (v : UnlinkedState) (b k number : ℕ) (d : QueuedState) → IsIndexOf old v → b < length old → k < length (inbox_at old b)
     → IsHalf number (get_or (inbox_at old b) k d)
     → half_of v number ≡ Some (Entry (get_or (inbox_at old b) k d).sender b)
 half_known old v b k number d index l m half =
     let e : get_or (inbox_at old b) k d ≡ batch_at (inbox_at old b) k = get_or_default (inbox_at old b) k d no_batch m in
-    index.known number (get_or (inbox_at old b) k d).sender b (l, (k, m, subst (λ z. IsHalf number z) e half, sym (ap (λ (z : BatchSeen). z.sender) e)))
+    index.known number (get_or (inbox_at old b) k d).sender b (l, (k, m, subst (λ z. IsHalf number z) e half, sym (ap (λ (z : QueuedState). z.sender) e)))
 
-pub none_waits : (old : List (List BatchSeen)) (v : UnlinkedSeen) (number : ℕ) → IsIndexOf old v → half_of v number ≡ None → NonePosted (IsHalf number) old
+pub none_waits : (old : List (List QueuedState)) (v : UnlinkedState) (number : ℕ) → IsIndexOf old v → half_of v number ≡ None → NoneQueued (IsHalf number) old
 none_waits old v number index absent b l k d m half = none_some _ (sym absent ∙ half_known old v b k number d index l m half)
 
-pub tells_half : (old : List (List BatchSeen)) (v : UnlinkedSeen) (sender : ℕ) (answer : Bool) → IsIndexOf old v
+pub tells_half : (old : List (List QueuedState)) (v : UnlinkedState) (sender : ℕ) (answer : Bool) → IsIndexOf old v
     → MatchBool answer ((n : ℕ) × (h : Unlinked) × (half_of v n ≡ Some h) × (h.sender ≡ sender)) ((n : ℕ) (h : Unlinked) → half_of v n ≡ Some h → h.sender ≢ sender)
-    → MatchBool answer (SomePosted (IsHalfOf sender) old) (NonePosted (IsHalfOf sender) old)
+    → MatchBool answer (SomeQueued (IsHalfOf sender) old) (NoneQueued (IsHalfOf sender) old)
 tells_half old v sender true index (n, h, found, is) =
     let (l, (k, m, half, sent)) = index.waits n h found in
     (h.inbox, l, (k, batch_at (inbox_at old h.inbox) k, m, get_or_default (inbox_at old h.inbox) k (batch_at (inbox_at old h.inbox) k) no_batch m, (sent ∙ is, half.1)))
@@ -255,11 +255,11 @@ tells_half old v sender false index none = λ b l k d m half.
 -- so many inboxes with no batch, and nothing in the index
 pub index_new : (count : ℕ) → IsIndexOf (replicate count []) (record { desks = count; entries = [] })
 index_new count = record {
-  desks = sym (length-replicate {A = List BatchSeen} count []);
+  desks = sym (length-replicate {A = List QueuedState} count []);
   waits = λ number h found. absurd (cc);
   known = λ number sender inbox (m, (k, l, half, is)).
-      let n : inbox < count = subst (λ z. inbox < z) (length-replicate {A = List BatchSeen} count []) m in
-      let none : inbox_at (replicate count []) inbox ≡ [] = get_or-replicate {A = List BatchSeen} count inbox [] [] n in
-      let e : k < 0 = subst (λ (z : List BatchSeen). k < length z) none l in
+      let n : inbox < count = subst (λ z. inbox < z) (length-replicate {A = List QueuedState} count []) m in
+      let none : inbox_at (replicate count []) inbox ≡ [] = get_or-replicate {A = List QueuedState} count inbox [] [] n in
+      let e : k < 0 = subst (λ (z : List QueuedState). k < length z) none l in
       absurd (omega (arith, e));
 }

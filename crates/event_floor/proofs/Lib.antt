@@ -5,8 +5,8 @@ pub mod UnlinkedLaws
 pub mod HeldLaws
 pub mod IndexLaws
 pub mod ListLaws
-pub mod PostLaws
+pub mod InboxLaws
 pub mod RiseLaws
-pub mod SeatLaws
+pub mod DeskLaws
 pub mod headline
 pub mod StepLaws

@@ -6,18 +6,18 @@ use Rattle.std.proofs.lemmas.List.{get_or_read, get_or_append_left, length-appen
 use Rattle.std.proofs.Math.Seq.{get_or-append_seam}
 use Rattle.std.specs.Prelude.{Bool, true, false, IsTrue, ◌↔◌}
 use Rattle.std.specs.List.Sorted.{IsNonDecreasingBy}
-use Rattle.event_floor.specs.Posted.{BatchSeen, NumbersRise, IsHalf}
+use Rattle.event_floor.specs.Inboxes.{QueuedState, NumbersRise, IsHalf}
 
 -- so they don't fall
-pub rises_weakly : (ps : List BatchSeen) → NumbersRise ps → IsNonDecreasingBy (λ (p : BatchSeen). p.number) ps
+pub rises_weakly : (ps : List QueuedState) → NumbersRise ps → IsNonDecreasingBy (λ (p : QueuedState). p.number) ps
 rises_weakly ps h i j d l m =
     ⊎_elim (λ (same : _ × (i ≡ j)). rw same.1 (omega arith))
     (λ (other : _ × (i ≢ j)). let e = other.1 in let r = h i j d (omega (arith, l, e)) m in omega (arith, r)) (eqb_tells i j)
 
 -- no batch has the number, where the first whose number isn't below it isn't such a batch
-pub none_half : (ps : List BatchSeen) (number i : ℕ) → NumbersRise ps → ((k : ℕ) (d : BatchSeen) → k < i → (get_or ps k d).number < number)
-    → ((k : ℕ) (d : BatchSeen) → i ≤ k → k < length ps → number ≤ (get_or ps k d).number) → ((d : BatchSeen) → i < length ps → IsHalf number (get_or ps i d) → ⊥)
-    → All (λ (p : BatchSeen). IsHalf number p → ⊥) ps
+pub none_half : (ps : List QueuedState) (number i : ℕ) → NumbersRise ps → ((k : ℕ) (d : QueuedState) → k < i → (get_or ps k d).number < number)
+    → ((k : ℕ) (d : QueuedState) → i ≤ k → k < length ps → number ≤ (get_or ps k d).number) → ((d : QueuedState) → i < length ps → IsHalf number (get_or ps i d) → ⊥)
+    → All (λ (p : QueuedState). IsHalf number p → ⊥) ps
 none_half ps number i h below above other k d l half =
     let is = half.0 in
     ⊎_elim (λ (m : k < i). let b = below k d m in absurd (omega (arith, b, is)))
@@ -27,15 +27,15 @@ none_half ps number i h below above other k d l half =
     let a = above i d (omega arith) (omega (arith, m, l)) in let r = h i k d m l in absurd (omega (arith, a, r, is))) (eqb_tells k i)) (cases_lt k i)
 
 -- and such a place isn't one, where its batch was asked
-pub not_half : (ps : List BatchSeen) (number i : ℕ) (x : BatchSeen) (answer : Bool) → (IsTrue answer ↔ IsHalf number x) → answer ≡ false → x ≡ get_or ps i x
-    → (d : BatchSeen) → i < length ps → IsHalf number (get_or ps i d) → ⊥
+pub not_half : (ps : List QueuedState) (number i : ℕ) (x : QueuedState) (answer : Bool) → (IsTrue answer ↔ IsHalf number x) → answer ≡ false → x ≡ get_or ps i x
+    → (d : QueuedState) → i < length ps → IsHalf number (get_or ps i d) → ⊥
 not_half ps number i x answer asked denied read d l half =
     let says : answer ≡ true = asked.1 (subst (λ z. IsHalf number z) (sym (get_or_read ps i x l read d)) half) in
     let both : false ≡ true = sym denied ∙ says in
     absurd (cc)
 
 -- a batch with a greater number than all others goes behind them
-pub rises_sent : (ps : List BatchSeen) (p : BatchSeen) → NumbersRise ps → All (λ (q : BatchSeen). q.number < p.number) ps → NumbersRise (ps ++ p ∷ [])
+pub rises_sent : (ps : List QueuedState) (p : QueuedState) → NumbersRise ps → All (λ (q : QueuedState). q.number < p.number) ps → NumbersRise (ps ++ p ∷ [])
 rises_sent ps p h below i j d l m =
     let long = length-append ps (p ∷ []) in
     ⊎_elim (λ (k : j < length ps).

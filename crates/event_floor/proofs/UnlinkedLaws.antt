@@ -12,7 +12,7 @@ use Rattle.std.proofs.lemmas.Map.{lookup-none}
 use Rattle.std.proofs.lemmas.Map.Entries.{length-values_of, lookup_head, lookup_tail, none_past_head, sum_by_values_permutation, sum_by-remove_entry}
 use Rattle.std.proofs.lemmas.Map.Keys.{IsDistinct-tail}
 use Rattle.event_floor.specs.declared.unlinked.Unlinked.{Unlinked}
-use Rattle.event_floor.specs.Unlinked.{UnlinkedSeen, AreCounted, sent_by}
+use Rattle.event_floor.specs.Unlinked.{UnlinkedState, AreCounted, sent_by}
 
 -- a batch counts once for its sender, and not for the others
 abbrev weight : ℕ → Unlinked → ℕ
@@ -129,9 +129,9 @@ sender_within counts es n h c found = subst (λ (z : Option Unlinked). IfSome z 
 pub tells_sent : (sender x : ℕ) (es : List (ℕ × Unlinked)) → IsDistinct nat_eq (keys_of es) → x ≡ sent_by sender es
     → MatchBool (not (nat_eq x 0)) (SentOne sender es) ((n : ℕ) (h : Unlinked) → lookup (nat_eq n) es ≡ Some h → h.sender ≢ sender)
 tells_sent sender x es distinct is =
-    let Told = λ (b : Bool). MatchBool (not b) (SentOne sender es) ((n : ℕ) (h : Unlinked) → lookup (nat_eq n) es ≡ Some h → h.sender ≢ sender) in
-    ⊎_elim (λ (none : (eqb x 0 ≡ true) × (x ≡ 0)). subst Told (sym none.0) (sent_none sender es (sym is ∙ none.1)))
-    (λ (some : (eqb x 0 ≡ false) × (x ≢ 0)). let ne = some.1 in subst Told (sym some.0) (sent_some sender es distinct (omega (arith, is, ne)))) (eqb_tells x 0)
+    let SlotLists = λ (b : Bool). MatchBool (not b) (SentOne sender es) ((n : ℕ) (h : Unlinked) → lookup (nat_eq n) es ≡ Some h → h.sender ≢ sender) in
+    ⊎_elim (λ (none : (eqb x 0 ≡ true) × (x ≡ 0)). subst SlotLists (sym none.0) (sent_none sender es (sym is ∙ none.1)))
+    (λ (some : (eqb x 0 ≡ false) × (x ≢ 0)). let ne = some.1 in subst SlotLists (sym some.0) (sent_some sender es distinct (omega (arith, is, ne)))) (eqb_tells x 0)
 
 -- with no batch, the count of each desk is 0
 pub none_counted : (n : ℕ) (es : List (ℕ × Unlinked)) (counts : List ℕ) → es ≡ [] → counts ≡ replicate n 0 → AreCounted counts es
@@ -143,7 +143,7 @@ none_counted n es counts none zeros = rw (none, zeros) (record {
 })
 
 pub none_seen : (n desks : ℕ) (es : List (ℕ × Unlinked)) (counts : List ℕ) → es ≡ [] → counts ≡ replicate n 0 → n ≡ desks
-    → let v : UnlinkedSeen = record { desks = length counts; entries = es } in v ≡ record { desks = desks; entries = [] }
+    → let v : UnlinkedState = record { desks = length counts; entries = es } in v ≡ record { desks = desks; entries = [] }
 none_seen n desks es counts none zeros all =
-    ap (λ (z : List (ℕ × Unlinked)). let v : UnlinkedSeen = record { desks = length counts; entries = z } in v) none
-    ∙ ap (λ (z : ℕ). let v : UnlinkedSeen = record { desks = z; entries = [] } in v) (ap length zeros ∙ (length-replicate n 0 ∙ all))
+    ap (λ (z : List (ℕ × Unlinked)). let v : UnlinkedState = record { desks = length counts; entries = z } in v) none
+    ∙ ap (λ (z : ℕ). let v : UnlinkedState = record { desks = z; entries = [] } in v) (ap length zeros ∙ (length-replicate n 0 ∙ all))

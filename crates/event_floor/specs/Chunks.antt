@@ -10,7 +10,7 @@ use Rattle.pool_machine.specs.declared.chunk.DrawnChunk.{DrawnChunk}
 
 -- the names of the parts of all chunks, the chunks that are drawn, and the bytes of the parts of the others, all in the
 -- order of their numbers
-pub record ChunksSeen : Type 0 where
+pub record ChunksState : Type 0 where
   pub parts : List GName
   pub drawn : List DrawnChunk
   pub undrawn : List (List ℕ)

@@ -11,7 +11,7 @@ use Rattle.pool_desk.specs.Desks.{DeskState}
 
 -- a batch that waits: its number on the floor, who sent it, whose inbox it is in, how numbers are read, whether it is
 -- linked, its buffers
-pub record BatchSeen : Type 0 where
+pub record QueuedState : Type 0 where
   pub number : ℕ
   pub sender : ℕ
   pub address : ℕ
@@ -20,7 +20,7 @@ pub record BatchSeen : Type 0 where
   pub buffers : List Buffer
 
 -- a batch as it was sent, and the same batch once it is linked
-abbrev pub sent_as : ℕ → BatchState → BatchSeen
+abbrev pub sent_as : ℕ → BatchState → QueuedState
 sent_as number b = record {
   number = number;
   sender = b.sender;
@@ -30,11 +30,11 @@ sent_as number b = record {
   buffers = b.items;
 }
 
-abbrev pub as_linked : BatchSeen → BatchSeen
+abbrev pub as_linked : QueuedState → QueuedState
 as_linked p = record p { linked = true }
 
 -- a batch that no desk stands for
-abbrev pub no_batch : BatchSeen
+abbrev pub no_batch : QueuedState
 no_batch = record {
   number = 0;
   sender = 0;
@@ -45,56 +45,56 @@ no_batch = record {
 }
 
 -- the inbox of a desk, in order of arrival
-abbrev pub inbox_at : List (List BatchSeen) → ℕ → List BatchSeen
+abbrev pub inbox_at : List (List QueuedState) → ℕ → List QueuedState
 inbox_at inboxes b = slice_index_or inboxes b []
 
 -- the buffers of these batches
-abbrev pub buffers_in : List BatchSeen → List Buffer
-buffers_in posted = flat_map (λ (p : BatchSeen). p.buffers) posted
+abbrev pub buffers_in : List QueuedState → List Buffer
+buffers_in queued = flat_map (λ (p : QueuedState). p.buffers) queued
 
 -- it has this number, and still has to be linked
-abbrev pub IsHalf : ℕ → BatchSeen → Type 0
+abbrev pub IsHalf : ℕ → QueuedState → Type 0
 IsHalf number p = (p.number ≡ number) × (p.linked ≡ false)
 
 -- it was sent by this desk, and still has to be linked
-abbrev pub IsHalfOf : ℕ → BatchSeen → Type 0
+abbrev pub IsHalfOf : ℕ → QueuedState → Type 0
 IsHalfOf sender p = (p.sender ≡ sender) × (p.linked ≡ false)
 
 -- such a batch waits in some inbox, and in none
-abbrev pub SomePosted : (BatchSeen → Type 0) → List (List BatchSeen) → Type 0
-SomePosted P inboxes = (b : ℕ) × (b < length inboxes) × Any P (inbox_at inboxes b)
+abbrev pub SomeQueued : (QueuedState → Type 0) → List (List QueuedState) → Type 0
+SomeQueued P inboxes = (b : ℕ) × (b < length inboxes) × Any P (inbox_at inboxes b)
 
-abbrev pub NonePosted : (BatchSeen → Type 0) → List (List BatchSeen) → Type 0
-NonePosted P inboxes = (b : ℕ) → b < length inboxes → All (λ (p : BatchSeen). P p → ⊥) (inbox_at inboxes b)
+abbrev pub NoneQueued : (QueuedState → Type 0) → List (List QueuedState) → Type 0
+NoneQueued P inboxes = (b : ℕ) → b < length inboxes → All (λ (p : QueuedState). P p → ⊥) (inbox_at inboxes b)
 
 -- the batch at a place of an inbox has this number, and still has to be linked
-abbrev pub IsHalfAt : List (List BatchSeen) → ℕ → ℕ → ℕ → Type 0
+abbrev pub IsHalfAt : List (List QueuedState) → ℕ → ℕ → ℕ → Type 0
 IsHalfAt inboxes number inbox place =
     (inbox < length inboxes) × (place < length (inbox_at inboxes inbox))
     × IsHalf number (slice_index_or (inbox_at inboxes inbox) place no_batch)
 
 -- each batch has a greater number than those before it
-abbrev pub NumbersRise : List BatchSeen → Type 0
-NumbersRise posted = AllPairs (λ (p q : BatchSeen). p.number < q.number) posted
+abbrev pub NumbersRise : List QueuedState → Type 0
+NumbersRise queued = AllPairs (λ (p q : QueuedState). p.number < q.number) queued
 
 -- nothing can be taken: the inbox is empty, or its front still has to be linked
-abbrev pub HasNoFront : List BatchSeen → Type 0
+abbrev pub HasNoFront : List QueuedState → Type 0
 HasNoFront [] = Unit {0}
 HasNoFront (p ∷ ps) = p.linked ≡ false
 
 -- the desk's bucket for t left its cache and waits behind all others, as a batch of this number with so many buffers
-pub record SendsInto (before : DeskState) (t number count : ℕ) (old : List BatchSeen) (after : DeskState)
-    (new : List BatchSeen) : Type 0 where
+pub record SendsInto (before : DeskState) (t number count : ℕ) (old : List QueuedState) (after : DeskState)
+    (new : List QueuedState) : Type 0 where
   pub batch : BatchState
   pub address : batch.address ≡ t
   pub gives : GivesBucket before.digits before.number before.cached batch after.cached
   pub same_desk : after ≡ record before { cached = after.cached }
   pub counted : count ≡ capped (length batch.items)
-  pub posted : new ≡ old ++ sent_as number batch ∷ []
+  pub queued : new ≡ old ++ sent_as number batch ∷ []
 
 -- the front, a linked batch, left the inbox
-pub record LeavesFront (b : BatchState) (old new : List BatchSeen) : Type 0 where
-  pub front : BatchSeen
+pub record LeavesFront (b : BatchState) (old new : List QueuedState) : Type 0 where
+  pub front : QueuedState
   pub is_front : old ≡ front ∷ new
   pub linked : front.linked ≡ true
   pub address : b.address ≡ front.address
@@ -102,20 +102,20 @@ pub record LeavesFront (b : BatchState) (old new : List BatchSeen) : Type 0 wher
   pub items : b.items ≡ front.buffers
 
 -- the same of the inboxes of all desks: the batch waits in that of t, and the others stay
-pub record SendsTo (before : DeskState) (t number count : ℕ) (old : List (List BatchSeen)) (after : DeskState)
-    (new : List (List BatchSeen)) : Type 0 where
-  pub inbox : List BatchSeen
+pub record SendsTo (before : DeskState) (t number count : ℕ) (old : List (List QueuedState)) (after : DeskState)
+    (new : List (List QueuedState)) : Type 0 where
+  pub inbox : List QueuedState
   pub sends : SendsInto before t number count (inbox_at old t) after inbox
   pub same : new ≡ slice_set old t inbox
 
 -- and the front left the inbox of b
-pub record TakesFrom (batch : BatchState) (b : ℕ) (old new : List (List BatchSeen)) : Type 0 where
-  pub rest : List BatchSeen
+pub record TakesFrom (batch : BatchState) (b : ℕ) (old new : List (List QueuedState)) : Type 0 where
+  pub rest : List QueuedState
   pub leaves : LeavesFront batch (inbox_at old b) rest
   pub same : new ≡ slice_set old b rest
 
 -- the batch of this number, which still had to be linked, is linked
-pub record LinksHalf (number : ℕ) (old new : List (List BatchSeen)) : Type 0 where
+pub record LinksHalf (number : ℕ) (old new : List (List QueuedState)) : Type 0 where
   pub inbox : ℕ
   pub place : ℕ
   pub half : IsHalfAt old number inbox place

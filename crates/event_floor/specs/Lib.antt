@@ -1,9 +1,9 @@
-pub mod Answers
+pub mod DeskAnswers
 pub mod Chunks
 pub mod Floors
 pub mod Unlinked
 pub mod Lent
-pub mod Posted
-pub mod Seats
+pub mod Inboxes
+pub mod Desks
 pub mod Steps
 pub mod headline

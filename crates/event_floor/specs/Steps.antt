@@ -30,20 +30,20 @@ use Rattle.pool_machine.specs.declared.refusal.Refusal.TheVariants.{NoDesk, Idle
 use Rattle.pool_machine.specs.declared.refusal.Refusal.TheVariants.{NoChunk, NotLent, NothingFor, NotAnOwner, ToSelf}
 use Rattle.pool_machine.specs.declared.refusal.Refusal.TheVariants.{NoBatch, Nothing, Unsettled, Held, NoMemory}
 use Rattle.pool_machine.specs.declared.refusal.Refusal.TheVariants.{BadClass, Spent}
-use Rattle.event_floor.specs.declared.any_desk.AnyDesk.TheVariants.{Idle as IdleSeat}
-use Rattle.event_floor.specs.Seats.{adopted, retired}
+use Rattle.event_floor.specs.declared.any_desk.AnyDesk.TheVariants.{Idle as IdleDesk}
+use Rattle.event_floor.specs.Desks.{adopted, retired}
 use Rattle.event_floor.specs.Lent.{lent_at, place_of}
-use Rattle.event_floor.specs.Posted.{BatchSeen, inbox_at, sent_as, as_linked, no_batch, IsHalf, IsHalfOf, IsHalfAt}
-use Rattle.event_floor.specs.Posted.{SomePosted, NonePosted, HasNoFront}
-use Rattle.event_floor.specs.Floors.{FloorSeen, desk_count, profile_seen, IsIdle, IsHeld, with_seat, with_desk}
+use Rattle.event_floor.specs.Inboxes.{QueuedState, inbox_at, sent_as, as_linked, no_batch, IsHalf, IsHalfOf, IsHalfAt}
+use Rattle.event_floor.specs.Inboxes.{SomeQueued, NoneQueued, HasNoFront}
+use Rattle.event_floor.specs.Floors.{FloorState, desk_count, profile_seen, IsIdle, IsHeld, with_any_desk, with_desk}
 use Rattle.event_floor.specs.Floors.{with_inbox, last_number}
 
 -- ---- refusals, each with all that was looked at before
 
-abbrev pub MeetsIdle : FloorSeen → ℕ → Type 0
+abbrev pub MeetsIdle : FloorState → ℕ → Type 0
 MeetsIdle v a = (d : IdleState) × IsIdle v a d
 
-abbrev pub MeetsHeld : FloorSeen → ℕ → Type 0
+abbrev pub MeetsHeld : FloorState → ℕ → Type 0
 MeetsHeld v a = (d : DeskState) × IsHeld v a d
 
 -- a slot of the class is at home
@@ -51,32 +51,32 @@ abbrev pub HasHome : DeskState → ℕ → Type 0
 HasHome d class = HasClass class d.home
 
 -- the classes that a claim may name are below this number
-abbrev pub class_limit : FloorSeen → ℕ
+abbrev pub class_limit : FloorState → ℕ
 class_limit v = classes_of (profile_seen v)
 
 -- the largest number of bytes that a request may ask for
-abbrev pub size_limit : FloorSeen → ℕ
+abbrev pub size_limit : FloorState → ℕ
 size_limit v = largest_of (profile_seen v)
 
 -- both desks are there, a is held and is d, and this is why it has no batch for t; None: it has one
-abbrev pub Routes : FloorSeen → ℕ → ℕ → DeskState → Option RouteError → Type 0
+abbrev pub Routes : FloorState → ℕ → ℕ → DeskState → Option RouteError → Type 0
 Routes v a t d fault = IsHeld v a d × (t < desk_count v) × RouteFault v.digits a t d.cached fault
 
-abbrev pub MeetsFault : FloorSeen → ℕ → ℕ → Option RouteError → Type 0
+abbrev pub MeetsFault : FloorState → ℕ → ℕ → Option RouteError → Type 0
 MeetsFault v a t fault = (d : DeskState) × Routes v a t d fault
 
 -- a batch that waits in some inbox still has to be linked: one of this sender
-abbrev pub HasHalfOf : FloorSeen → ℕ → Type 0
-HasHalfOf v sender = SomePosted (IsHalfOf sender) v.inboxes
+abbrev pub HasHalfOf : FloorState → ℕ → Type 0
+HasHalfOf v sender = SomeQueued (IsHalfOf sender) v.inboxes
 
 -- there is none: of this number, of this sender
-abbrev pub LacksHalf : FloorSeen → ℕ → Type 0
-LacksHalf v number = NonePosted (IsHalf number) v.inboxes
+abbrev pub LacksHalf : FloorState → ℕ → Type 0
+LacksHalf v number = NoneQueued (IsHalf number) v.inboxes
 
-abbrev pub LacksHalfOf : FloorSeen → ℕ → Type 0
-LacksHalfOf v sender = NonePosted (IsHalfOf sender) v.inboxes
+abbrev pub LacksHalfOf : FloorState → ℕ → Type 0
+LacksHalfOf v sender = NoneQueued (IsHalfOf sender) v.inboxes
 
-abbrev pub Refuses : FloorSeen → Request → Refusal → Type 0
+abbrev pub Refuses : FloorState → Request → Refusal → Type 0
 Refuses v (Adopt a worker) NoDesk = desk_count v ≤ a
 Refuses v (Adopt a worker) Held = MeetsHeld v a
 Refuses v (Retire a) NoDesk = desk_count v ≤ a
@@ -113,7 +113,7 @@ Refuses v request refusal = ⊥
 -- ---- accepted requests
 
 -- the chunk drawn is the next one, its part has the name at its number, and its slots are at home with the desk
-pub record DrawsChunk (old : FloorSeen) (a class chunk : ℕ) (new : FloorSeen) : Type 0 where
+pub record DrawsChunk (old : FloorState) (a class chunk : ℕ) (new : FloorState) : Type 0 where
   pub before : DeskState
   pub after : DeskState
   pub part : Part
@@ -131,7 +131,7 @@ pub record DrawsChunk (old : FloorSeen) (a class chunk : ℕ) (new : FloorSeen) 
   }
 
 -- the desk gave out the buffer of a slot at home, and it lies in its place in the table
-pub record LendsSlot (old : FloorSeen) (a size : ℕ) (slot : Slot) (new : FloorSeen) : Type 0 where
+pub record LendsSlot (old : FloorState) (a size : ℕ) (slot : Slot) (new : FloorState) : Type 0 where
   pub before : DeskState
   pub after : DeskState
   pub buffer : Buffer
@@ -141,7 +141,7 @@ pub record LendsSlot (old : FloorSeen) (a size : ℕ) (slot : Slot) (new : Floor
   pub same : new ≡ record (with_desk old a after) { lent = slice_set old.lent (place_of slot) (Some buffer) }
 
 -- the desk was handed the lent buffer of the slot
-pub record TakesBack (old : FloorSeen) (a chunk index : ℕ) (freed : Freed) (new : FloorSeen) : Type 0 where
+pub record TakesBack (old : FloorState) (a chunk index : ℕ) (freed : Freed) (new : FloorState) : Type 0 where
   pub before : DeskState
   pub after : DeskState
   pub buffer : Buffer
@@ -153,7 +153,7 @@ pub record TakesBack (old : FloorSeen) (a chunk index : ℕ) (freed : Freed) (ne
 
 -- the desk's bucket for t left its cache, and waits in the inbox of t, behind all others, as a batch with the next
 -- number
-pub record SendsBatch (old : FloorSeen) (a t number count : ℕ) (new : FloorSeen) : Type 0 where
+pub record SendsBatch (old : FloorState) (a t number count : ℕ) (new : FloorState) : Type 0 where
   pub before : DeskState
   pub after : DeskState
   pub batch : BatchState
@@ -169,7 +169,7 @@ pub record SendsBatch (old : FloorSeen) (a t number count : ℕ) (new : FloorSee
   }
 
 -- the batch of this number, which still had to be linked, is linked
-pub record LinksBatch (old : FloorSeen) (number : ℕ) (new : FloorSeen) : Type 0 where
+pub record LinksBatch (old : FloorState) (number : ℕ) (new : FloorState) : Type 0 where
   pub inbox : ℕ
   pub place : ℕ
   pub half : IsHalfAt old.inboxes number inbox place
@@ -178,11 +178,11 @@ pub record LinksBatch (old : FloorSeen) (number : ℕ) (new : FloorSeen) : Type 
       (as_linked (slice_index_or (inbox_at old.inboxes inbox) place no_batch)))
 
 -- the front of the inbox of b, a linked batch, left it, and the desk was handed its buffers
-pub record TakesFront (old : FloorSeen) (b home on : ℕ) (new : FloorSeen) : Type 0 where
+pub record TakesFront (old : FloorState) (b home on : ℕ) (new : FloorState) : Type 0 where
   pub before : DeskState
   pub after : DeskState
-  pub front : BatchSeen
-  pub rest : List BatchSeen
+  pub front : QueuedState
+  pub rest : List QueuedState
   pub held : IsHeld old b before
   pub is_front : inbox_at old.inboxes b ≡ front ∷ rest
   pub linked : front.linked ≡ true
@@ -190,10 +190,10 @@ pub record TakesFront (old : FloorSeen) (b home on : ℕ) (new : FloorSeen) : Ty
   pub counted : Counted before.number front.buffers (record { home = home; on = on })
   pub same : new ≡ with_inbox (with_desk old b after) b rest
 
-abbrev pub Does : FloorSeen → Request → Reply → FloorSeen → Type 0
+abbrev pub Does : FloorState → Request → Reply → FloorState → Type 0
 Does old (Adopt a worker) Done new = (d : IdleState) × IsIdle old a d × (new ≡ with_desk old a (adopted worker d))
 Does old (Retire a) Done new = (d : DeskState) × IsHeld old a d × (d.cached ≡ []) × LacksHalfOf old a
-    × (new ≡ with_seat old a (IdleSeat (retired d)))
+    × (new ≡ with_any_desk old a (IdleDesk (retired d)))
 Does old (Claim a class) (Chunk k) new = DrawsChunk old a class k new
 Does old (Alloc a size) (Lent slot) new = LendsSlot old a size slot new
 Does old (Free a slot) Home new = TakesBack old a slot.0 slot.1 FreedHome new
@@ -205,6 +205,6 @@ Does old (Take b) (Counts home on) new = TakesFront old b home on new
 Does old request reply new = ⊥
 
 -- the request did what its reply says, or it was refused for this reason and changed nothing
-abbrev pub Answers : FloorSeen → Request → Result Reply Refusal → FloorSeen → Type 0
+abbrev pub Answers : FloorState → Request → Result Reply Refusal → FloorState → Type 0
 Answers old request (Ok reply) new = Does old request reply new
 Answers old request (Err refusal) new = Refuses old request refusal × (new ≡ old)

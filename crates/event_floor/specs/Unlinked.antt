@@ -3,15 +3,15 @@ use Rattle.std.specs.Prelude.{ℕ, ◌≡◌, ◌<◌, List, Option, Some, IfSom
 use Rattle.std.specs.List.{IsDistinct}
 use Rattle.std.specs.Map.{lookup, keys_of, values_of}
 use Rattle.event_floor.specs.declared.unlinked.Unlinked.{Unlinked}
-use Rattle.event_floor.specs.Posted.{BatchSeen, inbox_at, no_batch, IsHalf}
+use Rattle.event_floor.specs.Inboxes.{QueuedState, inbox_at, no_batch, IsHalf}
 
 -- how many desks there are, and the numbers of the batches, each with who sent it and in whose inbox it waits
-pub record UnlinkedSeen : Type 0 where
+pub record UnlinkedState : Type 0 where
   pub desks : ℕ
   pub entries : List (ℕ × Unlinked)
 
 -- what is known of the batch of this number; None: it doesn't have to be linked
-abbrev pub half_of : UnlinkedSeen → ℕ → Option Unlinked
+abbrev pub half_of : UnlinkedState → ℕ → Option Unlinked
 half_of v number = lookup (nat_eq number) v.entries
 
 -- how many of them this desk sent
@@ -25,16 +25,16 @@ pub record AreCounted (counts : List ℕ) (entries : List (ℕ × Unlinked)) : T
   pub counted : (sender : ℕ) → sender < length counts → slice_index_or counts sender 0 ≡ sent_by sender entries
 
 -- a batch of this number, which this desk sent, still has to be linked: one of these, and in the inbox of a desk
-abbrev pub HasHalf : List BatchSeen → ℕ → ℕ → Type 0
-HasHalf posted number sender =
-    (place : ℕ) × (place < length posted) × IsHalf number (slice_index_or posted place no_batch)
-    × ((slice_index_or posted place no_batch).sender ≡ sender)
+abbrev pub HasHalf : List QueuedState → ℕ → ℕ → Type 0
+HasHalf queued number sender =
+    (place : ℕ) × (place < length queued) × IsHalf number (slice_index_or queued place no_batch)
+    × ((slice_index_or queued place no_batch).sender ≡ sender)
 
-abbrev pub WaitsHalf : List (List BatchSeen) → ℕ → ℕ → ℕ → Type 0
+abbrev pub WaitsHalf : List (List QueuedState) → ℕ → ℕ → ℕ → Type 0
 WaitsHalf inboxes number sender inbox = (inbox < length inboxes) × HasHalf (inbox_at inboxes inbox) number sender
 
 -- the index has those batches of the inboxes that still have to be linked, and no others
-pub record IsIndexOf (inboxes : List (List BatchSeen)) (v : UnlinkedSeen) : Type 0 where
+pub record IsIndexOf (inboxes : List (List QueuedState)) (v : UnlinkedState) : Type 0 where
   pub desks : v.desks ≡ length inboxes
   pub waits : (number : ℕ) (h : Unlinked) → half_of v number ≡ Some h → WaitsHalf inboxes number h.sender h.inbox
   pub known : (number sender inbox : ℕ) → WaitsHalf inboxes number sender inbox

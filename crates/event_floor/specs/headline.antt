@@ -1,9 +1,9 @@
-pub mod Counts
-pub mod Slots
+pub mod TellsCounts
+pub mod ListsSlots
 pub mod Listing
 pub mod Whole
 pub mod Names
 pub mod Lying
 pub mod Headline
-pub mod Known
+pub mod EndsKnown
 pub mod Bytes

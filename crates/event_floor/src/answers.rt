@@ -1,6 +1,6 @@
 //! What a desk's answers are called on the floor.
 ghost use Rattle.std.specs.Prelude.{◌≡◌};
-ghost use Rattle.event_floor.specs.Answers.{reply_of, refusal_of, route_refusal};
+ghost use Rattle.event_floor.specs.DeskAnswers.{reply_of, refusal_of, route_refusal};
 
 use digit_route::RouteError;
 use pool_desk::{DeskError, Freed};

@@ -4,7 +4,7 @@ ghost use Rattle.slot_chain.specs.Buffer.{owner_limit};
 ghost use Rattle.slot_chain.specs.Slots.{slot_of};
 ghost use Rattle.digit_route.specs.Limits.{largest_limit};
 ghost use Rattle.pool_desk.specs.Homes.{slot_at};
-ghost use Rattle.event_floor.specs.Seats.{new_desks, held_by, home_of, cached_of, Releases};
+ghost use Rattle.event_floor.specs.Desks.{new_desks, held_by, home_of, cached_of, Releases};
 
 use digit_route::Digits;
 use pool_desk::{Desk, IdleDesk};
@@ -21,7 +21,7 @@ pub(crate) enum AnyDesk<'r> {
 }
 
 /// So many desks, numbered from 0, with nothing at home.
-#[tactic(auto, using(crate::proofs::FloorLaws::new_desks_length), unfolding(crate::specs::Seats::new_desks))]
+#[tactic(auto, using(crate::proofs::FloorLaws::new_desks_length), unfolding(crate::specs::Desks::new_desks))]
 pub(crate) fn idle_desks<'r>(
     alloc: Global,
     count: u32,

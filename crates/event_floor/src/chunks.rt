@@ -24,9 +24,9 @@ pub(crate) struct Chunks<'r> {
 impl<'r> Model for Chunks<'r> {
     ghost use Rattle.std.specs.Prelude.{◌+◌, ◌≤◌, length, map, reverse, vec_capacity};
     ghost use Rattle.region_cut.specs.Parts.{bytes_of};
-    ghost use Rattle.event_floor.specs.Chunks.{ChunksSeen, AreUndrawn};
+    ghost use Rattle.event_floor.specs.Chunks.{ChunksState, AreUndrawn};
 
-    ghost Value = { ChunksSeen };
+    ghost Value = { ChunksState };
 
     ghost view = { λ c. record {
       parts = c.names.all;

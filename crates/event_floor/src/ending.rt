@@ -2,7 +2,7 @@
 ghost use Rattle.std.specs.Prelude.{◌≡◌, ◌++◌, map, flat_map, IsPermutation};
 ghost use Rattle.slot_chain.specs.Buffer.{ended_of};
 ghost use Rattle.event_floor.specs.Chunks.{ended_parts};
-ghost use Rattle.event_floor.specs.headline.Known.{buffers_with, buffers_of, undrawn_parts};
+ghost use Rattle.event_floor.specs.headline.EndsKnown.{buffers_with, buffers_of, undrawn_parts};
 ghost use Rattle.event_floor.specs.headline.Names.{chunks_of};
 
 use crate::any_desk::AnyDesk;

@@ -7,7 +7,7 @@ ghost use Rattle.event_floor.specs.Floors.{desk_count, opening};
 ghost use Rattle.event_floor.specs.Steps.{Answers};
 ghost use Rattle.event_floor.specs.headline.Bytes.{Holds, KeepsBytes, EndsAsHeld};
 ghost use Rattle.event_floor.specs.headline.Headline.{Applies, Headline, Shows};
-ghost use Rattle.event_floor.specs.headline.Known.{EndsKnown};
+ghost use Rattle.event_floor.specs.headline.EndsKnown.{EndsKnown};
 ghost use Rattle.event_floor.specs.headline.Listing.{listing_of};
 ghost use Rattle.event_floor.specs.headline.Names.{IsNamed};
 ghost use Rattle.pool_machine.specs.Listing.{Shown};
@@ -30,9 +30,9 @@ pub struct Floor<'r> {
 }
 
 impl<'r> Model for Floor<'r> {
-    ghost use Rattle.event_floor.specs.Floors.{FloorSeen};
+    ghost use Rattle.event_floor.specs.Floors.{FloorState};
 
-    ghost Value = { FloorSeen };
+    ghost Value = { FloorState };
 
     ghost use Rattle.event_floor.specs.headline.Headline.{Shows};
     ghost use Rattle.event_floor.specs.headline.Names.{IsNamed};

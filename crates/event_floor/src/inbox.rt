@@ -5,8 +5,9 @@ ghost use Rattle.slot_chain.specs.Buffer.{ended_of};
 ghost use Rattle.slot_chain.specs.Counts.{capped};
 ghost use Rattle.digit_route.specs.Route.{RouteFault};
 ghost use Rattle.slot_chain.specs.Slots.{slot_of};
-ghost use Rattle.event_floor.specs.Posted.{BatchSeen, as_linked, no_batch, IsHalf, NumbersRise, buffers_in, HasNoFront};
-ghost use Rattle.event_floor.specs.Posted.{LeavesFront, SendsInto};
+ghost use Rattle.event_floor.specs.Inboxes.{QueuedState, as_linked, no_batch, IsHalf, NumbersRise, buffers_in};
+ghost use Rattle.event_floor.specs.Inboxes.{HasNoFront};
+ghost use Rattle.event_floor.specs.Inboxes.{LeavesFront, SendsInto};
 
 use crate::queued_batch::QueuedBatch;
 use digit_route::Batch;
@@ -26,9 +27,9 @@ pub(crate) struct Inbox<'r> {
 
 impl<'r> Model for Inbox<'r> {
     ghost use Rattle.std.specs.Prelude.{List};
-    ghost use Rattle.event_floor.specs.Posted.{BatchSeen, NumbersRise};
+    ghost use Rattle.event_floor.specs.Inboxes.{QueuedState, NumbersRise};
 
-    ghost Value = { List BatchSeen };
+    ghost Value = { List QueuedState };
 
     ghost view = { λ i. i.batches.items };
 
@@ -47,8 +48,8 @@ impl<'r> Inbox<'r> {
 
     // The place of the first batch whose number isn't below this one.
     fn place_of(&self, number: u32) -> usize
-        ensures below { (k : ℕ) (d : BatchSeen) → k < result → (slice_index_or self.now k d).number < number }
-        ensures above { (k : ℕ) (d : BatchSeen) → result ≤ k → k < length self.now
+        ensures below { (k : ℕ) (d : QueuedState) → k < result → (slice_index_or self.now k d).number < number }
+        ensures above { (k : ℕ) (d : QueuedState) → result ≤ k → k < length self.now
             → number ≤ (slice_index_or self.now k d).number }
         ensures rising { NumbersRise self.now }
     {
@@ -60,7 +61,7 @@ impl<'r> Inbox<'r> {
     /// the inbox, so it takes a time that grows with the logarithm of how many wait.
     pub(crate) fn find_half(&self, number: u32) -> Option<usize>
         ensures found { MatchOption result
-            (All (λ (p : BatchSeen). IsHalf number p → ⊥) self.now)
+            (All (λ (p : QueuedState). IsHalf number p → ⊥) self.now)
             (λ i. (i < length self.now) × IsHalf number (slice_index_or self.now i no_batch)) }
         ensures rising { NumbersRise self.now }
     {
@@ -83,7 +84,7 @@ impl<'r> Inbox<'r> {
     /// number. Room for it is made first, so a refusal changes nothing.
     pub(crate) fn send(&mut self, desk: &mut Desk<'r>, t: u16, number: u32) -> Result<u64, NoMemory>
         requires routes { RouteFault desk.old.digits desk.old.number t desk.old.cached None }
-        requires later { All (λ (p : BatchSeen). p.number < number) self.old }
+        requires later { All (λ (p : QueuedState). p.number < number) self.old }
         ensures sends { IfOk result (λ count. SendsInto desk.old t number count self.old desk.new self.new) }
         ensures refused { OnErr result (self.new ≡ self.old) }
         ensures refused_desk { OnErr result (desk.new ≡ desk.old) }

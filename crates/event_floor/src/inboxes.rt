@@ -5,8 +5,9 @@ ghost use Rattle.slot_chain.specs.Buffer.{ended_of};
 ghost use Rattle.slot_chain.specs.Counts.{capped};
 ghost use Rattle.digit_route.specs.Route.{RouteFault};
 ghost use Rattle.slot_chain.specs.Slots.{slot_of};
-ghost use Rattle.event_floor.specs.Posted.{BatchSeen, inbox_at, buffers_in, IsHalf, IsHalfOf, SomePosted, NonePosted};
-ghost use Rattle.event_floor.specs.Posted.{HasNoFront, SendsTo, TakesFrom, LinksHalf};
+ghost use Rattle.event_floor.specs.Inboxes.{QueuedState, inbox_at, buffers_in, IsHalf, IsHalfOf, SomeQueued};
+ghost use Rattle.event_floor.specs.Inboxes.{NoneQueued};
+ghost use Rattle.event_floor.specs.Inboxes.{HasNoFront, SendsTo, TakesFrom, LinksHalf};
 
 use crate::inbox::Inbox;
 use crate::unlinked::{Unlinked, UnlinkedIndex};
@@ -27,10 +28,10 @@ pub(crate) struct Inboxes<'r> {
 
 impl<'r> Model for Inboxes<'r> {
     ghost use Rattle.std.specs.Prelude.{List};
-    ghost use Rattle.event_floor.specs.Posted.{BatchSeen};
+    ghost use Rattle.event_floor.specs.Inboxes.{QueuedState};
     ghost use Rattle.event_floor.specs.Unlinked.{IsIndexOf};
 
-    ghost Value = { List (List BatchSeen) };
+    ghost Value = { List (List QueuedState) };
 
     ghost view = { λ i. i.inboxes.items };
 
@@ -57,7 +58,7 @@ impl<'r> Inboxes<'r> {
         requires sender { desk.old.number < length self.old }
         requires there { t < length self.old }
         requires later { (b : ℕ) → b < length self.old
-            → All (λ (p : BatchSeen). p.number < number) (inbox_at self.old b) }
+            → All (λ (p : QueuedState). p.number < number) (inbox_at self.old b) }
         ensures sends { IfOk result (λ count. SendsTo desk.old t number count self.old desk.new self.new) }
         ensures refused { OnErr result (self.new ≡ self.old) }
         ensures refused_desk { OnErr result (desk.new ≡ desk.old) }
@@ -80,7 +81,7 @@ impl<'r> Inboxes<'r> {
     /// that grows with the logarithm of how many wait there.
     pub(crate) fn link(&mut self, number: u32) -> bool
         ensures { MatchBool result (LinksHalf number self.old self.new)
-            (NonePosted (IsHalf number) self.old × (self.new ≡ self.old)) }
+            (NoneQueued (IsHalf number) self.old × (self.new ≡ self.old)) }
     {
         let Some(half) = self.unlinked.remove(number) else {
             return false;
@@ -98,7 +99,7 @@ impl<'r> Inboxes<'r> {
     /// Whether a batch of this sender still has to be linked.
     pub(crate) fn has_half_of(&self, sender: u32) -> bool
         requires { sender < length self.now }
-        ensures { MatchBool result (SomePosted (IsHalfOf sender) self.now) (NonePosted (IsHalfOf sender) self.now) }
+        ensures { MatchBool result (SomeQueued (IsHalfOf sender) self.now) (NoneQueued (IsHalfOf sender) self.now) }
     {
         self.unlinked.has_sender(sender)
     }

@@ -1,8 +1,8 @@
 //! What a floor's calls tell of the machine, as contracts of functions that do nothing.
 //!
 //! The laws of the machine itself are those of `pool_machine` (`laws`).
-ghost use Rattle.event_floor.specs.headline.Counts.{FloorsTellCounts};
-ghost use Rattle.event_floor.specs.headline.Slots.{FloorsListSlots};
+ghost use Rattle.event_floor.specs.headline.TellsCounts.{FloorsTellCounts};
+ghost use Rattle.event_floor.specs.headline.ListsSlots.{FloorsListSlots};
 
 /// What a floor counts is what the machine counts: slots at home, in caches and on their way, lent buffers and drawn
 /// chunks of any state that the floor shows.

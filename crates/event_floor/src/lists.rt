@@ -6,7 +6,7 @@ ghost use Rattle.digit_route.specs.Limits.{largest_limit};
 ghost use Rattle.event_floor.specs.Chunks.{AreNumbered};
 ghost use Rattle.event_floor.specs.Floors.{desk_count, opening, IsFloor};
 ghost use Rattle.event_floor.specs.Lent.{chunk_places};
-ghost use Rattle.event_floor.specs.Seats.{new_desks};
+ghost use Rattle.event_floor.specs.Desks.{new_desks};
 ghost use Rattle.event_floor.specs.Steps.{Does, Refuses};
 
 use crate::any_desk::{AnyDesk, idle_desks};
@@ -34,9 +34,9 @@ pub(crate) struct Lists<'r> {
 
 impl<'r> Model for Lists<'r> {
     ghost use Rattle.std.specs.Prelude.{length};
-    ghost use Rattle.event_floor.specs.Floors.{FloorSeen, IsFloor};
+    ghost use Rattle.event_floor.specs.Floors.{FloorState, IsFloor};
 
-    ghost Value = { FloorSeen };
+    ghost Value = { FloorState };
 
     ghost view = { λ f. record {
       digits = f.digits;

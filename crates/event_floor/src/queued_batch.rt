@@ -2,7 +2,7 @@
 ghost use Rattle.std.specs.Prelude.{◌≡◌, ◌↔◌, IsTrue, OnOk, length, map};
 ghost use Rattle.slot_chain.specs.Counts.{capped};
 ghost use Rattle.slot_chain.specs.Slots.{slot_of, AddsSlots};
-ghost use Rattle.event_floor.specs.Posted.{sent_as, as_linked, IsHalf};
+ghost use Rattle.event_floor.specs.Inboxes.{sent_as, as_linked, IsHalf};
 
 use digit_route::Batch;
 use region_cut::Slot;
@@ -18,9 +18,9 @@ pub(crate) struct QueuedBatch<'r> {
 }
 
 impl<'r> Model for QueuedBatch<'r> {
-    ghost use Rattle.event_floor.specs.Posted.{BatchSeen};
+    ghost use Rattle.event_floor.specs.Inboxes.{QueuedState};
 
-    ghost Value = { BatchSeen };
+    ghost Value = { QueuedState };
 
     ghost view = { λ w. record {
       number = w.number;

@@ -7,8 +7,8 @@ ghost use Rattle.pool_desk.specs.Homes.{slot_at};
 ghost use Rattle.event_floor.specs.Chunks.{class_drawn};
 ghost use Rattle.event_floor.specs.Floors.{desk_count, desk_at};
 ghost use Rattle.event_floor.specs.Lent.{buffers_lent};
-ghost use Rattle.event_floor.specs.Posted.{buffers_in, inbox_at};
-ghost use Rattle.event_floor.specs.Seats.{home_of, cached_of};
+ghost use Rattle.event_floor.specs.Inboxes.{buffers_in, inbox_at};
+ghost use Rattle.event_floor.specs.Desks.{home_of, cached_of};
 
 use crate::Floor;
 use crate::any_desk::{AnyDesk, cached, home};

@@ -1,7 +1,7 @@
 //! An index of the batches that still have to be linked.
 ghost use Rattle.std.specs.Prelude.{◌≡◌, ◌≢◌, ◌<◌, ℕ, [], Some, None, nat_eq, OnOk, IfOk, OnErr, MatchBool};
 ghost use Rattle.std.specs.Prelude.{if◌then◌else◌};
-ghost use Rattle.event_floor.specs.declared.unlinked.Unlinked.{Unlinked as EntrySeen};
+ghost use Rattle.event_floor.specs.declared.unlinked.Unlinked.{Unlinked as UnlinkedEntry};
 ghost use Rattle.event_floor.specs.Unlinked.{half_of};
 
 use slot_chain::NoMemory;
@@ -26,9 +26,9 @@ pub(crate) struct UnlinkedIndex {
 
 impl Model for UnlinkedIndex {
     ghost use Rattle.std.specs.Prelude.{length};
-    ghost use Rattle.event_floor.specs.Unlinked.{UnlinkedSeen, AreCounted};
+    ghost use Rattle.event_floor.specs.Unlinked.{UnlinkedState, AreCounted};
 
-    ghost Value = { UnlinkedSeen };
+    ghost Value = { UnlinkedState };
 
     ghost view = { λ h. record { desks = length h.by_sender.items; entries = h.by_number.entries } };
 
@@ -81,8 +81,8 @@ impl UnlinkedIndex {
     pub(crate) fn has_sender(&self, sender: u32) -> bool
         requires { sender < self.now.desks }
         ensures { MatchBool result
-            ((n : ℕ) × (h : EntrySeen) × (half_of self.now n ≡ Some h) × (h.sender ≡ sender))
-            ((n : ℕ) (h : EntrySeen) → half_of self.now n ≡ Some h → h.sender ≢ sender) }
+            ((n : ℕ) × (h : UnlinkedEntry) × (half_of self.now n ≡ Some h) × (h.sender ≡ sender))
+            ((n : ℕ) (h : UnlinkedEntry) → half_of self.now n ≡ Some h → h.sender ≢ sender) }
     {
         self.by_sender[sender as usize] != 0
     }

@@ -4,7 +4,7 @@ use Rattle.std.specs.Prelude.{Option, Result, Ok, Err, IfOk, IfErr}
 use Rattle.std.proofs.lemmas.List.Sorted.{IsPermutation-refl, IsPermutation-append}
 use Rattle.region_cut.specs.declared.slot.Slot.{Slot}
 use Rattle.slot_chain.specs.Slots.{AddsSlots}
-use Rattle.trace_audit.specs.Audit.{ExactlyOnce, IsFault}
+use Rattle.trace_audit.specs.Audit.{FindsEachSlot, IsFault}
 use Rattle.trace_audit.specs.declared.auditing.fault.Fault.{Fault}
 use Rattle.trace_audit.specs.declared.auditing.fault.Fault.TheVariants.{Stranger, Doubled, Missing, NoMemory}
 use Rattle.pool_fabric.specs.Audited.{listed, Audited}
@@ -42,7 +42,7 @@ adds_all f xs k old new l a = subst (λ ys. AddsSlots (listed f ys) old new) (ta
 
 -- what an audit of the list answers
 pub audited : (slots found : List Slot) (drawn : List (Option ℕ)) (r : Result (Unit {0}) Fault) → AddsSlots slots [] found
-    → IfOk r (λ u. ExactlyOnce drawn found) → IfErr r (λ f. IsFault drawn found f) → Audited slots drawn r
+    → IfOk r (λ u. FindsEachSlot drawn found) → IfErr r (λ f. IsFault drawn found f) → Audited slots drawn r
 audited slots found drawn (Ok u) a ok err = record { found = found; each = subst (λ l. IsPermutation slots l) (sym a.appended) a.each; is = ok }
 audited slots found drawn (Err NoMemory) a ok err = tt
 audited slots found drawn (Err (Stranger s)) a ok err = record { found = found; each = subst (λ l. IsPermutation slots l) (sym a.appended) a.each; is = err }

@@ -5,7 +5,7 @@ use Rattle.digit_route.specs.States.{BatchState}
 use Rattle.pool_desk.specs.Desks.{DeskState, IdleState}
 use Rattle.pool_desk.specs.Slots.{slots_in}
 use Rattle.slot_chain.specs.Slots.{slot_of}
-use Rattle.trace_audit.specs.Audit.{ExactlyOnce, IsFault}
+use Rattle.trace_audit.specs.Audit.{FindsEachSlot, IsFault}
 use Rattle.trace_audit.specs.declared.auditing.fault.Fault.{Fault}
 use Rattle.trace_audit.specs.declared.auditing.fault.Fault.TheVariants.{NoMemory}
 
@@ -33,6 +33,6 @@ pub record IsAnswer (slots : List Slot) (drawn : List (Option ℕ)) (P : List Sl
 -- Ok: each slot of a drawn chunk is found once, and no other is.
 -- A fault but want of memory is there, and none of a lesser number.
 abbrev pub Audited : List Slot → List (Option ℕ) → Result (Unit {0}) Fault → Type 0
-Audited slots drawn (Ok u) = IsAnswer slots drawn (λ found. ExactlyOnce drawn found)
+Audited slots drawn (Ok u) = IsAnswer slots drawn (λ found. FindsEachSlot drawn found)
 Audited slots drawn (Err NoMemory) = Unit {0}
 Audited slots drawn (Err f) = IsAnswer slots drawn (λ found. IsFault drawn found f)

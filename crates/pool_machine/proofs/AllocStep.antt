@@ -66,7 +66,7 @@ module _ (v : Listing) (st : State) (count : Slot → ℕ) (a n : ℕ) (e : Entr
       limit = h.frame.limit;
       next = h.frame.next;
       desks = length-set v.desks a d ∙ h.frame.desks;
-      posts = h.frame.posts;
+      inbox_count = h.frame.inbox_count;
       chunks = h.frame.chunks;
       drawn = h.frame.drawn;
       holder = λ b. desk_keeps (λ p. p.worker) v a d l f.worker b ∙ h.frame.holder b;
@@ -80,7 +80,7 @@ module _ (v : Listing) (st : State) (count : Slot → ℕ) (a n : ℕ) (e : Entr
     lent = All-permutation (Labelled st) (e ∷ v.lent) lent f.arrives (All-cons (Labelled st) e v.lent
         (All-head (Labelled st) e d.home labels) h.lent);
     cached = λ b. subst (λ xs. All (Counted st count) xs) (sym (desk_keeps (λ p. p.cache) v a d l f.cache b)) (h.cached b);
-    posted = h.posted;
+    queued = h.queued;
   }
 
 -- an accepted allocation

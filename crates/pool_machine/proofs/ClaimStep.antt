@@ -25,7 +25,7 @@ use Rattle.pool_machine.proofs.FloorSteps.{with_desk, desk_here, desk_other, des
 use Rattle.pool_machine.proofs.FreeStep.{slots_permuted}
 use Rattle.pool_machine.proofs.Keeps.{claim_step}
 use Rattle.pool_machine.proofs.PartBy.{eqb_turn}
-use Rattle.pool_machine.proofs.Places.{home_place, lent_place, cache_place, posted_place, All-both, placed_named}
+use Rattle.pool_machine.proofs.Places.{home_place, lent_place, cache_place, queued_place, All-both, placed_named}
 use Rattle.pool_machine.proofs.Refusals.{refusal_seen, refusal_agrees}
 
 -- the buffers of a chunk that desk a draws for class c
@@ -207,7 +207,7 @@ module _ (v : Listing) (st : State) (count : Slot → ℕ) (a c k : ℕ) (d : De
       limit = h.frame.limit;
       next = h.frame.next;
       desks = length-set v.desks a d ∙ h.frame.desks;
-      posts = h.frame.posts;
+      inbox_count = h.frame.inbox_count;
       chunks = h.frame.chunks;
       drawn = drawn_at;
       holder = λ b. desk_keeps (λ p. p.worker) v a d l f.worker b ∙ h.frame.holder b;
@@ -220,12 +220,12 @@ module _ (v : Listing) (st : State) (count : Slot → ℕ) (a c k : ℕ) (d : De
     cached = λ b. subst (λ xs. All (Counted new count) xs) (sym (desk_keeps (λ p. p.cache) v a d l f.cache b))
         (All-both (λ (e : Entry). list_of st e.slot ≡ Some (CacheOf b)) (Counted st count) (Counted new count) (desk_listing v b).cache
         (relabel (CacheOf b)) (cache_place v st count h b) (h.cached b));
-    posted = λ b. All-both (λ (w : BatchListing). All (λ (e : Entry). list_of st e.slot ≡ Some (BatchOf w.number)) w.buffers)
+    queued = λ b. All-both (λ (w : BatchListing). All (λ (e : Entry). list_of st e.slot ≡ Some (BatchOf w.number)) w.buffers)
         (λ (w : BatchListing). All (Counted st count) w.buffers)
         (λ (w : BatchListing). All (Counted new count) w.buffers) (inbox_listing v b)
         (λ w p q. All-both (λ (e : Entry). list_of st e.slot ≡ Some (BatchOf w.number)) (Counted st count) (Counted new count) w.buffers
         (relabel (BatchOf w.number)) p q)
-        (posted_place v st count h b) (h.posted b);
+        (queued_place v st count h b) (h.queued b);
   }
 
   pub claim_fits : (k < st.chunks) × (st.drawn k ≡ None)

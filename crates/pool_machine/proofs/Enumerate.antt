@@ -6,7 +6,7 @@ use Rattle.std.proofs.lemmas.List.Sums.{sum_by-cons, sum_by-append}
 use Rattle.std.specs.List.{range_with_len}
 use Rattle.region_cut.specs.declared.slot.Slot.{Slot}
 use Rattle.region_cut.specs.Classes.{slots_of}
-use Rattle.pool_machine.specs.Slots.{same_slot, has_index, times, ExactlyOnce, one_if}
+use Rattle.pool_machine.specs.Slots.{same_slot, has_index, times, ListsEachSlot, one_if}
 use Rattle.pool_machine.specs.State.{State, slots_of_chunk, slots}
 use Rattle.pool_machine.specs.Sound.{Sound}
 use Rattle.pool_machine.specs.declared.chunk.DrawnChunk.{DrawnChunk}
@@ -77,7 +77,7 @@ chunks_times drawn s (suc m) a =
     step false = grind (arith, nat_tests)
 
 -- the list of the slots of the drawn chunks has each of them once
-pub slots_once : (st : State) (c : Slot → ℕ) → Sound st c → ExactlyOnce (slots st) st.drawn
+pub slots_once : (st : State) (c : Slot → ℕ) → Sound st c → ListsEachSlot (slots st) st.drawn
 slots_once st c h s = chunks_times st.drawn s st.chunks 0 ∙ low (st.drawn s.chunk) refl
   where
     low : (o : Option DrawnChunk) → st.drawn s.chunk ≡ o → one_if ((nat_le 0 s.chunk && nat_lt s.chunk (0 + st.chunks)) && has_index s.index o) ≡ one_if

@@ -37,7 +37,7 @@ holder_shown v st count a x d h l w e f = record {
     limit = h.frame.limit;
     next = h.frame.next;
     desks = length-set v.desks a d ∙ h.frame.desks;
-    posts = h.frame.posts;
+    inbox_count = h.frame.inbox_count;
     chunks = h.frame.chunks;
     drawn = h.frame.drawn;
     holder = λ b. holder_at b (a == b) refl;
@@ -47,7 +47,7 @@ holder_shown v st count a x d h l w e f = record {
   homes = λ b. subst (λ xs. All (Labelled st) xs) (sym (desk_keeps (λ p. p.home) v a d l e b)) (h.homes b);
   lent = h.lent;
   cached = λ b. subst (λ xs. All (Counted st count) xs) (sym (desk_keeps (λ p. p.cache) v a d l f b)) (h.cached b);
-  posted = h.posted;
+  queued = h.queued;
 }
   where
     holder_at : (b : ℕ) (y : Bool) → (a == b) ≡ y → (desk_listing (with_desk v a d) b).worker ≡ (if a == b then x else st.holder b)

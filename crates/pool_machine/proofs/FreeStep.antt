@@ -97,9 +97,9 @@ cached_stay v st count r q b h e = λ k d l.
     (apart_slots st r f.slot (CacheOf b) e (named_there v st count h (CacheOf b) f.slot (seen_counts (desk_listing v b).cache k d l)) refl)
     (h.cached b k d l)
 
-posted_stay : (v : Listing) (st : State) (count : Slot → ℕ) (r : Slot) (q : Place) (b : ℕ) → Located v st count → list_of st r ≡ Some Loans →
+queued_stay : (v : Listing) (st : State) (count : Slot → ℕ) (r : Slot) (q : Place) (b : ℕ) → Located v st count → list_of st r ≡ Some Loans →
     All (λ (w : BatchListing). All (Counted (relocate (move_one r q) st) (λ s. if same_slot r s then 0 else count s)) w.buffers) (inbox_listing v b)
-posted_stay v st count r q b h e = λ j d l. λ k c m.
+queued_stay v st count r q b h e = λ j d l. λ k c m.
     let w = get_or (inbox_listing v b) j d in
     let f = get_or w.buffers k c in
     let p = batch_counts f.slot w.number (inbox_listing v b) j d l refl in
@@ -107,7 +107,7 @@ posted_stay v st count r q b h e = λ j d l. λ k c m.
     label_stays st count r q f
     (apart_slots st r f.slot (BatchOf w.number) e
     (named_there v st count h (BatchOf w.number) f.slot (lt_of_lt_of_le (seen_counts w.buffers k c m) (le_trans p g))) refl)
-    (h.posted b j d l k c m)
+    (h.queued b j d l k c m)
 
 -- ---- a free
 
@@ -132,7 +132,7 @@ frame_shown v st count a e lent d r q h l f = record {
   limit = h.frame.limit;
   next = h.frame.next;
   desks = length-set v.desks a d ∙ h.frame.desks;
-  posts = h.frame.posts;
+  inbox_count = h.frame.inbox_count;
   chunks = h.frame.chunks;
   drawn = h.frame.drawn;
   holder = λ b. desk_keeps (λ p. p.worker) v a d l f.worker b ∙ h.frame.holder b;
@@ -180,7 +180,7 @@ module _ (v : Listing) (st : State) (count : Slot → ℕ) (a : ℕ) (e : Entry)
         lent = All-tail (Labelled st) e lent labelled;
         cached = λ b. subst (λ xs. All (Counted (relocate (move_one e.slot AtHome) st) (λ s. if same_slot e.slot s then 0 else count s)) xs)
             (sym (desk_keeps (λ p. p.cache) v a d l g.1 b)) (cached_stay v st count e.slot AtHome b h there);
-        posted = λ b. posted_stay v st count e.slot AtHome b h there;
+        queued = λ b. queued_stay v st count e.slot AtHome b h there;
       }
     where
       homes_at : IsPermutation (freed e ∷ (desk_listing v a).home) d.home → (b : ℕ) (y : Bool) → (a == b) ≡ y →
@@ -217,7 +217,7 @@ module _ (v : Listing) (st : State) (count : Slot → ℕ) (a : ℕ) (e : Entry)
         homes = λ b. subst (λ xs. All (Labelled st) xs) (sym (desk_keeps (λ p. p.home) v a d l g.0 b)) (h.homes b);
         lent = All-tail (Labelled st) e lent labelled;
         cached = λ b. cached_at g.1 b (a == b) refl;
-        posted = λ b. posted_stay v st count e.slot (InCache a) b h there;
+        queued = λ b. queued_stay v st count e.slot (InCache a) b h there;
       }
     where
       others : d.home ≡ (desk_listing v a).home → (k : ListName) → same_list k Loans ≡ false → same_list k (CacheOf a) ≡ false →

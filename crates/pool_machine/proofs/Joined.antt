@@ -2,7 +2,7 @@
 use Rattle.std.proofs.Common.{◌≡◌, ℕ, zero, suc, ◌+◌, ◌<◌, ◌≤◌, Bool, true, false, ◌==◌, List, [], ◌∷◌, ◌++◌, length, get_or, flat_map, Option, Some, None, is_some, option_map, if◌then◌else◌, refl, sym, ap, ap₂, ◌∙◌, subst, arith, le_trans}
 use Rattle.std.proofs.lemmas.Bool.{eqb-true, eqb-false, eq-eqb, ne_eqb}
 use Rattle.region_cut.specs.declared.slot.Slot.{Slot}
-use Rattle.pool_machine.specs.Slots.{same_slot, times, one_if, ExactlyOnce}
+use Rattle.pool_machine.specs.Slots.{same_slot, times, one_if, ListsEachSlot}
 use Rattle.pool_machine.specs.State.{State, Place, AtHome, OnLoan, InCache, InBatch, owner_of, is_slot}
 use Rattle.pool_machine.specs.Sound.{Fits}
 use Rattle.pool_machine.specs.Listing.{slots_seen, Listing, DeskListing, BatchListing, empty_desk}
@@ -144,5 +144,5 @@ module _ (v : Listing) (st : State) (count : Slot → ℕ) (h : Located v st cou
   once_joined = by_place (st.place s) refl (h.sound.fits s) ∙ ap one_if (h.sound.placed s)
 
 -- the headline's count: each slot of a drawn chunk once among the floor's lists, and no other slot
-pub located_once : (v : Listing) (st : State) (count : Slot → ℕ) → Located v st count → ExactlyOnce (joined v) st.drawn
+pub located_once : (v : Listing) (st : State) (count : Slot → ℕ) → Located v st count → ListsEachSlot (joined v) st.drawn
 located_once v st count h s = once_joined v st count h s

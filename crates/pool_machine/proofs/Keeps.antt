@@ -8,7 +8,7 @@ use Rattle.pool_machine.specs.declared.request.Request.TheVariants.{Adopt, Retir
 use Rattle.pool_machine.specs.declared.reply.Reply.TheVariants.{Chunk, Slot as Lent}
 use Rattle.region_cut.specs.Classes.{slots_of}
 use Rattle.pool_machine.specs.Slots.{same_slot, has_index}
-use Rattle.pool_machine.specs.State.{Place, AtHome, OnLoan, InCache, InBatch, Waiting, State, is_home, is_lent, is_cached, is_posted, owner_or, owner_of, class_of, slots, near, home_with, cached_by, in_bucket, inbox, digits_of}
+use Rattle.pool_machine.specs.State.{Place, AtHome, OnLoan, InCache, InBatch, Waiting, State, is_home, is_lent, is_cached, is_queued, owner_or, owner_of, class_of, slots, near, home_with, cached_by, in_bucket, inbox, digits_of}
 use Rattle.pool_machine.specs.Refusals.{refusal, no_desk, slot_at, front_ready}
 use Rattle.pool_machine.specs.Steps.{Answer, relocate, move_one, move_bucket, move_batch, freed_place, with_holder, with_chunk, link_one, front_of, after_send, after_take, after_free, after, Answers, Run}
 use Rattle.pool_machine.specs.Forwards.{counted, forwards}
@@ -98,13 +98,13 @@ moved_sound st c r q n h was fit l = record {
     fits_at s false e None f = tt
     fits_at s false e (Some p) f = f
 
-    none_posted : (p : Option Place) (m : ℕ) → p ≡ Some (InBatch m) → (is_home p ≡ true) ⊎ (is_lent p ≡ true) → ⊥
-    none_posted p m e (inl k) = false≢true (sym (ap is_home e) ∙ k)
-    none_posted p m e (inr k) = false≢true (sym (ap is_lent e) ∙ k)
+    none_queued : (p : Option Place) (m : ℕ) → p ≡ Some (InBatch m) → (is_home p ≡ true) ⊎ (is_lent p ≡ true) → ⊥
+    none_queued p m e (inl k) = false≢true (sym (ap is_home e) ∙ k)
+    none_queued p m e (inr k) = false≢true (sym (ap is_lent e) ∙ k)
 
     stays : (s : Slot) (m : ℕ) (b : Bool) → same_slot r s ≡ b → st.place s ≡ Some (InBatch m) →
         option_map (λ old. if b then q else old) (st.place s) ≡ Some (InBatch m)
-    stays s m true e k = absurd (none_posted (st.place r) m (ap st.place (same_slot_eq r s e) ∙ k) was)
+    stays s m true e k = absurd (none_queued (st.place r) m (ap st.place (same_slot_eq r s e) ∙ k) was)
     stays s m false e k = ap (option_map (λ old. old)) k
 
     few_at : (s : Slot) (b : Bool) → (if b then n else c s) < digits_of st
@@ -303,7 +303,7 @@ send_sound st c a t h al tl ne found = record {
 -- ---- Take
 
 take_sound : (st : State) (c : Slot → ℕ) (b : ℕ) → Sound st c → b < st.desks → FrontOf (λ w. b == w.address) st.waiting (inbox st b) →
-    Sound (after_take st b) (λ s. if is_posted (front_of st b) (st.place s) && not (owner_of st s == b) then suc (c s) else c s)
+    Sound (after_take st b) (λ s. if is_queued (front_of st b) (st.place s) && not (owner_of st s == b) then suc (c s) else c s)
 take_sound st c b h bl front = record {
   desks_fit = h.desks_fit;
   digits_fit = h.digits_fit;
@@ -344,8 +344,8 @@ take_sound st c b h bl front = record {
     batch_at s n false e y q f = (f.0, stays s n e f.1)
 
     fits_at : (s : Slot) (y : Bool) → (owner_of st s == b) ≡ y → (p : Option Place) → Fits st (owner_of st s) (c s) p →
-        Fits (after_take st b) (owner_of st s) (if is_posted (front_of st b) p && not y then suc (c s) else c s)
-        (option_map (λ old. if is_posted (front_of st b) (Some old) then (if y then AtHome else InCache b) else old) p)
+        Fits (after_take st b) (owner_of st s) (if is_queued (front_of st b) p && not y then suc (c s) else c s)
+        (option_map (λ old. if is_queued (front_of st b) (Some old) then (if y then AtHome else InCache b) else old) p)
     fits_at s y q None f = tt
     fits_at s y q (Some AtHome) f = f
     fits_at s y q (Some OnLoan) f = f
@@ -360,7 +360,7 @@ take_sound st c b h bl front = record {
     few_in s n false e y q f = h.few s
 
     few_at : (s : Slot) (y : Bool) → (owner_of st s == b) ≡ y → (p : Option Place) → Fits st (owner_of st s) (c s) p →
-        (if is_posted (front_of st b) p && not y then suc (c s) else c s) < digits_of st
+        (if is_queued (front_of st b) p && not y then suc (c s) else c s) < digits_of st
     few_at s y q None f = h.few s
     few_at s y q (Some AtHome) f = h.few s
     few_at s y q (Some OnLoan) f = h.few s
@@ -424,7 +424,7 @@ send_step st c a t h e =
     (not-false (list_any (λ s. in_bucket st a t s && (owner_of st s == t)) (slots st)) e5.0))
 
 pub take_step : (st : State) (c : Slot → ℕ) (b : ℕ) → Sound st c → refusal st (Take b) ≡ None →
-    Sound (after_take st b) (λ s. if is_posted (front_of st b) (st.place s) && not (owner_of st s == b) then suc (c s) else c s)
+    Sound (after_take st b) (λ s. if is_queued (front_of st b) (st.place s) && not (owner_of st s == b) then suc (c s) else c s)
 take_step st c b h e =
     let e1 = none_holds (no_desk st b) _ _ e in
     let e2 = none_holds _ _ _ e1.1 in

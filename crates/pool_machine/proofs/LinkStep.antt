@@ -97,12 +97,12 @@ module _ (v : Listing) (st : State) (count : Slot → ℕ) (n b j : ℕ) (d : Ba
   lists_at (BatchOf i) = flat_set (λ ws. flat_map (if_numbered i) ws) v.inboxes b row []
       (flat_set (if_numbered i) (inbox_listing v b) j (linked (get_or (inbox_listing v b) j d)) d refl)
 
-  posted_at : (c : ℕ) (y : Bool) → (b == c) ≡ y → All (λ (w : BatchListing). All (Counted st count) w.buffers) (inbox_listing after c)
-  posted_at c true q = subst (λ z. All (λ (w : BatchListing). All (Counted st count) w.buffers) (inbox_listing after z)) (eqb-true b c q)
+  queued_at : (c : ℕ) (y : Bool) → (b == c) ≡ y → All (λ (w : BatchListing). All (Counted st count) w.buffers) (inbox_listing after c)
+  queued_at c true q = subst (λ z. All (λ (w : BatchListing). All (Counted st count) w.buffers) (inbox_listing after z)) (eqb-true b c q)
       (subst (λ ws. All (λ (w : BatchListing). All (Counted st count) w.buffers) ws) (sym here)
       (All-set (λ (w : BatchListing). All (Counted st count) w.buffers) (inbox_listing v b) j (linked (get_or (inbox_listing v b) j d))
-      (h.posted b j d m) (h.posted b)))
-  posted_at c false q = subst (λ ws. All (λ (w : BatchListing). All (Counted st count) w.buffers) ws) (sym (other c q)) (h.posted c)
+      (h.queued b j d m) (h.queued b)))
+  queued_at c false q = subst (λ ws. All (λ (w : BatchListing). All (Counted st count) w.buffers) ws) (sym (other c q)) (h.queued c)
 
   pub link_shown : Located (after_link v b j (get_or (inbox_listing v b) j d)) (record st { waiting = map (link_one n) st.waiting }) count
   link_shown = record {
@@ -112,7 +112,7 @@ module _ (v : Listing) (st : State) (count : Slot → ℕ) (n b j : ℕ) (d : Ba
       limit = h.frame.limit;
       next = h.frame.next;
       desks = h.frame.desks;
-      posts = length-set v.inboxes b row ∙ h.frame.posts;
+      inbox_count = length-set v.inboxes b row ∙ h.frame.inbox_count;
       chunks = h.frame.chunks;
       drawn = h.frame.drawn;
       holder = h.frame.holder;
@@ -122,7 +122,7 @@ module _ (v : Listing) (st : State) (count : Slot → ℕ) (n b j : ℕ) (d : Ba
     homes = h.homes;
     lent = h.lent;
     cached = h.cached;
-    posted = λ c. posted_at c (b == c) refl;
+    queued = λ c. queued_at c (b == c) refl;
   }
 
 -- an accepted link

@@ -63,7 +63,7 @@ pub record Located (v : Listing) (st : State) (count : Slot → ℕ) : Type 0 wh
   pub homes : (a : ℕ) → All (Labelled st) (desk_listing v a).home
   pub lent : All (Labelled st) v.lent
   pub cached : (a : ℕ) → All (Counted st count) (desk_listing v a).cache
-  pub posted : (b : ℕ) → All (λ (w : BatchListing). All (Counted st count) w.buffers) (inbox_listing v b)
+  pub queued : (b : ℕ) → All (λ (w : BatchListing). All (Counted st count) w.buffers) (inbox_listing v b)
 
 -- one request is one step of the machine, from each state in which the slots are where the old lists have them
 abbrev pub LocatedStep : Listing → Request → Answer → Listing → Type 0

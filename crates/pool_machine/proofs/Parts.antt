@@ -143,7 +143,7 @@ opening_located desks chunks digits limit i l = record {
     limit = refl;
     next = refl;
     desks = length-replicate desks empty_desk;
-    posts = length-replicate desks [];
+    inbox_count = length-replicate desks [];
     chunks = refl;
     drawn = λ k. refl;
     holder = λ a. ap (λ (d : DeskListing). d.worker) (same_read desks empty_desk a);
@@ -155,7 +155,7 @@ opening_located desks chunks digits limit i l = record {
   lent = λ k d n. absurd (omega arith);
   cached = λ a. subst (λ (d : DeskListing). All (Counted (opening desks chunks digits limit) (λ s. 0)) d.cache) (sym (same_read desks empty_desk a))
       (λ k d n. absurd (omega arith));
-  posted = λ b. subst (λ (ws : List BatchListing). All (λ (w : BatchListing). All
+  queued = λ b. subst (λ (ws : List BatchListing). All (λ (w : BatchListing). All
       (Counted (opening desks chunks digits limit) (λ s. 0)) w.buffers) ws) (sym (same_read desks [] b)) (λ k d n. absurd (omega arith));
 }
   where

@@ -17,9 +17,9 @@ module _ (v : Listing) (st : State) (count : Slot → ℕ) (h : Located v st cou
   cache_place b = λ k d l. named_there v st count h (CacheOf b) (get_or (desk_listing v b).cache k d).slot
       (seen_counts (desk_listing v b).cache k d l)
 
-  pub posted_place : (b : ℕ) → All (λ (w : BatchListing). All (λ (e : Entry). list_of st e.slot ≡ Some (BatchOf w.number)) w.buffers)
+  pub queued_place : (b : ℕ) → All (λ (w : BatchListing). All (λ (e : Entry). list_of st e.slot ≡ Some (BatchOf w.number)) w.buffers)
       (inbox_listing v b)
-  posted_place b = λ j d l k c m.
+  queued_place b = λ j d l k c m.
       let w = get_or (inbox_listing v b) j d in
       let f = get_or w.buffers k c in
       named_there v st count h (BatchOf w.number) f.slot

@@ -28,14 +28,14 @@ abbrev pub goes_by : Scheme → ℕ → ℕ → ℕ → Bool
 goes_by s a t o = nat_lt (common s a t) (common s o t)
 
 -- some batch of an inbox passes
-abbrev pub any_posted : (Waiting → Bool) → List (List BatchListing) → Bool
-any_posted p is = list_any (λ ws. list_any (λ w. p (as_waiting w)) ws) is
+abbrev pub any_queued : (Waiting → Bool) → List (List BatchListing) → Bool
+any_queued p is = list_any (λ ws. list_any (λ w. p (as_waiting w)) ws) is
 
 abbrev pub conditions_seen : Listing → Request → List (Bool × Refusal)
 conditions_seen v (Adopt a x) = (nat_le (length v.desks) a, NoDesk) ∷ (is_some (desk_listing v a).worker, Held) ∷ []
 conditions_seen v (Retire a) =
     (nat_le (length v.desks) a, NoDesk) ∷ (is_none (desk_listing v a).worker, Idle)
-    ∷ (list_any (λ (e : Entry). true) (desk_listing v a).cache || any_posted (λ w. (a == w.sender) && not w.linked) v.inboxes, Unsettled) ∷ []
+    ∷ (list_any (λ (e : Entry). true) (desk_listing v a).cache || any_queued (λ w. (a == w.sender) && not w.linked) v.inboxes, Unsettled) ∷ []
 conditions_seen v (Claim a c) =
     (nat_le (length v.desks) a, NoDesk) ∷ (is_none (desk_listing v a).worker, Idle) ∷ (nat_le (classes_of (profile_of v.digits.bits)) c, BadClass)
     ∷ (list_any (λ (e : Entry). e.class == c) (desk_listing v a).home, NotNeeded) ∷ (nat_le v.chunks (length v.drawn), NoChunk) ∷ []
@@ -50,7 +50,7 @@ conditions_seen v (Send a t) =
     ∷ (not (list_any (λ (e : Entry). goes_by v.digits a t e.owner) (desk_listing v a).cache), NothingFor)
     ∷ (not (list_any (λ (e : Entry). goes_by v.digits a t e.owner && (e.owner == t)) (desk_listing v a).cache), NotAnOwner)
     ∷ (nat_le (2 ^ 32) v.next, Spent) ∷ []
-conditions_seen v (Link n) = (not (any_posted (is_half n) v.inboxes), NoBatch) ∷ []
+conditions_seen v (Link n) = (not (any_queued (is_half n) v.inboxes), NoBatch) ∷ []
 conditions_seen v (Take b) =
     (nat_le (length v.desks) b, NoDesk) ∷ (is_none (desk_listing v b).worker, Idle) ∷
     (not (front_ready (map as_waiting (inbox_listing v b))), Nothing) ∷ []
@@ -111,14 +111,14 @@ any_of_row p (ws ∷ is) (suc b) n e = ap (λ y. p ws || y) (any_of_row p is b n
     or_true true = refl
     or_true false = refl
 
-pub posted_any : (v : Listing) (st : State) (count : Slot → ℕ) → Located v st count → (p : Waiting → Bool) →
-    list_any p st.waiting ≡ any_posted p v.inboxes
-posted_any v st count h p = bools_agree (list_any p st.waiting) (any_posted p v.inboxes) there back
+pub queued_any : (v : Listing) (st : State) (count : Slot → ℕ) → Located v st count → (p : Waiting → Bool) →
+    list_any p st.waiting ≡ any_queued p v.inboxes
+queued_any v st count h p = bools_agree (list_any p st.waiting) (any_queued p v.inboxes) there back
   where
     in_inbox : (b : ℕ) → list_any p (inbox st b) ≡ list_any (λ w. p (as_waiting w)) (inbox_listing v b)
     in_inbox b = ap (list_any p) (sym (h.frame.inboxes b)) ∙ any_map p (inbox_listing v b)
 
-    there : list_any p st.waiting ≡ true → any_posted p v.inboxes ≡ true
+    there : list_any p st.waiting ≡ true → any_queued p v.inboxes ≡ true
     there e =
         let m = member_of_any p st.waiting e in
         any_of_row (λ ws. list_any (λ w. p (as_waiting w)) ws) v.inboxes m.0.address refl
@@ -126,7 +126,7 @@ posted_any v st count h p = bools_agree (list_any p st.waiting) (any_posted p v.
         ∙ any_of_member p m.0 (inbox st m.0.address) (Member-filter (λ w. m.0.address == w.address) m.0 st.waiting m.1
         (eq-eqb m.0.address m.0.address refl)) m.2)
 
-    back : any_posted p v.inboxes ≡ true → list_any p st.waiting ≡ true
+    back : any_queued p v.inboxes ≡ true → list_any p st.waiting ≡ true
     back e =
         let r = row_of_any (λ ws. list_any (λ w. p (as_waiting w)) ws) v.inboxes e in
         filter_any p (λ w. r.0 == w.address) st.waiting (in_inbox r.0 ∙ r.1)
@@ -241,7 +241,7 @@ module _ (v : Listing) (st : State) (count : Slot → ℕ) (h : Located v st cou
   conditions_agree (Adopt a x) = ap₂ (λ (b c : Bool). (b, NoDesk) ∷ (c, Held) ∷ []) (no_desk_is a) (ap is_some (sym (h.frame.holder a)))
   conditions_agree (Retire a) =
       ap₂ ◌∷◌ (ap (λ b. (b, NoDesk)) (no_desk_is a)) (ap₂ ◌∷◌ (ap (λ b. (b, Idle)) (idle_is a))
-      (ap (λ b. (b, Unsettled) ∷ []) (ap₂ ◌||◌ (cache_some a) (posted_any v st count h (λ w. (a == w.sender) && not w.linked)))))
+      (ap (λ b. (b, Unsettled) ∷ []) (ap₂ ◌||◌ (cache_some a) (queued_any v st count h (λ w. (a == w.sender) && not w.linked)))))
   conditions_agree (Claim a c) =
       ap₂ ◌∷◌ (ap (λ b. (b, NoDesk)) (no_desk_is a)) (ap₂ ◌∷◌ (ap (λ b. (b, Idle)) (idle_is a))
       (ap₂ ◌∷◌ (ap (λ (s : Scheme). (nat_le (classes_of (profile_of s.bits)) c, BadClass)) (sym h.frame.digits))
@@ -259,7 +259,7 @@ module _ (v : Listing) (st : State) (count : Slot → ℕ) (h : Located v st cou
       (ap₂ ◌∷◌ (ap (λ b. (b, Idle)) (idle_is a)) (ap (λ cs. (a == t, ToSelf) ∷ cs)
       (ap₂ ◌∷◌ (ap (λ b. (not b, NothingFor)) (bucket_any a t)) (ap₂ ◌∷◌ (ap (λ b. (not b, NotAnOwner)) (owner_any a t))
       (ap (λ n. (nat_le (2 ^ 32) n, Spent) ∷ []) (sym h.frame.next))))))
-  conditions_agree (Link n) = ap (λ b. (not b, NoBatch) ∷ []) (posted_any v st count h (is_half n))
+  conditions_agree (Link n) = ap (λ b. (not b, NoBatch) ∷ []) (queued_any v st count h (is_half n))
   conditions_agree (Take b) =
       ap₂ ◌∷◌ (ap (λ b. (b, NoDesk)) (no_desk_is b)) (ap₂ ◌∷◌ (ap (λ b. (b, Idle)) (idle_is b))
       (ap (λ ws. (not (front_ready ws), Nothing) ∷ []) (sym (h.frame.inboxes b))))

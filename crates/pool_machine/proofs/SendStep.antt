@@ -132,16 +132,16 @@ module _ (v : Listing) (st : State) (count : Slot → ℕ) (a t : ℕ) (bs : Lis
   inbox_other : (b : ℕ) → (t == b) ≡ false → inbox_listing (after_sending v a t bs d) b ≡ inbox_listing v b
   inbox_other b e = get_or-set_other v.inboxes t b (inbox_listing v t ++ new_batch v a t bs ∷ []) [] (λ q. eqb-false t b e (sym q))
 
-  posted_at : (b : ℕ) (y : Bool) → (t == b) ≡ y → All (λ (w : BatchListing). All (Counted (after_send st a t) count) w.buffers)
+  queued_at : (b : ℕ) (y : Bool) → (t == b) ≡ y → All (λ (w : BatchListing). All (Counted (after_send st a t) count) w.buffers)
       (inbox_listing (after_sending v a t bs d) b)
-  posted_at b true q = subst (λ n. All (λ (w : BatchListing). All (Counted (after_send st a t) count) w.buffers)
+  queued_at b true q = subst (λ n. All (λ (w : BatchListing). All (Counted (after_send st a t) count) w.buffers)
       (inbox_listing (after_sending v a t bs d) n)) (eqb-true t b q)
       (subst (λ (ws : List BatchListing). All (λ (w : BatchListing). All (Counted (after_send st a t) count) w.buffers) ws) (sym inbox_here)
       (All-push (λ (w : BatchListing). All (Counted (after_send st a t) count) w.buffers) (inbox_listing v t) (new_batch v a t bs)
-      (λ j w l. λ k e m. same_label _ (h.posted t j w l k e m)) new_labels))
-  posted_at b false q = subst (λ (ws : List BatchListing). All (λ (w : BatchListing). All (Counted (after_send st a t) count) w.buffers) ws)
+      (λ j w l. λ k e m. same_label _ (h.queued t j w l k e m)) new_labels))
+  queued_at b false q = subst (λ (ws : List BatchListing). All (λ (w : BatchListing). All (Counted (after_send st a t) count) w.buffers) ws)
       (sym (inbox_other b q))
-      (λ j w l. λ k e m. same_label _ (h.posted b j w l k e m))
+      (λ j w l. λ k e m. same_label _ (h.queued b j w l k e m))
 
   sent : Waiting
   sent = record { number = st.next; sender = a; address = t; linked = false }
@@ -169,7 +169,7 @@ module _ (v : Listing) (st : State) (count : Slot → ℕ) (a t : ℕ) (bs : Lis
       limit = h.frame.limit;
       next = ap suc h.frame.next;
       desks = length-set v.desks a d ∙ h.frame.desks;
-      posts = length-set v.inboxes t (inbox_listing v t ++ new_batch v a t bs ∷ []) ∙ h.frame.posts;
+      inbox_count = length-set v.inboxes t (inbox_listing v t ++ new_batch v a t bs ∷ []) ∙ h.frame.inbox_count;
       chunks = h.frame.chunks;
       drawn = h.frame.drawn;
       holder = λ b. desk_keeps (λ p. p.worker) v a d al f.worker b ∙ h.frame.holder b;
@@ -179,5 +179,5 @@ module _ (v : Listing) (st : State) (count : Slot → ℕ) (a t : ℕ) (bs : Lis
     homes = λ b. subst (λ xs. All (Labelled (after_send st a t)) xs) (sym (desk_keeps (λ p. p.home) v a d al f.home b)) (λ k e l. h.homes b k e l);
     lent = λ k e l. h.lent k e l;
     cached = λ b. cached_at b (a == b) refl;
-    posted = λ b. posted_at b (t == b) refl;
+    queued = λ b. queued_at b (t == b) refl;
   }

@@ -6,11 +6,11 @@ use Rattle.region_cut.specs.declared.slot.Slot.{Slot}
 use Rattle.digit_route.specs.Digits.{Scheme, IsScheme}
 use Rattle.pool_machine.specs.declared.request.Request.{Request}
 use Rattle.pool_machine.specs.Slots.{same_slot, times, one_if}
-use Rattle.pool_machine.specs.State.{State, Place, AtHome, OnLoan, InCache, InBatch, Waiting, owner_of, is_slot, is_lent, is_posted, cached_by, slots, slots_of_batch, opening}
+use Rattle.pool_machine.specs.State.{State, Place, AtHome, OnLoan, InCache, InBatch, Waiting, owner_of, is_slot, is_lent, is_queued, cached_by, slots, slots_of_batch, opening}
 use Rattle.pool_machine.specs.Steps.{Answer}
 use Rattle.pool_machine.specs.Forwards.{counted}
 use Rattle.pool_machine.specs.Sound.{Member, Sound, Fits}
-use Rattle.pool_machine.specs.Told.{at_home_with}
+use Rattle.pool_machine.specs.SlotLists.{at_home_with}
 use Rattle.pool_machine.specs.Reached.{IsReached}
 use Rattle.pool_machine.specs.Listing.{Listing, BatchListing, desk_listing, inbox_listing, slots_seen, Shown}
 use Rattle.pool_machine.specs.Headline.{joined, Applies}
@@ -23,7 +23,7 @@ use Rattle.pool_machine.proofs.Listed.{listed, filtered_once, times_permuted, pe
 use Rattle.pool_machine.proofs.PartBy.{some_list, at_home_is, lent_named}
 use Rattle.pool_machine.proofs.Parts.{opened, opening_located}
 use Rattle.pool_machine.proofs.Reached.{opening_reached, step_reached, reached_sound}
-use Rattle.pool_machine.proofs.TakeFloor.{posted_is}
+use Rattle.pool_machine.proofs.TakeFloor.{queued_is}
 
 -- a test that says which slots are in a list passes slots alone
 within : (st : State) (c : Slot → ℕ) (l : ListName) (q : Slot → Bool) → Sound st c → ((s : Slot) → q s ≡ is_list l (list_of st s))
@@ -56,7 +56,7 @@ shown v st c r h = record {
         (λ s. sym (in_cache_is a (owner_of st s) (st.place s))),
     h.cached a,
   );
-  batches = λ b j d l. (batch_listed b j d l, h.posted b j d l);
+  batches = λ b j d l. (batch_listed b j d l, h.queued b j d l);
 }
   where
     batch_listed : (b j : ℕ) (d : BatchListing) → j < length (inbox_listing v b)
@@ -64,9 +64,9 @@ shown v st c r h = record {
     batch_listed b j d m = ⊎_elim
         (λ (l : b < length v.inboxes).
         let w = get_or (inbox_listing v b) j d in
-        named_slots v st c (BatchOf w.number) (λ s. is_posted w.number (st.place s)) (slots_seen w.buffers) h
+        named_slots v st c (BatchOf w.number) (λ s. is_queued w.number (st.place s)) (slots_seen w.buffers) h
         (λ s. ap (times s) (sym (batch_only v st h.frame h.sound.rising b j d l m)) ∙ h.in_place (BatchOf w.number) s)
-        (λ s. posted_is w.number (owner_of st s) (st.place s)))
+        (λ s. queued_is w.number (owner_of st s) (st.place s)))
         (λ (l : length v.inboxes ≤ b).
         let none : length (inbox_listing v b) ≡ 0 = ap length (get_or-eq_default v.inboxes [] l) in
         absurd (omega (arith, none, m))) (cases_lt b (length v.inboxes))
@@ -105,7 +105,7 @@ module _ (v : Listing) (st : State) (c : Slot → ℕ) (h : Shown v st c) where
       → times s (slots_seen (get_or (inbox_listing v b) j d).buffers) ≡ one_if (is_list (BatchOf (get_or (inbox_listing v b) j d).number) (list_of st s))
   batch_once b j d l s =
       let w = get_or (inbox_listing v b) j d in
-      once_in (BatchOf w.number) (λ r. is_posted w.number (st.place r)) (slots_seen w.buffers) (λ r. posted_is w.number (owner_of st r) (st.place r))
+      once_in (BatchOf w.number) (λ r. is_queued w.number (st.place r)) (slots_seen w.buffers) (λ r. queued_is w.number (owner_of st r) (st.place r))
       (h.batches b j d l).0 s
 
   -- all batches of a number have the slots that are in it
@@ -164,7 +164,7 @@ module _ (v : Listing) (st : State) (c : Slot → ℕ) (h : Shown v st c) where
     homes = λ a. (h.homes a).1;
     lent = h.lent.1;
     cached = λ a. (h.caches a).1;
-    posted = λ b j d l. (h.batches b j d l).1;
+    queued = λ b j d l. (h.batches b j d l).1;
   }
 
   -- all lists joined are the slots of the drawn chunks

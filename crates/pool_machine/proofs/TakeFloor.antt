@@ -8,7 +8,7 @@ use Rattle.region_cut.specs.declared.slot.Slot.{Slot}
 use Rattle.pool_machine.specs.declared.request.Request.TheVariants.{Take}
 use Rattle.pool_machine.specs.declared.reply.Reply.TheVariants.{Counts}
 use Rattle.pool_machine.specs.Slots.{same_slot, times}
-use Rattle.pool_machine.specs.State.{State, Waiting, Place, AtHome, OnLoan, InCache, InBatch, is_posted, owner_of, slots, slots_of_batch, inbox}
+use Rattle.pool_machine.specs.State.{State, Waiting, Place, AtHome, OnLoan, InCache, InBatch, is_queued, owner_of, slots, slots_of_batch, inbox}
 use Rattle.pool_machine.specs.Refusals.{refusal}
 use Rattle.pool_machine.specs.Steps.{after_take, front_of, front_number}
 use Rattle.pool_machine.specs.Sound.{Member, Rising}
@@ -22,7 +22,7 @@ use Rattle.pool_machine.proofs.TakeStep.{TakeMoves, taken_in_place}
 use Rattle.pool_machine.proofs.Parts.{part_times, part_length}
 use Rattle.pool_machine.proofs.Keeps.{take_step}
 use Rattle.pool_machine.proofs.Batches.{same_number, row_member, waits_there, row_rises}
-use Rattle.pool_machine.proofs.Places.{cache_place, posted_place, All-both}
+use Rattle.pool_machine.proofs.Places.{cache_place, queued_place, All-both}
 use Rattle.pool_machine.proofs.Refusals.{refusal_seen, refusal_agrees}
 
 abbrev pub passed_on : Entry → Entry
@@ -103,12 +103,12 @@ module _ (s : Slot) (n : ℕ) where
       let z = count_append (same_slot s) (flat_map (if_numbered n) ws) (flat_map (λ us. flat_map (if_numbered n) us) (set is b rest)) in
       omega (arith, x, y, z)
 
-pub posted_is : (n o : ℕ) (p : Option Place) → is_posted n p ≡ is_list (BatchOf n) (option_map (list_at o) p)
-posted_is n o None = refl
-posted_is n o (Some AtHome) = refl
-posted_is n o (Some OnLoan) = refl
-posted_is n o (Some (InCache a)) = refl
-posted_is n o (Some (InBatch m)) = refl
+pub queued_is : (n o : ℕ) (p : Option Place) → is_queued n p ≡ is_list (BatchOf n) (option_map (list_at o) p)
+queued_is n o None = refl
+queued_is n o (Some AtHome) = refl
+queued_is n o (Some OnLoan) = refl
+queued_is n o (Some (InCache a)) = refl
+queued_is n o (Some (InBatch m)) = refl
 
 module _ (v : Listing) (st : State) (count : Slot → ℕ) (b : ℕ) (w : BatchListing) (rest : List BatchListing) (d : DeskListing)
     (h : Located v st count) (l : b < length v.desks) (f : TakeEdits v b w rest d) where
@@ -119,10 +119,10 @@ module _ (v : Listing) (st : State) (count : Slot → ℕ) (b : ℕ) (w : BatchL
   next = after_take st b
 
   abbrev risen : Slot → ℕ
-  risen s = if is_posted (front_of st b) (st.place s) && not (owner_of st s == b) then suc (count s) else count s
+  risen s = if is_queued (front_of st b) (st.place s) && not (owner_of st s == b) then suc (count s) else count s
 
   bl : b < length v.inboxes
-  bl = subst (λ n. b < n) (h.frame.desks ∙ sym h.frame.posts) l
+  bl = subst (λ n. b < n) (h.frame.desks ∙ sym h.frame.inbox_count) l
 
   row_is : inbox st b ≡ as_waiting w ∷ map as_waiting rest
   row_is = sym (h.frame.inboxes b) ∙ ap (map as_waiting) f.front
@@ -180,11 +180,11 @@ module _ (v : Listing) (st : State) (count : Slot → ℕ) (b : ℕ) (w : BatchL
       omega (arith, x, y, z)
 
   buffers_counted : All (Counted st count) w.buffers
-  buffers_counted = subst (λ (p : BatchListing). All (Counted st count) p.buffers) first_is (h.posted b 0 w nonempty)
+  buffers_counted = subst (λ (p : BatchListing). All (Counted st count) p.buffers) first_is (h.queued b 0 w nonempty)
 
   buffers_placed : All (λ (e : Entry). list_of st e.slot ≡ Some (BatchOf w.number)) w.buffers
   buffers_placed = subst (λ (p : BatchListing). All (λ (e : Entry). list_of st e.slot ≡ Some (BatchOf p.number)) p.buffers) first_is
-      (posted_place v st count h b 0 w nonempty)
+      (queued_place v st count h b 0 w nonempty)
 
   owners : All (λ (e : Entry). e.owner ≡ owner_of st e.slot) w.buffers
   owners = λ k e m. (buffers_counted k e m).0
@@ -243,7 +243,7 @@ module _ (v : Listing) (st : State) (count : Slot → ℕ) (b : ℕ) (w : BatchL
 
   kept : (m : ListName) (s : Slot) → list_of st s ≡ Some m → same_list (BatchOf (front_of st b)) m ≡ false → count s ≡ risen s
   kept m s e g = ap (λ (x : Bool). if x && not (owner_of st s == b) then suc (count s) else count s)
-      (sym (posted_is (front_of st b) (owner_of st s) (st.place s) ∙ (ap (is_list (BatchOf (front_of st b))) e ∙ g)))
+      (sym (queued_is (front_of st b) (owner_of st s) (st.place s) ∙ (ap (is_list (BatchOf (front_of st b))) e ∙ g)))
 
   relabel : (m : ListName) → same_list (BatchOf (front_of st b)) m ≡ false → (e : Entry) → list_of st e.slot ≡ Some m → Counted st count e →
       Counted next risen e
@@ -255,7 +255,7 @@ module _ (v : Listing) (st : State) (count : Slot → ℕ) (b : ℕ) (w : BatchL
     p.1.0,
     p.1.1,
     (let c : e.forwards ≡ count e.slot = p.1.2 in omega (arith, c)) ∙ ap₂ (λ (x y : Bool). if x && y then suc (count e.slot) else count e.slot)
-        (sym (posted_is (front_of st b) (owner_of st e.slot) (st.place e.slot)
+        (sym (queued_is (front_of st b) (owner_of st e.slot) (st.place e.slot)
         ∙ (ap (is_list (BatchOf (front_of st b))) p.0 ∙ eq-eqb (front_of st b) w.number number_is)))
         (sym (ap (λ o. not (o == b)) (sym p.1.0) ∙ t)),
   )
@@ -293,10 +293,10 @@ module _ (v : Listing) (st : State) (count : Slot → ℕ) (b : ℕ) (w : BatchL
   cached_at c false q = subst (λ (x : DeskListing). All (Counted next risen) x.cache) (sym (desk_other v b c d q)) (old_cache c)
 
   -- a batch that stays
-  posted_stays : (p : BatchListing) → (front_of st b == p.number) ≡ false →
+  queued_stays : (p : BatchListing) → (front_of st b == p.number) ≡ false →
       All (λ (e : Entry). list_of st e.slot ≡ Some (BatchOf p.number)) p.buffers → All (Counted st count) p.buffers →
       All (Counted next risen) p.buffers
-  posted_stays p g x y = All-both (λ (e : Entry). list_of st e.slot ≡ Some (BatchOf p.number)) (Counted st count) (Counted next risen) p.buffers
+  queued_stays p g x y = All-both (λ (e : Entry). list_of st e.slot ≡ Some (BatchOf p.number)) (Counted st count) (Counted next risen) p.buffers
       (relabel (BatchOf p.number) g) x y
 
   Both : BatchListing → Type 0
@@ -304,7 +304,7 @@ module _ (v : Listing) (st : State) (count : Slot → ℕ) (b : ℕ) (w : BatchL
 
   all_both : (c : ℕ) → All Both (inbox_listing v c)
   unfolding Both
-  all_both c = λ j p m. (posted_place v st count h c j p m, h.posted c j p m)
+  all_both c = λ j p m. (queued_place v st count h c j p m, h.queued c j p m)
 
   old_both : (c : ℕ) → All Both (inbox_listing new c)
   old_both c = go (b == c) refl
@@ -314,9 +314,9 @@ module _ (v : Listing) (st : State) (count : Slot → ℕ) (b : ℕ) (w : BatchL
           (All-tail Both w rest (subst (λ ws. All Both ws) f.front (all_both b))))
       go false q = subst (λ ws. All Both ws) (sym (other c q)) (all_both c)
 
-  posted_at : (c : ℕ) → All (λ (p : BatchListing). All (Counted next risen) p.buffers) (inbox_listing new c)
+  queued_at : (c : ℕ) → All (λ (p : BatchListing). All (Counted next risen) p.buffers) (inbox_listing new c)
   unfolding Both
-  posted_at c = λ j p m. posted_stays (get_or (inbox_listing new c) j p) (left_apart c j p m) (old_both c j p m).0 (old_both c j p m).1
+  queued_at c = λ j p m. queued_stays (get_or (inbox_listing new c) j p) (left_apart c j p m) (old_both c j p m).0 (old_both c j p m).1
 
   waiting_at : (c : ℕ) (y : Bool) → (b == c) ≡ y → map as_waiting (inbox_listing new c) ≡ inbox next c
   waiting_at c true q = subst (λ z. map as_waiting (inbox_listing new z) ≡ inbox next z) (eqb-true b c q)
@@ -332,7 +332,7 @@ module _ (v : Listing) (st : State) (count : Slot → ℕ) (b : ℕ) (w : BatchL
       ∙ filter_swap (λ w. not (front_of st b == w.number)) (λ w. c == w.address) st.waiting))
 
   pub take_shown : refusal st (Take b) ≡ None → Located (after_taking v b rest d) (after_take st b)
-      (λ s. if is_posted (front_of st b) (st.place s) && not (owner_of st s == b) then suc (count s) else count s)
+      (λ s. if is_queued (front_of st b) (st.place s) && not (owner_of st s == b) then suc (count s) else count s)
   take_shown z = record {
     sound = take_step st count b h.sound z;
     frame = record {
@@ -340,7 +340,7 @@ module _ (v : Listing) (st : State) (count : Slot → ℕ) (b : ℕ) (w : BatchL
       limit = h.frame.limit;
       next = h.frame.next;
       desks = length-set v.desks b d ∙ h.frame.desks;
-      posts = length-set v.inboxes b rest ∙ h.frame.posts;
+      inbox_count = length-set v.inboxes b rest ∙ h.frame.inbox_count;
       chunks = h.frame.chunks;
       drawn = h.frame.drawn;
       holder = λ c. desk_keeps (λ p. p.worker) v b d l f.worker c ∙ h.frame.holder c;
@@ -350,18 +350,18 @@ module _ (v : Listing) (st : State) (count : Slot → ℕ) (b : ℕ) (w : BatchL
     homes = λ c. homes_at c (b == c) refl;
     lent = λ k e m. h.lent k e m;
     cached = λ c. cached_at c (b == c) refl;
-    posted = posted_at;
+    queued = queued_at;
   }
 
   -- the numbers of a batch's slots, from its buffers
   pub batch_length : (p : ℕ → Bool) → length (filter (λ (e : Entry). p e.owner) w.buffers) ≡ length
       (filter (λ s. p (owner_of st s)) (slots_of_batch st (front_of st b)))
   batch_length p =
-      sym (part_length st count (BatchOf (front_of st b)) p (λ s. is_posted (front_of st b) (st.place s) && p
+      sym (part_length st count (BatchOf (front_of st b)) p (λ s. is_queued (front_of st b) (st.place s) && p
       (owner_of st s)) w.buffers h.sound owners
       (λ s. sym (batch_is s) ∙ h.in_place (BatchOf (front_of st b)) s)
-      (λ s. ap (λ x. x && p (owner_of st s)) (posted_is (front_of st b) (owner_of st s) (st.place s))))
-      ∙ ap length (sym (filter_twice (λ s. p (owner_of st s)) (λ s. is_posted (front_of st b) (st.place s)) (slots st)))
+      (λ s. ap (λ x. x && p (owner_of st s)) (queued_is (front_of st b) (owner_of st s) (st.place s))))
+      ∙ ap length (sym (filter_twice (λ s. p (owner_of st s)) (λ s. is_queued (front_of st b) (st.place s)) (slots st)))
 
 -- an accepted take
 pub take_applies : (v : Listing) (b : ℕ) (w : BatchListing) (rest : List BatchListing) (d : DeskListing) → refusal_seen v (Take b) ≡ None →

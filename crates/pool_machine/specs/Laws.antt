@@ -6,7 +6,7 @@ use Rattle.region_cut.specs.Classes.{largest_of, IsLeastFor}
 use Rattle.digit_route.specs.Digits.{Scheme, IsScheme}
 use Rattle.pool_machine.specs.declared.request.Request.{Request}
 use Rattle.pool_machine.specs.declared.refusal.Refusal.{Refusal}
-use Rattle.pool_machine.specs.Slots.{ExactlyOnce}
+use Rattle.pool_machine.specs.Slots.{ListsEachSlot}
 use Rattle.pool_machine.specs.State.{State, opening, slots, least_class}
 use Rattle.pool_machine.specs.Steps.{Answer, Answers, Step, Run}
 use Rattle.pool_machine.specs.Forwards.{forwards}
@@ -33,12 +33,13 @@ SoundIsOrderly = (st : State) (count : Slot → ℕ) → Sound st count → IsOr
 
 -- and `slots` lists each slot of a drawn chunk once
 abbrev pub SlotsAreListed : Type 0
-SlotsAreListed = (st : State) (count : Slot → ℕ) → Sound st count → ExactlyOnce (slots st) st.drawn
+SlotsAreListed = (st : State) (count : Slot → ℕ) → Sound st count → ListsEachSlot (slots st) st.drawn
 
 -- so whatever is asked of a new pool, it is orderly afterwards
 abbrev pub RunsAreOrderly : Type 0
 RunsAreOrderly = (desks chunks : ℕ) (digits : Scheme) (limit : ℕ) → IsScheme digits → desks ≤ 2 ^ digits.bits
-    → (requests : List Request) (answers : List Answer) (new : State) → Run (opening desks chunks digits limit) requests answers new
+    → (requests : List Request) (answers : List Answer) (new : State)
+    → Run (opening desks chunks digits limit) requests answers new
     → IsOrderly new (λ s. forwards (opening desks chunks digits limit) requests answers s 0)
 
 -- and it is a pool of the same numbers
@@ -49,7 +50,8 @@ pub record HasSameNumbers (old new : State) : Type 0 where
   pub limit : new.limit ≡ old.limit
 
 abbrev pub RunsKeepNumbers : Type 0
-RunsKeepNumbers = (requests : List Request) (answers : List Answer) (old new : State) → Run old requests answers new → HasSameNumbers old new
+RunsKeepNumbers = (requests : List Request) (answers : List Answer) (old new : State) → Run old requests answers new
+    → HasSameNumbers old new
 
 -- requests and answers fix the state that they lead to
 abbrev pub AnswersFixTheState : Type 0
@@ -62,7 +64,8 @@ RequestsAreAnswered = (st : State) (request : Request) → (answer : Answer) × 
 
 -- a refused request changes nothing
 abbrev pub RefusalsChangeNothing : Type 0
-RefusalsChangeNothing = (old new : State) (request : Request) (refusal : Refusal) → Step old request (Err refusal) new → new ≡ old
+RefusalsChangeNothing = (old new : State) (request : Request) (refusal : Refusal)
+    → Step old request (Err refusal) new → new ≡ old
 
 -- the class for a size is the least one that is large enough
 abbrev pub LeastClassIsLeast : Type 0

@@ -5,7 +5,7 @@ pub mod RefusalNames
 pub mod Steps
 pub mod Forwards
 pub mod Sound
-pub mod Told
+pub mod SlotLists
 pub mod Reached
 pub mod Listing
 pub mod Headline

@@ -5,7 +5,7 @@ use Rattle.region_cut.specs.declared.slot.Slot.{Slot}
 use Rattle.digit_route.specs.Digits.{Scheme}
 use Rattle.pool_machine.specs.declared.chunk.DrawnChunk.{DrawnChunk}
 use Rattle.pool_machine.specs.State.{State, Waiting, owner_of, class_of, inbox, slots_of_batch}
-use Rattle.pool_machine.specs.Told.{home_slots, cached_slots, lent_slots}
+use Rattle.pool_machine.specs.SlotLists.{home_slots, cached_slots, lent_slots}
 use Rattle.pool_machine.specs.Reached.{IsReached}
 
 -- a buffer, or a slot at home that was never handed out, without its bytes
@@ -75,7 +75,7 @@ pub record ShowsFrame (v : Listing) (st : State) : Type 0 where
   pub limit : v.limit ≡ st.limit
   pub next : v.next ≡ st.next
   pub desks : length v.desks ≡ st.desks
-  pub posts : length v.inboxes ≡ st.desks
+  pub inbox_count : length v.inboxes ≡ st.desks
   pub chunks : v.chunks ≡ st.chunks
   pub drawn : (k : ℕ) → slice_get v.drawn k ≡ st.drawn k
   pub holder : (a : ℕ) → (desk_listing v a).worker ≡ st.holder a

@@ -1,13 +1,17 @@
 -- Why the machine refuses a request.
-use Rattle.std.specs.Prelude.{ℕ, ◌^◌, Bool, true, false, ◌||◌, ◌&&◌, not, ◌==◌, nat_lt, nat_le, List, [], ◌∷◌, Option, Some, None, is_some, is_none, if◌then◌else◌}
+use Rattle.std.specs.Prelude.{ℕ, ◌^◌, Bool, true, false, ◌||◌, ◌&&◌, not, ◌==◌, nat_lt, nat_le, List, [], ◌∷◌, Option}
+use Rattle.std.specs.Prelude.{Some, None, is_some, is_none, if◌then◌else◌}
 use Rattle.std.specs.List.{list_any, list_all, range_with_len}
 use Rattle.region_cut.specs.declared.slot.Slot.{Slot}
 use Rattle.region_cut.specs.Classes.{classes_of, largest_of}
 use Rattle.pool_machine.specs.declared.request.Request.{Request}
 use Rattle.pool_machine.specs.declared.request.Request.TheVariants.{Adopt, Retire, Claim, Alloc, Free, Send, Link, Take}
 use Rattle.pool_machine.specs.declared.refusal.Refusal.{Refusal}
-use Rattle.pool_machine.specs.declared.refusal.Refusal.TheVariants.{NoDesk, Idle, TooLarge, NeedChunk, NotNeeded, NoChunk, NotLent, NothingFor, NotAnOwner, ToSelf, NoBatch, Nothing, Unsettled, Held, BadClass, Spent}
-use Rattle.pool_machine.specs.State.{Waiting, State, profile_at, least_class, owner_of, slots, is_lent, has_home, cached_by, in_bucket, inbox}
+use Rattle.pool_machine.specs.declared.refusal.Refusal.TheVariants.{NoDesk, Idle, TooLarge, NeedChunk, NotNeeded}
+use Rattle.pool_machine.specs.declared.refusal.Refusal.TheVariants.{NoChunk, NotLent, NothingFor, NotAnOwner, ToSelf}
+use Rattle.pool_machine.specs.declared.refusal.Refusal.TheVariants.{NoBatch, Nothing, Unsettled, Held, BadClass, Spent}
+use Rattle.pool_machine.specs.State.{Waiting, State, profile_at, least_class, owner_of, slots, is_lent, has_home}
+use Rattle.pool_machine.specs.State.{cached_by, in_bucket, inbox}
 
 -- there is no desk a
 abbrev pub no_desk : State → ℕ → Bool

@@ -2,7 +2,8 @@
 use Rattle.std.specs.Prelude.{ℕ, Bool, ◌&&◌, ◌==◌, List, filter, flat_map, count_by, is_some}
 use Rattle.std.specs.List.{range_with_len}
 use Rattle.region_cut.specs.declared.slot.Slot.{Slot}
-use Rattle.pool_machine.specs.State.{State, Waiting, owner_of, slots, is_home, is_lent, cached_by, slots_of_batch, inbox}
+use Rattle.pool_machine.specs.State.{State, Waiting, owner_of, slots, is_home, is_lent, cached_by, slots_of_batch}
+use Rattle.pool_machine.specs.State.{inbox}
 
 -- the slot is at home with desk a
 abbrev pub at_home_with : State → ℕ → Slot → Bool

@@ -26,5 +26,5 @@ abbrev pub one_if : Bool → ℕ
 one_if b = cond b 1 0
 
 -- the list has each slot of a drawn chunk once, and no other slot
-abbrev pub ExactlyOnce : List Slot → (ℕ → Option DrawnChunk) → Type 0
-ExactlyOnce found drawn = (s : Slot) → times s found ≡ one_if (is_drawn_slot drawn s)
+abbrev pub ListsEachSlot : List Slot → (ℕ → Option DrawnChunk) → Type 0
+ListsEachSlot found drawn = (s : Slot) → times s found ≡ one_if (is_drawn_slot drawn s)

@@ -9,14 +9,15 @@ use Rattle.pool_machine.specs.State.{Place, InCache, InBatch, Waiting, State, ow
 abbrev pub GoesNearer : State → ℕ → ℕ → Waiting → Type 0
 GoesNearer st owner count w = (count ≤ near st owner w.sender) × (near st owner w.sender < near st owner w.address)
 
--- The batch is well routed: it goes to another desk than its sender, which owns a slot of it, and brings each of its slots nearer.
+-- The batch is well routed: it goes to another desk than its sender, which owns a slot of it, and brings each of its
+-- slots nearer.
 pub record IsRouted (st : State) (count : Slot → ℕ) (w : Waiting) : Type 0 where
   pub apart : w.sender ≢ w.address
   pub owned : (s : Slot) × (st.place s ≡ Some (InBatch w.number)) × (owner_of st s ≡ w.address)
   pub nearer : (s : Slot) → st.place s ≡ Some (InBatch w.number) → GoesNearer st (owner_of st s) (count s) w
 
--- What a user of the pool wants of a state: each slot of a drawn chunk has a place, and no other slot has one; each waiting batch is
--- well routed; and each slot was passed on fewer times than a number has digits.
+-- What a user of the pool wants of a state: each slot of a drawn chunk has a place, and no other slot has one; each
+-- waiting batch is well routed; and each slot was passed on fewer times than a number has digits.
 pub record IsOrderly (st : State) (count : Slot → ℕ) : Type 0 where
   pub placed : (s : Slot) → is_some (st.place s) ≡ is_slot st s
   pub routed : All (IsRouted st count) st.waiting

@@ -1,5 +1,6 @@
 -- The state of the machine: a pool as it is seen from outside, whatever lists and tables keep it.
-use Rattle.std.specs.Prelude.{ℕ, Bool, true, false, ◌&&◌, ◌==◌, nat_lt, nat_le, List, [], map, filter, flat_map, sum_by, take, Option, Some, None}
+use Rattle.std.specs.Prelude.{ℕ, Bool, true, false, ◌&&◌, ◌==◌, nat_lt, nat_le, List, [], map, filter, flat_map, sum_by}
+use Rattle.std.specs.Prelude.{take, Option, Some, None}
 use Rattle.std.specs.List.{list_any, range_with_len, position_or_len}
 use Rattle.region_cut.specs.declared.class.TheConstants.{SIZES}
 use Rattle.region_cut.specs.declared.profile.Profile.{Profile}
@@ -117,9 +118,9 @@ abbrev pub is_cached : ℕ → Option Place → Bool
 is_cached a (Some (InCache b)) = a == b
 is_cached a _ = false
 
-abbrev pub is_posted : ℕ → Option Place → Bool
-is_posted n (Some (InBatch m)) = n == m
-is_posted n _ = false
+abbrev pub is_queued : ℕ → Option Place → Bool
+is_queued n (Some (InBatch m)) = n == m
+is_queued n _ = false
 
 -- the slot is at home with this desk, in this class
 abbrev pub home_with : State → ℕ → ℕ → Slot → Bool
@@ -157,7 +158,7 @@ cached_bytes st a = sum_by (slot_size st) (filter (cached_by st a) (slots st))
 
 -- the slots in the batch n
 abbrev pub slots_of_batch : State → ℕ → List Slot
-slots_of_batch st n = filter (λ s. is_posted n (st.place s)) (slots st)
+slots_of_batch st n = filter (λ s. is_queued n (st.place s)) (slots st)
 
 -- the batches that wait for desk b, the front first
 abbrev pub inbox : State → ℕ → List Waiting

@@ -1,15 +1,19 @@
 -- What an accepted request does, one step of the machine, and runs.
-use Rattle.std.specs.Prelude.{◌≡◌, ◌≢◌, ⊤, ◌≤◌, ℕ, suc, ◌<◌, true, false, ◌&&◌, not, ◌==◌, nat_lt, List, [], ◌∷◌, ◌++◌, map, length, filter, Option, Some, None, Ok, Err, Result, if◌then◌else◌, option_map, ◌⊎◌}
+use Rattle.std.specs.Prelude.{◌≡◌, ◌≢◌, ⊤, ◌≤◌, ℕ, suc, ◌<◌, true, false, ◌&&◌, not, ◌==◌, nat_lt, List, [], ◌∷◌, ◌++◌}
+use Rattle.std.specs.Prelude.{map, length, filter, Option, Some, None, Ok, Err, Result, if◌then◌else◌, option_map, ◌⊎◌}
 use Rattle.region_cut.specs.declared.slot.Slot.{Slot}
 use Rattle.region_cut.specs.Classes.{slots_of}
 use Rattle.pool_machine.specs.declared.request.Request.{Request}
 use Rattle.pool_machine.specs.declared.request.Request.TheVariants.{Adopt, Retire, Claim, Alloc, Free, Send, Link, Take}
 use Rattle.pool_machine.specs.declared.reply.Reply.{Reply}
-use Rattle.pool_machine.specs.declared.reply.Reply.TheVariants.{Done, Chunk, Slot as Lent, Home, Cached, Due, Batch, Counts}
+use Rattle.pool_machine.specs.declared.reply.Reply.TheVariants.{Done, Chunk, Slot as Lent, Home, Cached, Due, Batch}
+use Rattle.pool_machine.specs.declared.reply.Reply.TheVariants.{Counts}
 use Rattle.pool_machine.specs.declared.refusal.Refusal.{Refusal}
 use Rattle.pool_machine.specs.declared.refusal.Refusal.TheVariants.{NoMemory}
 use Rattle.pool_machine.specs.Slots.{same_slot}
-use Rattle.pool_machine.specs.State.{Place, AtHome, OnLoan, InCache, InBatch, Waiting, State, profile_at, least_class, owner_of, near, is_cached, is_posted, home_with, bucket, cached_bytes, slots_of_batch, inbox}
+use Rattle.pool_machine.specs.State.{Place, AtHome, OnLoan, InCache, InBatch, Waiting, State, profile_at, least_class}
+use Rattle.pool_machine.specs.State.{owner_of, near, is_cached, is_queued, home_with, bucket, cached_bytes}
+use Rattle.pool_machine.specs.State.{slots_of_batch, inbox}
 use Rattle.pool_machine.specs.Refusals.{slot_at, refusal, may_grow}
 
 -- what a request is answered
@@ -38,7 +42,7 @@ move_bucket st a t s old =
 -- of a batch that b takes, the slots that b owns go home, and the others into the cache of b
 abbrev pub move_batch : State → ℕ → ℕ → Slot → Place → Place
 move_batch st b n s old =
-    if is_posted n (Some old) then (if owner_of st s == b then AtHome else InCache b) else old
+    if is_queued n (Some old) then (if owner_of st s == b then AtHome else InCache b) else old
 
 -- the number of the first batch
 abbrev pub front_number : List Waiting → ℕ
@@ -110,7 +114,8 @@ coming_home st b = filter (λ s. owner_of st s == b) (slots_of_batch st (front_o
 abbrev pub going_on : State → ℕ → List Slot
 going_on st b = filter (λ s. not (owner_of st s == b)) (slots_of_batch st (front_of st b))
 
--- what an accepted request may be answered: any undrawn chunk, any slot of the class at home, and else what the state tells
+-- what an accepted request may be answered: any undrawn chunk, any slot of the class at home, and else what the state
+-- tells
 abbrev pub Replies : State → Request → Reply → Type 0
 Replies st (Adopt a x) Done = ⊤
 Replies st (Retire a) Done = ⊤

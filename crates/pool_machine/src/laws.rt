@@ -8,14 +8,15 @@ ghost use Rattle.pool_machine.specs.declared.request.Request.{Request};
 ghost use Rattle.pool_machine.specs.State.{State, opening};
 ghost use Rattle.pool_machine.specs.Steps.{Answer, Run};
 ghost use Rattle.pool_machine.specs.Forwards.{forwards};
-ghost use Rattle.pool_machine.specs.Laws.{OpeningIsSound, RunsStaySound, ReachedIsSound, SoundIsOrderly, SlotsAreListed};
+ghost use Rattle.pool_machine.specs.Laws.{OpeningIsSound, RunsStaySound, ReachedIsSound, SoundIsOrderly};
+ghost use Rattle.pool_machine.specs.Laws.{SlotsAreListed};
 ghost use Rattle.pool_machine.specs.Laws.{RunsAreOrderly, RunsKeepNumbers, AnswersFixTheState, RequestsAreAnswered};
 ghost use Rattle.pool_machine.specs.Laws.{RefusalsChangeNothing, LeastClassIsLeast};
 
 pub mod worked;
 
-/// Whatever is asked of a new pool: each slot of a drawn chunk has just one place afterwards and no other slot has one, each
-/// batch that waits is well routed, and each slot was passed on fewer times than a number has digits.
+/// Whatever is asked of a new pool: each slot of a drawn chunk has just one place afterwards and no other slot has one,
+/// each batch that waits is well routed, and each slot was passed on fewer times than a number has digits.
 pub fn runs_are_orderly()
     ensures { RunsAreOrderly }
 {}
@@ -33,7 +34,8 @@ pub fn answers_fix_the_state()
 /// A slot of a new pool is passed on fewer times, since it was last freed, than the number of a desk has digits.
 pub fn slots_are_passed_on_seldom()
     ensures { (desks chunks : ℕ) (digits : Scheme) (limit : ℕ) → IsScheme digits → desks ≤ 2 ^ digits.bits
-        → (requests : List Request) (answers : List Answer) (new : State) → Run (opening desks chunks digits limit) requests answers new
+        → (requests : List Request) (answers : List Answer) (new : State)
+        → Run (opening desks chunks digits limit) requests answers new
         → (slot : Slot) → forwards (opening desks chunks digits limit) requests answers slot 0 < count digits }
 {}
 

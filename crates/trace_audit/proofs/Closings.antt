@@ -7,7 +7,7 @@ use Rattle.std.proofs.lemmas.List.{length-map}
 use Rattle.std.proofs.lemmas.List.Sums.{sum_by-append}
 use Rattle.std.proofs.lemmas.List.FromFn.{length-range_with_len, get_or-map-range_with_len}
 use Rattle.slot_chain.specs.Counts.{capped}
-use Rattle.event_floor.specs.Floors.{FloorSeen, desk_count}
+use Rattle.event_floor.specs.Floors.{FloorState, desk_count}
 use Rattle.std.specs.Io.KnownBytes.{Appends}
 use Rattle.std.proofs.KnownBytes.{Appends-trans}
 use Rattle.trace_audit.specs.Machine.{Tally, counts_at, told}
@@ -16,26 +16,26 @@ use Rattle.trace_audit.specs.Report.{bad_line, closing, desk_line, desk_lines, e
 use Rattle.trace_audit.specs.Wire.{Begins, Writes}
 use Rattle.trace_audit.specs.declared.replaying.ending.End.{End}
 use Rattle.trace_audit.specs.declared.replaying.ending.End.TheVariants.{BadLine}
-use Rattle.trace_audit.specs.declared.report.closing.Counts.{Counts}
+use Rattle.trace_audit.specs.declared.report.closing.DeskCounts.{DeskCounts}
 
-desk_lines-append : (a : ℕ) (xs ys : List Counts) → desk_lines a (xs ++ ys) ≡ desk_lines a xs ++ desk_lines (a + length xs) ys
+desk_lines-append : (a : ℕ) (xs ys : List DeskCounts) → desk_lines a (xs ++ ys) ≡ desk_lines a xs ++ desk_lines (a + length xs) ys
 desk_lines-append a [] ys = let e : a ≡ a + 0 = omega arith in ap (λ n. desk_lines n ys) e
 desk_lines-append a (x ∷ xs) ys =
     let e : suc a + length xs ≡ a + suc (length xs) = omega arith in
     ap (λ l. desk_line a x ++ l) (desk_lines-append (suc a) xs ys ∙ ap (λ n. desk_lines (suc a) xs ++ desk_lines n ys) e)
     ∙ sym (append_assoc (desk_line a x) (desk_lines (suc a) xs) (desk_lines (a + suc (length xs)) ys))
 
-lines_at : (xs : List Counts) (i : ℕ) (y : Counts) (ys : List Counts) → i < length xs → desk_lines 0 (take i xs ++ y ∷ ys) ≡ desk_lines 0 (take i xs) ++ (desk_line i y ++ desk_lines (suc i) ys)
+lines_at : (xs : List DeskCounts) (i : ℕ) (y : DeskCounts) (ys : List DeskCounts) → i < length xs → desk_lines 0 (take i xs ++ y ∷ ys) ≡ desk_lines 0 (take i xs) ++ (desk_line i y ++ desk_lines (suc i) ys)
 lines_at xs i y ys low = desk_lines-append 0 (take i xs) (y ∷ ys) ∙ ap (λ n. desk_lines 0 (take i xs) ++ desk_lines n (y ∷ ys)) (let e : 0 + length (take i xs) ≡ i = omega (arith, length-take-le i xs (omega arith)) in e)
 
 -- the lines so far, and one desk more
-lines_more : (xs : List Counts) (i : ℕ) (d : Counts) → i < length xs → desk_lines 0 (take (i + 1) xs) ≡ desk_lines 0 (take i xs) ++ desk_line i (get_or xs i d)
+lines_more : (xs : List DeskCounts) (i : ℕ) (d : DeskCounts) → i < length xs → desk_lines 0 (take (i + 1) xs) ≡ desk_lines 0 (take i xs) ++ desk_line i (get_or xs i d)
 lines_more xs i d low =
     ap (λ n. desk_lines 0 (take n xs)) (add-one i) ∙ ap (desk_lines 0) (take-suc xs i d low) ∙ lines_at xs i (get_or xs i d) [] low
     ∙ ap (λ l. desk_lines 0 (take i xs) ++ l) (append-nil (desk_line i (get_or xs i d)))
 
 -- the writer gave up within the line of desk i
-pub close_cut : (old mid new : Option (List ℕ)) (t : Tally) (xs : List Counts) (i : ℕ) (d : Counts) (text : List ℕ) → xs ≡ t.desks → i < length xs → text ≡ desk_line i (get_or xs i d)
+pub close_cut : (old mid new : Option (List ℕ)) (t : Tally) (xs : List DeskCounts) (i : ℕ) (d : DeskCounts) (text : List ℕ) → xs ≡ t.desks → i < length xs → text ≡ desk_line i (get_or xs i d)
     → Appends old mid (desk_lines 0 (take i xs)) → Begins mid new text → Begins old new (closing t)
 close_cut old mid new t xs i d text same low is before (front, back, cut, wrote) =
     let behind : List ℕ = desk_lines (suc i) (drop (suc i) xs) ++ end_line t in
@@ -64,45 +64,45 @@ pub bad_broken : (old new : Option (List ℕ)) (t : Tally) (end : End) (n : ℕ)
 bad_broken old new t end n text e is h = rw e (begins_longer old new (bad_line n) (closing t) (subst (λ (w : List ℕ). Begins old new w) is h))
 
 -- the last line was written, or a beginning of it
-pub closed : {E : Type 0} → (old mid new : Option (List ℕ)) (failed : Bool) (t : Tally) (xs : List Counts) (i : ℕ) (text : List ℕ) (r : Result (Unit {0}) E) → xs ≡ t.desks → length xs ≤ i → text ≡ end_line t
+pub closed : {E : Type 0} → (old mid new : Option (List ℕ)) (failed : Bool) (t : Tally) (xs : List DeskCounts) (i : ℕ) (text : List ℕ) (r : Result (Unit {0}) E) → xs ≡ t.desks → length xs ≤ i → text ≡ end_line t
     → Appends old mid (desk_lines 0 (take i xs)) → Writes mid new failed text r → Writes old new failed (closing t) r
 closed old mid new failed t xs i text r same all is before after =
     let whole : take i xs ≡ t.desks = take_all i xs all ∙ same in
     writes_behind old mid new failed (desk_lines 0 t.desks) (end_line t) r
-    (subst (λ (l : List Counts). Appends old mid (desk_lines 0 l)) whole before) (subst (λ (w : List ℕ). Writes mid new failed w r) is after)
+    (subst (λ (l : List DeskCounts). Appends old mid (desk_lines 0 l)) whole before) (subst (λ (w : List ℕ). Writes mid new failed w r) is after)
 
 -- the line of desk i was written
-pub close_more : (old mid new : Option (List ℕ)) (xs : List Counts) (i : ℕ) (d : Counts) (text : List ℕ) → i < length xs → text ≡ desk_line i (get_or xs i d)
+pub close_more : (old mid new : Option (List ℕ)) (xs : List DeskCounts) (i : ℕ) (d : DeskCounts) (text : List ℕ) → i < length xs → text ≡ desk_line i (get_or xs i d)
     → Appends old mid (desk_lines 0 (take i xs)) → Appends mid new text → Appends old new (desk_lines 0 (take (i + 1) xs))
 close_more old mid new xs i d text low is before after =
     subst (λ (w : List ℕ). Appends old new w) (ap (λ w. desk_lines 0 (take i xs) ++ w) is ∙ sym (lines_more xs i d low)) (Appends-trans old mid new (desk_lines 0 (take i xs)) text before after)
 
 -- what is told of the desks
 
-nothing : Counts
+nothing : DeskCounts
 nothing = record { home = 0; cached = 0; queued = 0 }
 
-pub length-told : (v : FloorSeen) → length (told v).desks ≡ desk_count v
+pub length-told : (v : FloorState) → length (told v).desks ≡ desk_count v
 length-told v = length-map (range_with_len 0 (desk_count v)) (counts_at v) ∙ length-range_with_len 0 (desk_count v)
 
-told_at : (v : FloorSeen) (i : ℕ) (d : Counts) → i < desk_count v → get_or (told v).desks i d ≡ counts_at v i
+told_at : (v : FloorState) (i : ℕ) (d : DeskCounts) → i < desk_count v → get_or (told v).desks i d ≡ counts_at v i
 told_at v i d low = get_or-map-range_with_len (counts_at v) 0 (desk_count v) i i d low (omega arith)
 
 -- the line of a desk, from its counts
-told_line : (v : FloorSeen) (i : ℕ) (c : Counts) (text : List ℕ) → i < desk_count v → c ≡ counts_at v i → text ≡ desk_line i c → text ≡ desk_line i (get_or (told v).desks i nothing)
+told_line : (v : FloorState) (i : ℕ) (c : DeskCounts) (text : List ℕ) → i < desk_count v → c ≡ counts_at v i → text ≡ desk_line i c → text ≡ desk_line i (get_or (told v).desks i nothing)
 told_line v i c text low is line = line ∙ ap (desk_line i) (is ∙ sym (told_at v i nothing low))
 
-pub told_cut : (old mid new : Option (List ℕ)) (v : FloorSeen) (i n : ℕ) (c : Counts) (text : List ℕ) → n ≡ desk_count v → i < n → c ≡ counts_at v i → text ≡ desk_line i c
+pub told_cut : (old mid new : Option (List ℕ)) (v : FloorState) (i n : ℕ) (c : DeskCounts) (text : List ℕ) → n ≡ desk_count v → i < n → c ≡ counts_at v i → text ≡ desk_line i c
     → Appends old mid (desk_lines 0 (take i (told v).desks)) → Begins mid new text → Begins old new (closing (told v))
 told_cut old mid new v i n c text count low is line before after =
     close_cut old mid new (told v) (told v).desks i nothing text refl (omega (arith, length-told v)) (told_line v i c text (omega arith) is line) before after
 
-pub told_more : (old mid new : Option (List ℕ)) (v : FloorSeen) (i n : ℕ) (c : Counts) (text : List ℕ) → n ≡ desk_count v → i < n → c ≡ counts_at v i → text ≡ desk_line i c
+pub told_more : (old mid new : Option (List ℕ)) (v : FloorState) (i n : ℕ) (c : DeskCounts) (text : List ℕ) → n ≡ desk_count v → i < n → c ≡ counts_at v i → text ≡ desk_line i c
     → Appends old mid (desk_lines 0 (take i (told v).desks)) → Appends mid new text → Appends old new (desk_lines 0 (take (i + 1) (told v).desks))
 told_more old mid new v i n c text count low is line before after =
     close_more old mid new (told v).desks i nothing text (omega (arith, length-told v)) (told_line v i c text (omega arith) is line) before after
 
-pub told_closed : {E : Type 0} → (old mid new : Option (List ℕ)) (failed : Bool) (v : FloorSeen) (i n : ℕ) (text : List ℕ) (r : Result (Unit {0}) E) → n ≡ desk_count v → n ≤ i → text ≡ end_line (told v)
+pub told_closed : {E : Type 0} → (old mid new : Option (List ℕ)) (failed : Bool) (v : FloorState) (i n : ℕ) (text : List ℕ) (r : Result (Unit {0}) E) → n ≡ desk_count v → n ≤ i → text ≡ end_line (told v)
     → Appends old mid (desk_lines 0 (take i (told v).desks)) → Writes mid new failed text r → Writes old new failed (closing (told v)) r
 told_closed old mid new failed v i n text r count all line before after =
     closed old mid new failed (told v) (told v).desks i text r refl (omega (arith, length-told v)) line before after
@@ -112,22 +112,22 @@ told_closed old mid new failed v i n text r count all line before after =
 capped_more : (a b : ℕ) → capped (capped a + b) ≡ capped (a + b)
 capped_more a b = grind arith
 
-sum_by_push : (f : Counts → ℕ) (xs : List Counts) (x : Counts) → sum_by f (xs ++ x ∷ []) ≡ sum_by f xs + f x
+sum_by_push : (f : DeskCounts → ℕ) (xs : List DeskCounts) (x : DeskCounts) → sum_by f (xs ++ x ∷ []) ≡ sum_by f xs + f x
 sum_by_push f xs x = let e : sum_by f (x ∷ []) ≡ f x = omega arith in sum_by-append f xs (x ∷ []) ∙ ap (λ n. sum_by f xs + n) e
 
-sum_more : (f : Counts → ℕ) (xs : List Counts) (i : ℕ) (d : Counts) → i < length xs → capped (capped (sum_by f (take i xs)) + f (get_or xs i d)) ≡ capped (sum_by f (take (i + 1) xs))
+sum_more : (f : DeskCounts → ℕ) (xs : List DeskCounts) (i : ℕ) (d : DeskCounts) → i < length xs → capped (capped (sum_by f (take i xs)) + f (get_or xs i d)) ≡ capped (sum_by f (take (i + 1) xs))
 sum_more f xs i d low = capped_more (sum_by f (take i xs)) (f (get_or xs i d)) ∙ ap capped (sym (ap (λ n. sum_by f (take n xs)) (add-one i) ∙ ap (sum_by f) (take-suc xs i d low) ∙ sum_by_push f (take i xs) (get_or xs i d)))
 
-total_more : (xs : List Counts) (i : ℕ) (d : Counts) → i < length xs → plus (total (take i xs)) (get_or xs i d) ≡ total (take (i + 1) xs)
+total_more : (xs : List DeskCounts) (i : ℕ) (d : DeskCounts) → i < length xs → plus (total (take i xs)) (get_or xs i d) ≡ total (take (i + 1) xs)
 total_more xs i d low = λ z. record {
   home = sum_more (λ c. c.home) xs i d low z;
   cached = sum_more (λ c. c.cached) xs i d low z;
   queued = sum_more (λ c. c.queued) xs i d low z;
 }
 
-pub told_total : (v : FloorSeen) (i n : ℕ) (sum c : Counts) → n ≡ desk_count v → i < n → sum ≡ total (take i (told v).desks) → c ≡ counts_at v i → plus sum c ≡ total (take (i + 1) (told v).desks)
+pub told_total : (v : FloorState) (i n : ℕ) (sum c : DeskCounts) → n ≡ desk_count v → i < n → sum ≡ total (take i (told v).desks) → c ≡ counts_at v i → plus sum c ≡ total (take (i + 1) (told v).desks)
 told_total v i n sum c count low so_far is =
     rw (so_far, is ∙ sym (told_at v i nothing (omega arith))) (total_more (told v).desks i nothing (omega (arith, length-told v)))
 
-pub told_all : (v : FloorSeen) (i n : ℕ) (sum : Counts) → n ≡ desk_count v → n ≤ i → sum ≡ total (take i (told v).desks) → sum ≡ total (told v).desks
+pub told_all : (v : FloorState) (i n : ℕ) (sum : DeskCounts) → n ≡ desk_count v → n ≤ i → sum ≡ total (take i (told v).desks) → sum ≡ total (told v).desks
 told_all v i n sum count all so_far = so_far ∙ ap total (take_all i (told v).desks (omega (arith, length-told v)))

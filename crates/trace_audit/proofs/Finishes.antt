@@ -1,6 +1,6 @@
 -- What is written behind the answers.
 use Rattle.std.proofs.Common.{◌≡◌, inr, ℕ, ◌≤◌, List, Option, Some, None, Ok, Err, refl, sym, ◌∙◌, subst, arith, Bool, true, false}
-use Rattle.event_floor.specs.Floors.{FloorSeen}
+use Rattle.event_floor.specs.Floors.{FloorState}
 use Rattle.pool_machine.specs.Laws.{RunsKeepNumbers}
 use Rattle.trace_audit.specs.FloorSlots.{ShowsPool}
 use Rattle.trace_audit.specs.Grammar.{IsHeader}
@@ -30,7 +30,7 @@ asked true n rest at_end NoRoom audit e t = absurd e
 asked false n rest at_end end audit e t = t
 
 -- the closing lines could not all be written
-pub not_closed : (audits failed : Bool) (floor : FloorSeen) (end : End) (old new : Option (List ℕ)) → Begins old new (tail_text (told floor) end) → failed ≡ true → Finishes audits floor end old new failed (Err Write)
+pub not_closed : (audits failed : Bool) (floor : FloorState) (end : End) (old new : Option (List ℕ)) → Begins old new (tail_text (told floor) end) → failed ≡ true → Finishes audits floor end old new failed (Err Write)
 not_closed audits failed floor end old new h up =
     let t = some_told audits in
     (refl, up, t.0, t.1, begins_longer old new (tail_text (told floor) end) (audit_lines t.0) h)
@@ -38,7 +38,7 @@ not_closed audits failed floor end old new h up =
 -- ---- a floor that was driven
 
 -- it shows a pool at first
-pub opened_shows : (h : Header) (start : FloorSeen) → IsHeader h → Opens h start → ShowsPool start
+pub opened_shows : (h : Header) (start : FloorState) → IsHeader h → Opens h start → ShowsPool start
 opened_shows h start fits opens = record {
   state = opening_of h;
   passed = λ s. 0;
@@ -47,7 +47,7 @@ opened_shows h start fits opens = record {
 }
 
 -- and afterwards
-pub driven_shows : RunsKeepNumbers → (left0 left out0 out : Option (List ℕ)) (held0 : List ℕ) (start now : FloorSeen) (end : End)
+pub driven_shows : RunsKeepNumbers → (left0 left out0 out : Option (List ℕ)) (held0 : List ℕ) (start now : FloorState) (end : End)
     → ShowsPool start → Driven left0 left held0 start now out0 out end → ShowsPool now
 driven_shows numbers left0 left out0 out held0 start now end shows (n, rest, p, ends) =
     let r = p.run shows.state shows.passed shows.shown in

@@ -9,9 +9,9 @@ use Rattle.region_cut.specs.Classes.{slots_of}
 use Rattle.pool_machine.specs.declared.chunk.DrawnChunk.{DrawnChunk}
 use Rattle.pool_machine.specs.Laws.{ReachedIsSound}
 use Rattle.pool_machine.specs.Slots.{same_slot, times, one_if, has_index, is_drawn_slot}
-use Rattle.event_floor.specs.Floors.{FloorSeen}
-use Rattle.event_floor.specs.headline.Slots.{FloorsListSlots, ListsSlots, slots_on, slots_with}
-use Rattle.trace_audit.specs.Audit.{class_at, slots_for, IsDrawnSlot, ExactlyOnce, IsFault}
+use Rattle.event_floor.specs.Floors.{FloorState}
+use Rattle.event_floor.specs.headline.ListsSlots.{FloorsListSlots, ListsSlots, slots_on, slots_with}
+use Rattle.trace_audit.specs.Audit.{class_at, slots_for, IsDrawnSlot, FindsEachSlot, IsFault}
 use Rattle.trace_audit.specs.FloorSlots.{IsFaultOn, ShowsPool, TellsDrawn}
 use Rattle.trace_audit.specs.Replay.{FindsNothing}
 use Rattle.trace_audit.specs.Report.{Verdict}
@@ -32,7 +32,7 @@ range_more a zero = ap (λ k. k ∷ []) (let z : a ≡ a + 0 = omega arith in z)
 range_more a (suc n) = ap (λ ks. a ∷ ks) (range_more (a + 1) n ∙ ap (λ k. range_with_len (a + 1) n ++ k ∷ []) (let z : (a + 1) + n ≡ a + suc n = omega arith in z))
 
 -- the slots with one desk more
-pub desk_more : (v : FloorSeen) (lent : List Slot) (n : ℕ) (slots more : List Slot) → IsPermutation (lent ++ flat_map (slots_with v) (range_with_len 0 n)) slots
+pub desk_more : (v : FloorState) (lent : List Slot) (n : ℕ) (slots more : List Slot) → IsPermutation (lent ++ flat_map (slots_with v) (range_with_len 0 n)) slots
     → IsPermutation (slots_with v n) more → IsPermutation (lent ++ flat_map (slots_with v) (range_with_len 0 (n + 1))) (slots ++ more)
 desk_more v lent n slots more p q =
     subst (λ w. IsPermutation w (slots ++ more)) (sym whole) (IsPermutation-append (lent ++ flat_map (slots_with v) (range_with_len 0 n)) slots (slots_with v n) more p q)
@@ -58,7 +58,7 @@ has_no_slot : (i : ℕ) (o : Option DrawnChunk) → (i < slots_for (class_if o) 
 has_no_slot i None l = refl
 has_no_slot i (Some d) l = ⊎_elim (λ (m : i < slots_of d.class). absurd (l m)) (λ (m : slots_of d.class ≤ i). le-ltb i (slots_of d.class) m) (cases_lt i (slots_of d.class))
 
-module _ (sound : ReachedIsSound) (law : FloorsListSlots) (v : FloorSeen) (drawn : List (Option ℕ)) (p : ShowsPool v) (tells : TellsDrawn v drawn) where
+module _ (sound : ReachedIsSound) (law : FloorsListSlots) (v : FloorState) (drawn : List (Option ℕ)) (p : ShowsPool v) (tells : TellsDrawn v drawn) where
   abbrev lists : ListsSlots v p.state
   lists = law v p.state p.passed p.shown
 
@@ -80,7 +80,7 @@ module _ (sound : ReachedIsSound) (law : FloorsListSlots) (v : FloorSeen) (drawn
   no_drawn_slot : (s : Slot) → (IsDrawnSlot drawn s → ⊥) → is_drawn_slot p.state.drawn s ≡ false
   no_drawn_slot s l = has_no_slot s.index (p.state.drawn s.chunk) (λ m. l (subst (λ o. s.index < slots_for o) (sym (classes s.chunk)) m))
 
-  exactly : (found : List Slot) → IsPermutation (slots_on v) found → ExactlyOnce drawn found
+  exactly : (found : List Slot) → IsPermutation (slots_on v) found → FindsEachSlot drawn found
   exactly found perm = record {
     all = λ s l. times_permuted s (slots_on v) found perm ∙ (lists.once s ∙ ap one_if (drawn_slot s l));
     no_other = λ s l. times_permuted s (slots_on v) found perm ∙ (lists.once s ∙ ap one_if (no_drawn_slot s l));
@@ -93,12 +93,12 @@ module _ (sound : ReachedIsSound) (law : FloorsListSlots) (v : FloorSeen) (drawn
   no_fault found NoMemory perm f = refl
 
 -- so an audit of a floor finds nothing wrong
-pub finds_nothing : ReachedIsSound → FloorsListSlots → (v : FloorSeen) (r : Verdict) → ShowsPool v → IfErr r (λ fault. IsFaultOn v fault) → FindsNothing (Some r)
+pub finds_nothing : ReachedIsSound → FloorsListSlots → (v : FloorState) (r : Verdict) → ShowsPool v → IfErr r (λ fault. IsFaultOn v fault) → FindsNothing (Some r)
 finds_nothing sound law v (Ok u) p f = tt
 finds_nothing sound law v (Err fault) p (drawn, found, tells, perm, f) = no_fault sound law v drawn p tells found fault perm f
 
 -- what holds of the slots in some order holds of them in order
-pub each_once : (v : FloorSeen) (drawn : List (Option ℕ)) (found : List Slot) → IsPermutation (slots_on v) found → ExactlyOnce drawn found → ExactlyOnce drawn (slots_on v)
+pub each_once : (v : FloorState) (drawn : List (Option ℕ)) (found : List Slot) → IsPermutation (slots_on v) found → FindsEachSlot drawn found → FindsEachSlot drawn (slots_on v)
 each_once v drawn found perm e = record {
   all = λ s l. sym (times_permuted s (slots_on v) found perm) ∙ e.all s l;
   no_other = λ s l. sym (times_permuted s (slots_on v) found perm) ∙ e.no_other s l;

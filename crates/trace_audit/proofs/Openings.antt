@@ -3,14 +3,14 @@ use Rattle.std.proofs.Common.{◌≡◌, ℕ, ◌*◌, ◌/◌, List, length, Re
 use Rattle.std.proofs.Math.Nat.{mul-div_cancel}
 use Rattle.region_cut.specs.declared.part.Part.{Part}
 use Rattle.digit_route.specs.Digits.{Scheme}
-use Rattle.event_floor.specs.Floors.{FloorSeen}
+use Rattle.event_floor.specs.Floors.{FloorState}
 use Rattle.event_floor.specs.headline.Listing.{listing_of}
 use Rattle.pool_machine.specs.Listing.{Shown}
 use Rattle.pool_machine.specs.State.{State, opening}
 use Rattle.trace_audit.specs.Machine.{Opens, digits_of}
 use Rattle.trace_audit.specs.declared.grammar.header.Header.{Header}
 
-pub opens : {E : Type 0} → (h : Header) (bs : List ℕ) (ps : List Part) (digits : Scheme) (r : Result FloorSeen E) → length bs ≡ h.chunks * 4096 → length ps ≡ length bs / 4096
+pub opens : {E : Type 0} → (h : Header) (bs : List ℕ) (ps : List Part) (digits : Scheme) (r : Result FloorState E) → length bs ≡ h.chunks * 4096 → length ps ≡ length bs / 4096
     → digits ≡ digits_of h
     → IfOk r (λ f. Shown (listing_of f) (opening h.desks (length ps) digits 4096) (λ s. 0)) → IfOk r (λ f. Opens h f)
 opens h bs ps digits (Ok f) size count reads shown =

@@ -4,7 +4,7 @@ use Rattle.std.specs.List.{flat_map, AllByRecursion}
 use Rattle.std.proofs.lemmas.List.{flat_map_more}
 use Rattle.std.specs.Io.KnownBytes.{Appends, Consumes, Keeps, IsAtEnd}
 use Rattle.std.proofs.KnownBytes.{Appends-nil, Appends-trans, Consumes-nil, Consumes-trans}
-use Rattle.event_floor.specs.Floors.{FloorSeen}
+use Rattle.event_floor.specs.Floors.{FloorState}
 use Rattle.pool_machine.specs.declared.request.Request.{Request}
 use Rattle.trace_audit.specs.Grammar.{IsRequest}
 use Rattle.event_floor.specs.headline.Headline.{Applies}
@@ -27,7 +27,7 @@ run_more a b c [] (y ∷ xs) r x h s = absurd h
 run_more a b c (q ∷ rs) [] r x h s = absurd h
 run_more a b c (q ∷ rs) (y ∷ xs) r x (one, more) s = (one, run_more (after a q y) b c rs xs r x more s)
 
-follows_more : (start now new : FloorSeen) (rs : List Request) (xs : List Answer) (r : Request) (x : Answer) → Follows start rs xs now → Applies now r x new → Follows start (rs ++ r ∷ []) (xs ++ x ∷ []) new
+follows_more : (start now new : FloorState) (rs : List Request) (xs : List Answer) (r : Request) (x : Answer) → Follows start rs xs now → Applies now r x new → Follows start (rs ++ r ∷ []) (xs ++ x ∷ []) new
 unfolding Applies
 follows_more start now new rs xs r x h s st count shown =
     let before = h st count shown in
@@ -46,7 +46,7 @@ regroup : (held0 given more front held rest : List ℕ) → held0 ++ given ≡ f
 regroup held0 given more front held rest e k =
     sym (append_assoc held0 given more) ∙ ap (λ w. w ++ more) e ∙ append_assoc front held more ∙ ap (λ w. front ++ w) k
 
-pub played_start : (left0 : Option (List ℕ)) (held0 : List ℕ) (start : FloorSeen) (out0 : Option (List ℕ)) → Played left0 left0 held0 held0 start start 0 [] (Appends out0 out0)
+pub played_start : (left0 : Option (List ℕ)) (held0 : List ℕ) (start : FloorState) (out0 : Option (List ℕ)) → Played left0 left0 held0 held0 start start 0 [] (Appends out0 out0)
 played_start left0 held0 start out0 = record {
   given = [];
   requests = [];
@@ -60,7 +60,7 @@ played_start left0 held0 start out0 = record {
 }
 
 -- one line more
-pub played_more : (left0 left left' : Option (List ℕ)) (held0 held held' : List ℕ) (start now new : FloorSeen) (n m : ℕ) (P P' : List ℕ → Type 0)
+pub played_more : (left0 left left' : Option (List ℕ)) (held0 held held' : List ℕ) (start now new : FloorState) (n m : ℕ) (P P' : List ℕ → Type 0)
     → Played left0 left held0 held start now n [] P → n + 1 ≡ m → (more : List ℕ) (r : Request) (x : Answer) → Consumes left left' more
     → held ++ more ≡ request_line r ++ held' → IsRequest r → Applies now r x new → ((text : List ℕ) → P text → P' (text ++ answer_line x))
     → Played left0 left' held0 held' start new m [] P'
@@ -81,7 +81,7 @@ played_more left0 left left' held0 held held' start now new n m P P' p e more r 
     text_more xs y = ap (λ w. w ++ answer_line y) (append-nil (flat_map answer_line xs)) ∙ sym (flat_more answer_line xs y) ∙ sym (append-nil (flat_map answer_line (xs ++ y ∷ [])))
 
 -- more was read, and no line of it is answered; the tail is written
-pub played_tail : (left0 left left' : Option (List ℕ)) (held0 held rest : List ℕ) (start now new : FloorSeen) (n : ℕ) (tail : List ℕ) (P P' : List ℕ → Type 0)
+pub played_tail : (left0 left left' : Option (List ℕ)) (held0 held rest : List ℕ) (start now new : FloorState) (n : ℕ) (tail : List ℕ) (P P' : List ℕ → Type 0)
     → Played left0 left held0 held start now n [] P → (more : List ℕ) → Consumes left left' more → held ++ more ≡ rest → new ≡ now
     → ((text : List ℕ) → P text → P' (text ++ tail)) → Played left0 left' held0 rest start new n tail P'
 played_tail left0 left left' held0 held rest start now new n tail P P' p more read lines same wrote = record {
@@ -92,7 +92,7 @@ played_tail left0 left left' held0 held rest start now new n tail P P' p more re
   lines = regroup held0 p.given more (flat_map request_line p.requests) held rest p.lines lines;
   good = p.good;
   number = p.number;
-  run = subst (λ (w : FloorSeen). Follows start p.requests p.answers w) (sym same) p.run;
+  run = subst (λ (w : FloorState). Follows start p.requests p.answers w) (sym same) p.run;
   wrote = subst (λ (w : List ℕ). P' (w ++ tail)) (append-nil (flat_map answer_line p.answers)) (wrote (flat_map answer_line p.answers ++ []) p.wrote);
 }
 
@@ -100,7 +100,7 @@ pub begins_more : (out0 out out' : Option (List ℕ)) (text tail : List ℕ) →
 begins_more out0 out out' text tail h (front, back, e, k) = (text ++ front, back, ap (λ w. text ++ w) e ∙ sym (append_assoc text front back), Appends-trans out0 out out' text front h k)
 
 -- the end of the request lines was found
-pub driven_end : (left0 left left' out0 out out' : Option (List ℕ)) (held0 held rest : List ℕ) (start now new : FloorSeen) (n : ℕ) (end : End)
+pub driven_end : (left0 left left' out0 out out' : Option (List ℕ)) (held0 held rest : List ℕ) (start now new : FloorState) (n : ℕ) (end : End)
     → Played left0 left held0 held start now n [] (Appends out0 out) → (more : List ℕ) → Consumes left left' more → held ++ more ≡ rest → new ≡ now → out' ≡ out
     → EndsSo n rest (IsAtEnd left') end → Driven left0 left' held0 start new out0 out' end
 driven_end left0 left left' out0 out out' held0 held rest start now new n end p more read lines same kept ends = (
@@ -112,7 +112,7 @@ driven_end left0 left left' out0 out out' held0 held rest start now new n end p 
 )
 
 -- the reader or the writer failed within a line
-pub stopped_by : (left0 left left' out0 out out' : Option (List ℕ)) (held0 held held' : List ℕ) (start now new : FloorSeen) (n : ℕ) (e : ReplayError)
+pub stopped_by : (left0 left left' out0 out out' : Option (List ℕ)) (held0 held held' : List ℕ) (start now new : FloorState) (n : ℕ) (e : ReplayError)
     → Played left0 left held0 held start now n [] (Appends out0 out) → n < 999999 → (more : List ℕ) → Consumes left left' more
     → Broke (held ++ more) held' now new out out' e → Stopped left0 left' held0 start out0 out' e
 stopped_by left0 left left' out0 out out' held0 held held' start now new n Read p low more read b = (
@@ -135,7 +135,7 @@ stopped_by left0 left left' out0 out out' held0 held held' start now new n Write
 )
 
 -- the reader failed behind the last line that a trace may have
-pub stopped_last : (left0 left left' out0 out : Option (List ℕ)) (held0 held : List ℕ) (start now : FloorSeen) (n : ℕ)
+pub stopped_last : (left0 left left' out0 out : Option (List ℕ)) (held0 held : List ℕ) (start now : FloorState) (n : ℕ)
     → Played left0 left held0 held start now n [] (Appends out0 out) → n ≤ 999999 → Keeps left left' → held ≡ [] → Stopped left0 left' held0 start out0 out Read
 stopped_last left0 left left' out0 out held0 held start now n p low kept none = (
   now,

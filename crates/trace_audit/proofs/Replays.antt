@@ -4,7 +4,7 @@ use Rattle.std.specs.List.{flat_map}
 use Rattle.std.specs.Io.KnownBytes.{Appends, Consumes, IsAtEnd}
 use Rattle.std.proofs.KnownBytes.{Appends-trans, Consumes-nil, Consumes-trans}
 use Rattle.std.proofs.lemmas.Grind.{flat_map-append}
-use Rattle.event_floor.specs.Floors.{FloorSeen}
+use Rattle.event_floor.specs.Floors.{FloorState}
 use Rattle.pool_machine.specs.Laws.{RequestsAreAnswered}
 use Rattle.pool_machine.specs.State.{State}
 use Rattle.trace_audit.specs.Grammar.{IsHeader}
@@ -77,14 +77,14 @@ only_line audits reader writer before left0 left out0 out text text' end (Err e)
 
 -- ---- a floor of the header was driven
 
-module _ (h : Header) (fits : IsHeader h) (start : FloorSeen) (opens : Opens h start) where
+module _ (h : Header) (fits : IsHeader h) (start : FloorState) (opens : Opens h start) where
   all_lines : (held0 given more lines rest : List ℕ) → held0 ++ given ≡ lines ++ rest → (header_line h ++ held0) ++ (given ++ more) ≡ header_line h ++ (lines ++ (rest ++ more))
   all_lines held0 given more lines rest e =
       append_assoc (header_line h) held0 (given ++ more)
       ∙ ap (λ w. header_line h ++ w) (sym (append_assoc held0 given more) ∙ (ap (λ w. w ++ more) e ∙ append_assoc lines rest more))
 
   -- P holds of the report
-  settled : MachineLaws → (left0 left : Option (List ℕ)) (held0 rest : List ℕ) (now : FloorSeen) (n : ℕ) (end : End) (P : List ℕ → Type 0)
+  settled : MachineLaws → (left0 left : Option (List ℕ)) (held0 rest : List ℕ) (now : FloorState) (n : ℕ) (end : End) (P : List ℕ → Type 0)
       → Played left0 left held0 rest start now n (tail_text (told now) end) P → EndsSo n rest (IsAtEnd left) end
       → HoldsOfAll (header_line h ++ held0) left0 left (λ bytes. ReportsTrace bytes P end)
   settled laws left0 left held0 rest now n end P p ends = (
@@ -112,7 +112,7 @@ module _ (h : Header) (fits : IsHeader h) (start : FloorSeen) (opens : Opens h s
       }
 
   -- what was written is a beginning of the report of what was answered so far, and of what would be answered to the rest
-  begun : RequestsAreAnswered → (audits : Bool) (left0 left out0 out : Option (List ℕ)) (held0 rest : List ℕ) (now : FloorSeen) (n : ℕ)
+  begun : RequestsAreAnswered → (audits : Bool) (left0 left out0 out : Option (List ℕ)) (held0 rest : List ℕ) (now : FloorState) (n : ℕ)
       → Played left0 left held0 rest start now n [] (Begins out0 out) → n ≤ 999999
       → HoldsOfAll (header_line h ++ held0) left0 left (λ bytes. (end : End) × ReportsTrace bytes (BeginsReport audits out0 out end) end)
   begun law audits left0 left out0 out held0 rest now n p low = (p.given, p.read, λ more none. whole more)
@@ -148,7 +148,7 @@ module _ (h : Header) (fits : IsHeader h) (start : FloorSeen) (opens : Opens h s
           )
 
   -- the end of the trace was found, and what stands behind the answers was written, or a beginning of it
-  pub finished : MachineLaws → (audits reader writer : Bool) (left0 left out0 out out' : Option (List ℕ)) (held0 : List ℕ) (now : FloorSeen) (end : End) (r : Result (End × Option Verdict) ReplayError)
+  pub finished : MachineLaws → (audits reader writer : Bool) (left0 left out0 out out' : Option (List ℕ)) (held0 : List ℕ) (now : FloorState) (end : End) (r : Result (End × Option Verdict) ReplayError)
       → Driven left0 left held0 start now out0 out end → Finishes audits now end out out' writer r → reader ≡ false
       → Replayed audits (header_line h ++ held0) left0 left out0 out' reader writer r
   finished laws audits reader writer left0 left out0 out out' held0 now end (Ok x) (n, rest, p, ends) (is, down, t, wrote) reader_down = (

@@ -25,7 +25,7 @@ abbrev pub IsDrawnSlot : List (Option ℕ) → Slot → Type 0
 IsDrawnSlot drawn s = s.index < slots_in drawn s.chunk
 
 -- each slot of a drawn chunk occurs once, and no other occurs
-pub record ExactlyOnce (drawn : List (Option ℕ)) (found : List Slot) : Type 0 where
+pub record FindsEachSlot (drawn : List (Option ℕ)) (found : List Slot) : Type 0 where
   pub all : (s : Slot) → IsDrawnSlot drawn s → times s found ≡ 1
   pub no_other : (s : Slot) → (IsDrawnSlot drawn s → ⊥) → times s found ≡ 0
 

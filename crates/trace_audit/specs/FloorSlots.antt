@@ -4,29 +4,29 @@ use Rattle.region_cut.specs.declared.slot.Slot.{Slot}
 use Rattle.pool_machine.specs.State.{State}
 use Rattle.pool_machine.specs.Listing.{Shown}
 use Rattle.event_floor.specs.Chunks.{class_drawn}
-use Rattle.event_floor.specs.Floors.{FloorSeen}
+use Rattle.event_floor.specs.Floors.{FloorState}
 use Rattle.event_floor.specs.headline.Listing.{listing_of}
-use Rattle.event_floor.specs.headline.Slots.{slots_on}
-use Rattle.trace_audit.specs.Audit.{ExactlyOnce, IsFault, class_at}
+use Rattle.event_floor.specs.headline.ListsSlots.{slots_on}
+use Rattle.trace_audit.specs.Audit.{FindsEachSlot, IsFault, class_at}
 use Rattle.trace_audit.specs.declared.auditing.fault.Fault.{Fault}
 
 -- of each chunk of a region, the class that the floor drew it for
-pub record TellsDrawn (v : FloorSeen) (drawn : List (Option ℕ)) : Type 0 where
+pub record TellsDrawn (v : FloorState) (drawn : List (Option ℕ)) : Type 0 where
   pub classes : (k : ℕ) → k < 1024 → class_at drawn k ≡ class_drawn v.drawn k
   pub no_more : (k : ℕ) → 1024 ≤ k → class_at drawn k ≡ None
 
 -- the homes, the caches, the inboxes and the lent buffers, joined, have each slot of a drawn chunk once, and no other
 -- slot
-abbrev pub HasEachOnce : FloorSeen → Type 0
-HasEachOnce v = (drawn : List (Option ℕ)) × TellsDrawn v drawn × ExactlyOnce drawn (slots_on v)
+abbrev pub HasEachOnce : FloorState → Type 0
+HasEachOnce v = (drawn : List (Option ℕ)) × TellsDrawn v drawn × FindsEachSlot drawn (slots_on v)
 
 -- the fault is there, in some order of these slots
-abbrev pub IsFaultOn : FloorSeen → Fault → Type 0
+abbrev pub IsFaultOn : FloorState → Fault → Type 0
 IsFaultOn v fault = (drawn : List (Option ℕ)) × (found : List Slot) × TellsDrawn v drawn
     × IsPermutation (slots_on v) found × IsFault drawn found fault
 
 -- the floor shows a state of a pool that has no more chunks than a region
-pub record ShowsPool (v : FloorSeen) : Type 0 where
+pub record ShowsPool (v : FloorState) : Type 0 where
   pub state : State
   pub passed : Slot → ℕ
   pub shown : Shown (listing_of v) state passed

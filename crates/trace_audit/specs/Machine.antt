@@ -4,17 +4,17 @@ use Rattle.std.specs.List.{range_with_len}
 use Rattle.region_cut.specs.Classes.{bits_of}
 use Rattle.slot_chain.specs.Counts.{capped}
 use Rattle.digit_route.specs.Digits.{Scheme}
-use Rattle.event_floor.specs.Floors.{FloorSeen, desk_count, desk_at}
+use Rattle.event_floor.specs.Floors.{FloorState, desk_count, desk_at}
 use Rattle.pool_machine.specs.State.{State, opening}
 use Rattle.pool_machine.specs.Listing.{Shown}
-use Rattle.pool_machine.specs.Told.{home_slots, cached_slots, queued_slots, lent_slots, drawn_count}
+use Rattle.pool_machine.specs.SlotLists.{home_slots, cached_slots, queued_slots, lent_slots, drawn_count}
 use Rattle.event_floor.specs.headline.Listing.{listing_of}
-use Rattle.event_floor.specs.Posted.{buffers_in, inbox_at}
-use Rattle.event_floor.specs.Seats.{home_of, cached_of}
+use Rattle.event_floor.specs.Inboxes.{buffers_in, inbox_at}
+use Rattle.event_floor.specs.Desks.{home_of, cached_of}
 use Rattle.pool_machine.specs.declared.reply.Reply.{Reply}
 use Rattle.pool_machine.specs.declared.refusal.Refusal.{Refusal}
 use Rattle.trace_audit.specs.declared.grammar.header.Header.{Header}
-use Rattle.trace_audit.specs.declared.report.closing.Counts.{Counts}
+use Rattle.trace_audit.specs.declared.report.closing.DeskCounts.{DeskCounts}
 
 abbrev pub Answer : Type 0
 Answer = Result Reply Refusal
@@ -28,11 +28,11 @@ abbrev pub opening_of : Header → State
 opening_of h = opening h.desks h.chunks (digits_of h) 4096
 
 -- the floor shows it
-abbrev pub Opens : Header → FloorSeen → Type 0
+abbrev pub Opens : Header → FloorState → Type 0
 Opens h start = Shown (listing_of start) (opening_of h) (λ slot. 0)
 
 -- how many slots are at home with a desk, in its cache, and in the batches that wait for it
-abbrev pub counts_in : State → ℕ → Counts
+abbrev pub counts_in : State → ℕ → DeskCounts
 counts_in st a = record {
   home = length (home_slots st a);
   cached = length (cached_slots st a);
@@ -40,7 +40,7 @@ counts_in st a = record {
 }
 
 -- the same, as the floor counts it
-abbrev pub counts_at : FloorSeen → ℕ → Counts
+abbrev pub counts_at : FloorState → ℕ → DeskCounts
 counts_at v a = record {
   home = capped (length (home_of (desk_at v a)));
   cached = capped (length (cached_of (desk_at v a)));
@@ -51,7 +51,7 @@ counts_at v a = record {
 pub record Tally : Type 0 where
   pub chunks : ℕ
   pub lent : ℕ
-  pub desks : List Counts
+  pub desks : List DeskCounts
 
 -- what is told of a state
 abbrev pub told_of : State → Tally
@@ -62,7 +62,7 @@ told_of st = record {
 }
 
 -- the same, as the floor counts it
-abbrev pub told : FloorSeen → Tally
+abbrev pub told : FloorState → Tally
 told v = record {
   chunks = length v.drawn;
   lent = count_by is_some v.lent;

@@ -10,7 +10,7 @@ use Rattle.pool_machine.specs.declared.refusal.Refusal.{Refusal}
 use Rattle.pool_machine.specs.RefusalNames.{refusal_number, refusal_name}
 use Rattle.trace_audit.specs.declared.auditing.fault.Fault.{Fault}
 use Rattle.trace_audit.specs.declared.auditing.fault.Fault.TheVariants.{Stranger, Doubled, Missing, NoMemory}
-use Rattle.trace_audit.specs.declared.report.closing.Counts.{Counts}
+use Rattle.trace_audit.specs.declared.report.closing.DeskCounts.{DeskCounts}
 use Rattle.trace_audit.specs.Machine.{Answer, Tally}
 
 abbrev pub reply_text : Reply → List ℕ
@@ -66,24 +66,24 @@ abbrev pub no_memory_line : List ℕ
 no_memory_line = codes "R15 NoMemory" ++ 10 ∷ []
 
 -- the three counts, and the line's end
-abbrev pub counts_text : Counts → List ℕ
+abbrev pub counts_text : DeskCounts → List ℕ
 counts_text c = codes " home " ++ decimal c.home ++ codes " cached " ++ decimal c.cached ++ codes " queued "
     ++ decimal c.queued ++ 10 ∷ []
 
-abbrev pub are_zero : Counts → Bool
+abbrev pub are_zero : DeskCounts → Bool
 are_zero c = (c.home == 0) && (c.cached == 0) && (c.queued == 0)
 
 -- the line of desk a; nothing where it has nothing
-abbrev pub desk_line : ℕ → Counts → List ℕ
+abbrev pub desk_line : ℕ → DeskCounts → List ℕ
 desk_line a c = if are_zero c then [] else codes "desk " ++ decimal a ++ counts_text c
 
 -- the lines of the desks from a on
-abbrev pub desk_lines : ℕ → List Counts → List ℕ
+abbrev pub desk_lines : ℕ → List DeskCounts → List ℕ
 desk_lines a [] = []
 desk_lines a (c ∷ cs) = desk_line a c ++ desk_lines (suc a) cs
 
 -- two desks together; a sum stops at the greatest u64
-abbrev pub plus : Counts → Counts → Counts
+abbrev pub plus : DeskCounts → DeskCounts → DeskCounts
 plus c d = record {
   home = capped (c.home + d.home);
   cached = capped (c.cached + d.cached);
@@ -91,7 +91,7 @@ plus c d = record {
 }
 
 -- the sums over the desks
-abbrev pub total : List Counts → Counts
+abbrev pub total : List DeskCounts → DeskCounts
 total cs = record {
   home = capped (sum_by (λ c. c.home) cs);
   cached = capped (sum_by (λ c. c.cached) cs);

@@ -3,7 +3,7 @@ use Rattle.std.specs.Prelude.{ℕ, ◌≡◌, ◌≢◌, ◌⊎◌, ◌+◌, ◌
 use Rattle.std.specs.Prelude.{Result, Ok, Err, Bool, true, false}
 use Rattle.std.specs.List.{flat_map, AllByRecursion}
 use Rattle.std.specs.Io.KnownBytes.{Appends, Consumes, IsAtEnd}
-use Rattle.event_floor.specs.Floors.{FloorSeen}
+use Rattle.event_floor.specs.Floors.{FloorState}
 use Rattle.pool_machine.specs.declared.request.Request.{Request}
 use Rattle.trace_audit.specs.Grammar.{Lacks, IsRequest}
 use Rattle.event_floor.specs.headline.Headline.{Applies}
@@ -44,7 +44,8 @@ IsBadFront bytes at_end = ((more : List ℕ) → BeginsWithRequest (bytes ++ mor
     ⊎ (at_end × (BeginsWithRequest bytes → ⊥))
 
 -- what one line came to: the floor goes from old to new, the writer's bytes from out0 to out
-abbrev pub Turned : List ℕ → List ℕ → Type 0 → FloorSeen → FloorSeen → Option (List ℕ) → Option (List ℕ) → Turn → Type 0
+abbrev pub Turned : List ℕ → List ℕ → Type 0 → FloorState → FloorState → Option (List ℕ) → Option (List ℕ) → Turn
+    → Type 0
 Turned bytes held at_end old new out0 out turns.Answered = (r : Request) × (x : Answer) × IsRequest r
     × (bytes ≡ request_line r ++ held) × Applies old r x new × Appends out0 out (answer_line x)
 Turned bytes held at_end old new out0 out turns.Over = (bytes ≡ []) × (held ≡ []) × at_end × (new ≡ old) × (out ≡ out0)
@@ -52,19 +53,19 @@ Turned bytes held at_end old new out0 out turns.Bad = (bytes ≢ []) × IsBadFro
     × (out ≡ out0)
 
 -- where the reader or the writer failed within a line
-abbrev pub Broke : List ℕ → List ℕ → FloorSeen → FloorSeen → Option (List ℕ) → Option (List ℕ) → ReplayError → Type 0
+abbrev pub Broke : List ℕ → List ℕ → FloorState → FloorState → Option (List ℕ) → Option (List ℕ) → ReplayError → Type 0
 Broke bytes held old new out0 out Read = (bytes ≡ held) × IsPartial held × (new ≡ old) × (out ≡ out0)
 Broke bytes held old new out0 out Write = (r : Request) × (x : Answer) × IsRequest r
     × (bytes ≡ request_line r ++ held) × Applies old r x new × Begins out0 out (answer_line x)
 
 -- from each state that the first floor shows, the requests with these answers are a run to one that the other shows
-abbrev pub Follows : FloorSeen → List Request → List Answer → FloorSeen → Type 0
+abbrev pub Follows : FloorState → List Request → List Answer → FloorState → Type 0
 Follows start requests answers now = (st : State) (count : Slot → ℕ) → Shown (listing_of start) st count
     → (end : State) × (count' : Slot → ℕ) × Run st requests answers end × Shown (listing_of now) end count'
 
 -- What was held and what was read are n request lines and a rest; the floor was driven by them, and P holds of the
 -- lines of its answers, with the tail behind them.
-pub record Played (left0 left : Option (List ℕ)) (held0 rest : List ℕ) (start now : FloorSeen) (n : ℕ) (tail : List ℕ)
+pub record Played (left0 left : Option (List ℕ)) (held0 rest : List ℕ) (start now : FloorState) (n : ℕ) (tail : List ℕ)
     (P : List ℕ → Type 0) : Type 0 where
   pub given : List ℕ
   pub requests : List Request
@@ -83,18 +84,18 @@ EndsSo n rest at_end (BadLine k) = (n ≤ 999999) × (rest ≢ []) × (k ≡ n +
 EndsSo n rest at_end NoRoom = ⊥
 
 -- all request lines were read and answered, and how they end was found
-abbrev pub Driven : Option (List ℕ) → Option (List ℕ) → List ℕ → FloorSeen → FloorSeen → Option (List ℕ)
+abbrev pub Driven : Option (List ℕ) → Option (List ℕ) → List ℕ → FloorState → FloorState → Option (List ℕ)
     → Option (List ℕ) → End → Type 0
 Driven left0 left held0 start now out0 out end = (n : ℕ) × (rest : List ℕ)
     × Played left0 left held0 rest start now n [] (Appends out0 out) × EndsSo n rest (IsAtEnd left) end
 
 -- the reader or the writer failed before
-abbrev pub Stopped : Option (List ℕ) → Option (List ℕ) → List ℕ → FloorSeen → Option (List ℕ) → Option (List ℕ)
+abbrev pub Stopped : Option (List ℕ) → Option (List ℕ) → List ℕ → FloorState → Option (List ℕ) → Option (List ℕ)
     → ReplayError → Type 0
-Stopped left0 left held0 start out0 out Read = (now : FloorSeen) × (n : ℕ) × (rest : List ℕ)
+Stopped left0 left held0 start out0 out Read = (now : FloorState) × (n : ℕ) × (rest : List ℕ)
     × Played left0 left held0 rest start now n [] (Appends out0 out) × (n ≤ 999999) × IsPartial rest
     × (n ≡ 999999 → rest ≡ [])
-Stopped left0 left held0 start out0 out Write = (now : FloorSeen) × (n : ℕ) × (rest : List ℕ)
+Stopped left0 left held0 start out0 out Write = (now : FloorState) × (n : ℕ) × (rest : List ℕ)
     × Played left0 left held0 rest start now n [] (Begins out0 out) × (n ≤ 999999)
 
 -- what is answered of an audit that is asked for; nothing where none is
@@ -121,7 +122,7 @@ TellsAudit audits old new failed (Err e) = ((audit : Option Verdict) × IsTold a
     × Begins old new (audit_lines audit)) × (failed ≡ true)
 
 -- what stands behind the answers was written, or a beginning of it
-abbrev pub Finishes : Bool → FloorSeen → End → Option (List ℕ) → Option (List ℕ) → Bool
+abbrev pub Finishes : Bool → FloorState → End → Option (List ℕ) → Option (List ℕ) → Bool
     → Result (End × Option Verdict) ReplayError → Type 0
 Finishes audits floor end old new failed (Ok r) = (r.0 ≡ end) × (failed ≡ false) × IsTold audits r.1
     × Appends old new (tail_text (told floor) end ++ audit_lines r.1)

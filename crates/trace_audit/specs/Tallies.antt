@@ -10,13 +10,13 @@ pub record FitsTable (drawn : List (Option ℕ)) : Type 0 where
   pub few : (k : ℕ) → slots_in drawn k ≤ 256
 
 -- what the table says of the slot
-abbrev pub counted : List ℕ → Slot → ℕ
-counted table s = slice_index table (s.chunk * 256 + s.index)
+abbrev pub count_at : List ℕ → Slot → ℕ
+count_at table s = slice_index table (s.chunk * 256 + s.index)
 
 -- the table has, for each slot of a drawn chunk, how often it occurs, or 2 where that is more
 abbrev pub IsTally : List (Option ℕ) → List Slot → List ℕ → Type 0
-IsTally drawn found table = (s : Slot) → IsDrawnSlot drawn s → counted table s ≡ min 2 (times s found)
+IsTally drawn found table = (s : Slot) → IsDrawnSlot drawn s → count_at table s ≡ min 2 (times s found)
 
 -- the slot is one of a drawn chunk, and has this count
 abbrev pub HasCount : List (Option ℕ) → List ℕ → ℕ → Slot → Type 0
-HasCount drawn table count s = IsDrawnSlot drawn s × (counted table s ≡ count)
+HasCount drawn table count s = IsDrawnSlot drawn s × (count_at table s ≡ count)

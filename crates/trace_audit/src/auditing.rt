@@ -1,6 +1,6 @@
 //! The audit: whether all slots of the drawn chunks are there, each of them once.
 ghost use Rattle.std.specs.Prelude.{◌≡◌, length, IfOk, IfErr};
-ghost use Rattle.trace_audit.specs.Audit.{ExactlyOnce, IsFault, IsStranger, IsNowhere};
+ghost use Rattle.trace_audit.specs.Audit.{FindsEachSlot, IsFault, IsStranger, IsNowhere};
 ghost use Rattle.trace_audit.specs.Tallies.{IsTally};
 
 mod drawn;
@@ -22,7 +22,7 @@ fn judge(drawn: &Drawn, found: &[Slot], tallied: &[u8]) -> Result<(), Fault>
     requires length { length tallied.now ≡ 262144 }
     requires tally { IsTally drawn.now found.now tallied.now }
     requires strangers { IsNowhere (IsStranger drawn.now found.now) }
-    ensures ok { IfOk result (λ _. ExactlyOnce drawn.now found.now) }
+    ensures ok { IfOk result (λ _. FindsEachSlot drawn.now found.now) }
     ensures err { IfErr result (λ fault. IsFault drawn.now found.now fault) }
 {
     match least_with(drawn, tallied, 2) {
@@ -55,7 +55,7 @@ fn judge(drawn: &Drawn, found: &[Slot], tallied: &[u8]) -> Result<(), Fault>
 /// }
 /// ```
 pub fn audit(alloc: Global, found: &[Slot], drawn: &Drawn) -> Result<(), Fault>
-    ensures ok { IfOk result (λ _. ExactlyOnce drawn.now found.now) }
+    ensures ok { IfOk result (λ _. FindsEachSlot drawn.now found.now) }
     ensures err { IfErr result (λ fault. IsFault drawn.now found.now fault) }
 {
     if let Some(slot) = least_stranger(drawn, found) {

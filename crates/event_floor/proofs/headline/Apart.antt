@@ -8,8 +8,8 @@ use Rattle.pool_desk.specs.Homes.{AtHome, slot_at}
 use Rattle.pool_desk.specs.Desks.{DeskState}
 use Rattle.event_floor.specs.declared.any_desk.AnyDesk.{AnyDesk}
 use Rattle.event_floor.specs.declared.any_desk.AnyDesk.TheVariants.{Idle, Held}
-use Rattle.event_floor.specs.Seats.{home_of}
-use Rattle.event_floor.specs.Floors.{FloorSeen, desk_at, IsHeld}
+use Rattle.event_floor.specs.Desks.{home_of}
+use Rattle.event_floor.specs.Floors.{FloorState, desk_at, IsHeld}
 use Rattle.pool_machine.specs.Slots.{same_slot, times, one_if}
 use Rattle.pool_machine.specs.State.{State}
 use Rattle.pool_machine.specs.Listing.{DeskListing, slots_seen}
@@ -46,7 +46,7 @@ pub more_than_none : (m : ℕ) (x : Bool) → 1 + m ≡ one_if x → (m ≡ 0) �
 more_than_none m true e = (omega (arith, e), refl)
 more_than_none m false e = absurd (omega (arith, e))
 
-module _ (v : FloorSeen) (st : State) (count : Slot → ℕ) (h : Located (listing_of v) st count) where
+module _ (v : FloorState) (st : State) (count : Slot → ℕ) (h : Located (listing_of v) st count) where
   desk_times : (c : ℕ) (r : Slot) → times r (map slot_at (home_of (desk_at v c))) ≡ one_if (is_list (HomeOf c) (list_of st r))
   desk_times c r =
       ap (times r) (sym (home_slots (desk_at v c))) ∙ (ap (λ (x : DeskListing). times r (slots_seen x.home)) (sym (desk_seen v c)) ∙ h.in_place (HomeOf c) r)

@@ -7,17 +7,17 @@ use Rattle.std.proofs.lemmas.List.Sorted.{IsPermutation-map}
 use Rattle.region_cut.specs.Classes.{slots_of, size_of}
 use Rattle.pool_desk.specs.Homes.{unused_from}
 use Rattle.pool_desk.specs.Desks.{DeskState}
-use Rattle.event_floor.specs.declared.any_desk.AnyDesk.TheVariants.{Held as HeldSeat}
+use Rattle.event_floor.specs.declared.any_desk.AnyDesk.TheVariants.{Held as HeldDesk}
 use Rattle.pool_machine.specs.declared.request.Request.TheVariants.{Claim}
 use Rattle.pool_machine.specs.declared.reply.Reply.TheVariants.{Chunk}
-use Rattle.event_floor.specs.Floors.{FloorSeen}
+use Rattle.event_floor.specs.Floors.{FloorState}
 use Rattle.event_floor.specs.Steps.{DrawsChunk}
 use Rattle.pool_machine.specs.Listing.{DeskListing}
 use Rattle.pool_machine.proofs.Located.{LocatedStep}
 use Rattle.event_floor.specs.headline.Listing.{entry_of, entry_at, desk_of, listing_of}
 use Rattle.event_floor.specs.headline.Whole.{IsWhole}
 use Rattle.pool_machine.proofs.ClaimStep.{ClaimEdits, after_claim, chunk_buffer, chunk_buffers, claim_applies}
-use Rattle.event_floor.proofs.headline.Views.{held_seen, with_seat_seen}
+use Rattle.event_floor.proofs.headline.Views.{held_seen, with_any_desk_seen}
 use Rattle.event_floor.proofs.headline.Refused.{claim_accepted}
 use Rattle.event_floor.proofs.headline.Holders.{numbered_held}
 
@@ -28,12 +28,12 @@ unused_seen a k c g (suc n) i bs = ap (λ l. chunk_buffer k a c i ∷ l) (unused
 
 -- ---- Claim
 
-pub claim_done : (v w : FloorSeen) (a c k : ℕ) → IsWhole v → DrawsChunk v a c k w → LocatedStep (listing_of v) (Claim a c) (Ok (Chunk k)) (listing_of w)
+pub claim_done : (v w : FloorState) (a c k : ℕ) → IsWhole v → DrawsChunk v a c k w → LocatedStep (listing_of v) (Claim a c) (Ok (Chunk k)) (listing_of w)
 claim_done v w a c k f s =
     let l = listing_of v in
     let d = s.before in
     let d' = s.after in
-    let new = desk_of (HeldSeat d') in
+    let new = desk_of (HeldDesk d') in
     let seen = held_seen v a d s.held in
     let number : d.number ≡ a = (numbered_held v a d f s.held).0 in
     let number' : d'.number ≡ a = ap (λ (x : DeskState). x.number) s.claims.same ∙ number in
@@ -55,6 +55,6 @@ claim_done v w a c k f s =
     } in
     let shown : listing_of w ≡ after_claim l a c k new =
     ap listing_of s.same
-    ∙ ap (λ xs. record l { desks = xs; drawn = v.drawn ++ record { owner = a; class = c } ∷ [] }) (with_seat_seen v a (HeldSeat d')) in
+    ∙ ap (λ xs. record l { desks = xs; drawn = v.drawn ++ record { owner = a; class = c } ∷ [] }) (with_any_desk_seen v a (HeldDesk d')) in
     subst (λ z. LocatedStep l (Claim a c) (Ok (Chunk k)) z) (sym shown)
     (claim_applies l a c k new (claim_accepted v a c d s.held s.is_class s.claims.needed left) edits)

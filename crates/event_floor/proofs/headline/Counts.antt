@@ -17,13 +17,13 @@ use Rattle.pool_machine.specs.Headline.{joined}
 use Rattle.pool_machine.specs.Listing.{DeskListing, BatchListing, slots_seen, inbox_listing, Shown}
 use Rattle.pool_machine.specs.Slots.{one_if}
 use Rattle.pool_machine.specs.State.{State, slots, cached_by}
-use Rattle.pool_machine.specs.Told.{at_home_with, home_slots, cached_slots, queued_slots, lent_slots, drawn_count}
+use Rattle.pool_machine.specs.SlotLists.{at_home_with, home_slots, cached_slots, queued_slots, lent_slots, drawn_count}
 use Rattle.event_floor.specs.Lent.{buffers_lent}
-use Rattle.event_floor.specs.Posted.{buffers_in, inbox_at}
-use Rattle.event_floor.specs.Seats.{home_of, cached_of}
-use Rattle.event_floor.specs.Floors.{FloorSeen, desk_at}
+use Rattle.event_floor.specs.Inboxes.{buffers_in, inbox_at}
+use Rattle.event_floor.specs.Desks.{home_of, cached_of}
+use Rattle.event_floor.specs.Floors.{FloorState, desk_at}
 use Rattle.event_floor.specs.headline.Listing.{listing_of}
-use Rattle.event_floor.specs.headline.Counts.{TellsCounts}
+use Rattle.event_floor.specs.headline.TellsCounts.{TellsCounts}
 use Rattle.pool_machine.proofs.Enumerate.{count_cons}
 use Rattle.pool_machine.proofs.Reached.{reached_sound}
 use Rattle.pool_machine.proofs.Shown.{shown_once}
@@ -47,7 +47,7 @@ present_count [] = refl
 present_count (None ∷ places) = let a = count_cons is_some None places in let b = present_count places in omega (arith, a, b)
 present_count (Some x ∷ places) = let a = count_cons is_some (Some x) places in let b = present_count places in omega (arith, a, b)
 
-module _ (v : FloorSeen) (st : State) (c : Slot → ℕ) (few : v.chunks ≤ 1024) (h : Shown (listing_of v) st c) where
+module _ (v : FloorState) (st : State) (c : Slot → ℕ) (few : v.chunks ≤ 1024) (h : Shown (listing_of v) st c) where
   slots_few : length (slots st) ≤ 4194304
   slots_few = all_few st (subst (λ n. n ≤ 1024) h.frame.chunks few)
 
@@ -117,7 +117,7 @@ some_at [] k l = absurd (omega arith)
 some_at (x ∷ xs) zero l = (x, refl)
 some_at (x ∷ xs) (suc k) l = some_at xs k (omega arith)
 
-drawn_told : (v : FloorSeen) (st : State) (c : Slot → ℕ) → Shown (listing_of v) st c → length v.drawn ≡ drawn_count st
+drawn_told : (v : FloorState) (st : State) (c : Slot → ℕ) → Shown (listing_of v) st c → length v.drawn ≡ drawn_count st
 drawn_told v st c h = sym (counted_drawn st.drawn v.drawn 0 st.chunks within (λ i. ap st.drawn (let p : 0 + i ≡ i = omega arith in p) ∙ sym (h.frame.drawn i)))
   where
     past : st.chunks < length v.drawn → ⊥
@@ -131,7 +131,7 @@ drawn_told v st c h = sym (counted_drawn st.drawn v.drawn 0 st.chunks within (λ
 
 -- ---- all counts
 
-pub floor_tells : (v : FloorSeen) (st : State) (count : Slot → ℕ) → v.chunks ≤ 1024 → Shown (listing_of v) st count → TellsCounts v st
+pub floor_tells : (v : FloorState) (st : State) (count : Slot → ℕ) → v.chunks ≤ 1024 → Shown (listing_of v) st count → TellsCounts v st
 floor_tells v st count few h = record {
   home = λ a. counted slot_at (home_of (desk_at v a)) (home_slots st a) (home_listed v st count h a) (few_there v st count few h (at_home_with st a));
   cached = λ a. counted slot_of (cached_of (desk_at v a)) (cached_slots st a) (cache_listed v st count h a) (few_there v st count few h (cached_by st a));

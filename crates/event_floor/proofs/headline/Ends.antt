@@ -22,19 +22,19 @@ use Rattle.slot_chain.specs.Buffer.{Buffer, ended_of}
 use Rattle.pool_desk.specs.Homes.{Unused}
 use Rattle.pool_machine.specs.declared.chunk.DrawnChunk.{DrawnChunk}
 use Rattle.event_floor.specs.Chunks.{ended_parts}
-use Rattle.event_floor.specs.Floors.{FloorSeen, desk_at, desk_count}
+use Rattle.event_floor.specs.Floors.{FloorState, desk_at, desk_count}
 use Rattle.pool_machine.specs.Slots.{one_if}
 use Rattle.pool_machine.specs.State.{State}
 use Rattle.pool_machine.proofs.Located.{Located}
 use Rattle.event_floor.specs.headline.Bytes.{Holds, LieAt, RestLies, EndsAsHeld}
 use Rattle.event_floor.specs.headline.Lying.{UnusedSlotsLie}
-use Rattle.event_floor.specs.headline.Known.{buffers_of, fresh_of, undrawn_parts, EndsAsDrawn, EndsKnown}
+use Rattle.event_floor.specs.headline.EndsKnown.{buffers_of, fresh_of, undrawn_parts, EndsAsDrawn, EndsKnown}
 use Rattle.event_floor.specs.headline.Listing.{desk_of, listing_of}
 use Rattle.event_floor.specs.headline.Headline.{Shows}
 use Rattle.pool_machine.proofs.Shown.{located}
 use Rattle.event_floor.specs.headline.Names.{HasName, HasNoName, AreNames, IsNamed, chunks_of, is_drawn_for}
 use Rattle.event_floor.specs.headline.Whole.{IsStocked, IsWhole}
-use Rattle.event_floor.proofs.headline.Found.{All-flat, All-parts, found, seat_each, buffers_named, taken_buffer}
+use Rattle.event_floor.proofs.headline.Found.{All-flat, All-parts, found, at_each_desk, buffers_named, taken_buffer}
 use Rattle.event_floor.proofs.headline.Counts.{some_at}
 use Rattle.event_floor.proofs.headline.Handed.{All-to-both}
 use Rattle.event_floor.proofs.headline.Kept.{fresh_named}
@@ -110,7 +110,7 @@ owner_at : (o : Option DrawnChunk) (class : ℕ) → option_map (λ (d : DrawnCh
 owner_at None class e = absurd (true≢false (sym (ap is_some e)))
 owner_at (Some d) class e = (d, refl)
 
-module _ (v : FloorSeen) (names : List Carved) (n : AreNames names v) (st : State) (count : Slot → ℕ) (h : Located (listing_of v) st count) where
+module _ (v : FloorState) (names : List Carved) (n : AreNames names v) (st : State) (count : Slot → ℕ) (h : Located (listing_of v) st count) where
   -- what holds of each chunk that a desk knows holds of each drawn chunk
   of_chunk : (P : Carved → Type 0) → All P (flat_map chunks_of v.desks) → (k : ℕ) (c : Carved) → slice_get names k ≡ Some c → P c
   of_chunk P all k c e =
@@ -152,7 +152,7 @@ module _ (v : FloorSeen) (names : List Carved) (n : AreNames names v) (st : Stat
     pub slots_known : (chunks : List Carved) → IsPermutation (flat_map chunks_of v.desks) chunks → All (HasKnownSlots first) chunks
     slots_known chunks p =
         All-permutation (HasKnownSlots first) _ _ p
-        (All-flat (HasKnownSlots first) chunks_of v.desks (seat_each (λ s. All (HasKnownSlots first) (chunks_of s)) v
+        (All-flat (HasKnownSlots first) chunks_of v.desks (at_each_desk (λ s. All (HasKnownSlots first) (chunks_of s)) v
         (λ a l. All-to (λ (c : Carved). slice_get names c.chunk ≡ Some c) (HasKnownSlots first) (chunks_of (desk_at v a))
         (λ c e. All-to (IsSlot c) (IsKnown first) c.taken (λ x y. y.0) (slice_let_go c.chunk c e)) (n.desks a l).same)))
 
@@ -242,7 +242,7 @@ module _ (v : FloorSeen) (names : List Carved) (n : AreNames names v) (st : Stat
               (lies tail) (buffers_named v names n) all_let_go;
           fresh = λ tail. All-to (HasNoName names) (λ u. StandsAt u.bytes (start_of u.slot u.class) (flat_map (end_in second) v.parts ++ tail)) (fresh_of v)
               (fresh_lies tail) (fresh_named names v n);
-          drawn = All-flat (EndsAsDrawn second) chunks_of v.desks (seat_each (λ s. All (EndsAsDrawn second) (chunks_of s)) v
+          drawn = All-flat (EndsAsDrawn second) chunks_of v.desks (at_each_desk (λ s. All (EndsAsDrawn second) (chunks_of s)) v
               (λ a l. All-to (λ (c : Carved). slice_get names c.chunk ≡ Some c) (EndsAsDrawn second) (chunks_of (desk_at v a))
               (λ c e. ends_as_drawn c.chunk c e) (n.desks a l).same));
           undrawn = left_ends;
@@ -344,7 +344,7 @@ module _ (v : FloorSeen) (names : List Carved) (n : AreNames names v) (st : Stat
 
 -- ---- a floor
 
-module _ (v : FloorSeen) (whole : IsWhole v) (shows : Shows v) (named : IsNamed v) (first : List Ended) (chunks : List Carved) (agree : Agrees first)
+module _ (v : FloorState) (whole : IsWhole v) (shows : Shows v) (named : IsNamed v) (first : List Ended) (chunks : List Carved) (agree : Agrees first)
     (are : chunks ≡ flat_map chunks_of v.desks)
     (p : IsPermutation (map ended_of (buffers_of v) ++ ended_parts (undrawn_parts v) v.undrawn) first) where
   all_noted : All (EndsSo first) (map ended_of (buffers_of v) ++ ended_parts (undrawn_parts v) v.undrawn)

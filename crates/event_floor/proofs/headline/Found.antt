@@ -18,15 +18,15 @@ use Rattle.pool_machine.specs.declared.chunk.DrawnChunk.{DrawnChunk}
 use Rattle.event_floor.specs.declared.any_desk.AnyDesk.{AnyDesk}
 use Rattle.event_floor.specs.declared.any_desk.AnyDesk.TheVariants.{Idle, Held}
 use Rattle.event_floor.specs.Lent.{buffers_lent}
-use Rattle.event_floor.specs.Posted.{BatchSeen, inbox_at, buffers_in}
-use Rattle.event_floor.specs.Seats.{home_of, cached_of}
-use Rattle.event_floor.specs.Floors.{FloorSeen, desk_at, desk_count, no_desk}
+use Rattle.event_floor.specs.Inboxes.{QueuedState, inbox_at, buffers_in}
+use Rattle.event_floor.specs.Desks.{home_of, cached_of}
+use Rattle.event_floor.specs.Floors.{FloorState, desk_at, desk_count, no_desk}
 use Rattle.pool_machine.specs.Slots.{same_slot, has_index, times, one_if}
 use Rattle.pool_machine.specs.State.{State}
 use Rattle.pool_machine.specs.Listing.{DeskListing, BatchListing, slots_seen}
 use Rattle.pool_machine.proofs.Located.{Located}
 use Rattle.pool_machine.specs.Headline.{joined}
-use Rattle.event_floor.specs.headline.Known.{buffers_with, buffers_of}
+use Rattle.event_floor.specs.headline.EndsKnown.{buffers_with, buffers_of}
 use Rattle.event_floor.specs.headline.Listing.{entry_of, desk_of, batch_of, listing_of}
 use Rattle.event_floor.specs.headline.Names.{HasName, IsNamedHome, AreNames}
 use Rattle.pool_machine.proofs.Basics.{same_slot_eq}
@@ -60,7 +60,7 @@ found {X} P p (x ∷ xs) h l = go (p x) refl (found P p xs (All-tail P x xs h))
 
 -- ---- the places of a floor: the slots at home, and the buffers that are lent, in caches and in batches
 
-abbrev pub places : FloorSeen → List AtHome
+abbrev pub places : FloorState → List AtHome
 places v = flat_map home_of v.desks ++ (map Kept (buffers_lent v.lent) ++ (map Kept (flat_map cached_of v.desks) ++ map Kept (flat_map buffers_in v.inboxes)))
 
 kept_slots : (bs : List Buffer) → slots_seen (map entry_of bs) ≡ map slot_at (map Kept bs)
@@ -82,22 +82,22 @@ cache_part : (ds : List AnyDesk) → flat_map (λ (d : DeskListing). slots_seen 
 cache_part [] = refl
 cache_part (s ∷ ds) = ap₂ ◌++◌ (cache_slots s) (cache_part ds) ∙ sym (kept_append (cached_of s) (flat_map cached_of ds))
 
-box_slots : (ps : List BatchSeen) → flat_map (λ (w : BatchListing). slots_seen w.buffers) (map batch_of ps) ≡ map slot_at (map Kept (buffers_in ps))
+box_slots : (ps : List QueuedState) → flat_map (λ (w : BatchListing). slots_seen w.buffers) (map batch_of ps) ≡ map slot_at (map Kept (buffers_in ps))
 box_slots [] = refl
 box_slots (p ∷ ps) = ap₂ ◌++◌ (kept_slots p.buffers) (box_slots ps) ∙ sym (kept_append p.buffers (buffers_in ps))
 
-post_part : (is : List (List BatchSeen))
+post_part : (is : List (List QueuedState))
     → flat_map (λ ws. flat_map (λ (w : BatchListing). slots_seen w.buffers) ws) (map (map batch_of) is) ≡ map slot_at (map Kept (flat_map buffers_in is))
 post_part [] = refl
 post_part (ps ∷ is) = ap₂ ◌++◌ (box_slots ps) (post_part is) ∙ sym (kept_append (buffers_in ps) (flat_map buffers_in is))
 
-places_joined : (v : FloorSeen) → joined (listing_of v) ≡ map slot_at (places v)
+places_joined : (v : FloorState) → joined (listing_of v) ≡ map slot_at (places v)
 places_joined v =
     let lent = map Kept (buffers_lent v.lent) in
     let caches = map Kept (flat_map cached_of v.desks) in
-    let posts = map Kept (flat_map buffers_in v.inboxes) in
+    let batches = map Kept (flat_map buffers_in v.inboxes) in
     ap₂ ◌++◌ (home_part v.desks) (ap₂ ◌++◌ (kept_slots (buffers_lent v.lent)) (ap₂ ◌++◌ (cache_part v.desks) (post_part v.inboxes)
-    ∙ sym (map-append slot_at caches posts)) ∙ sym (map-append slot_at lent (caches ++ posts))) ∙ sym (map-append slot_at (flat_map home_of v.desks) (lent ++ (caches ++ posts)))
+    ∙ sym (map-append slot_at caches batches)) ∙ sym (map-append slot_at lent (caches ++ batches))) ∙ sym (map-append slot_at (flat_map home_of v.desks) (lent ++ (caches ++ batches)))
 
 -- ---- what holds of each buffer
 
@@ -119,22 +119,22 @@ kept_back P (Fresh u ∷ hs) h = kept_back P hs (All-tail P (Fresh u) hs h)
 All-two : {X : Type 0} (P Q : X → Type 0) (xs : List X) → All P xs → All Q xs → All (λ x. P x × Q x) xs
 All-two P Q xs p q = λ k d l. (p k d l, q k d l)
 
-placed_each : (K : Buffer → Type 0) (v : FloorSeen) → All K (buffers_of v) → All (KeptIs K) (places v)
+placed_each : (K : Buffer → Type 0) (v : FloorState) → All K (buffers_of v) → All (KeptIs K) (places v)
 placed_each K v h =
     let lent = buffers_lent v.lent in
     let caches = flat_map cached_of v.desks in
-    let posts = flat_map buffers_in v.inboxes in
-    let desks = All-parts K buffers_with v.desks (All-first K (flat_map buffers_with v.desks) (lent ++ posts) h) in
-    let out = All-second K (flat_map buffers_with v.desks) (lent ++ posts) h in
+    let batches = flat_map buffers_in v.inboxes in
+    let desks = All-parts K buffers_with v.desks (All-first K (flat_map buffers_with v.desks) (lent ++ batches) h) in
+    let out = All-second K (flat_map buffers_with v.desks) (lent ++ batches) h in
     let at_home : All (λ (s : AnyDesk). All (KeptIs K) (home_of s)) v.desks =
     All-to (λ (s : AnyDesk). All K (buffers_with s)) (λ (s : AnyDesk). All (KeptIs K) (home_of s)) v.desks (λ s g. kept_each K (home_of s)
     (All-first K (kept_in (home_of s)) (cached_of s) g)) desks in
     let in_caches : All K caches =
     All-flat K cached_of v.desks (All-to (λ (s : AnyDesk). All K (buffers_with s)) (λ (s : AnyDesk). All K (cached_of s)) v.desks (λ s g. All-second K (kept_in (home_of s))
     (cached_of s) g) desks) in
-    All-append (KeptIs K) (flat_map home_of v.desks) (map Kept lent ++ (map Kept caches ++ map Kept posts)) (All-flat (KeptIs K) home_of v.desks at_home)
-    (All-append (KeptIs K) (map Kept lent) (map Kept caches ++ map Kept posts) (All-map (KeptIs K) Kept lent (All-first K lent posts out))
-    (All-append (KeptIs K) (map Kept caches) (map Kept posts) (All-map (KeptIs K) Kept caches in_caches) (All-map (KeptIs K) Kept posts (All-second K lent posts out))))
+    All-append (KeptIs K) (flat_map home_of v.desks) (map Kept lent ++ (map Kept caches ++ map Kept batches)) (All-flat (KeptIs K) home_of v.desks at_home)
+    (All-append (KeptIs K) (map Kept lent) (map Kept caches ++ map Kept batches) (All-map (KeptIs K) Kept lent (All-first K lent batches out))
+    (All-append (KeptIs K) (map Kept caches) (map Kept batches) (All-map (KeptIs K) Kept caches in_caches) (All-map (KeptIs K) Kept batches (All-second K lent batches out))))
 
 pub lent_each : (P : Buffer → Type 0) (lent : List (Option Buffer)) → ((i : ℕ) → IfSome (get_or lent i None) P) → All P (buffers_lent lent)
 lent_each P [] h = All-nil P
@@ -144,37 +144,37 @@ lent_each P (o ∷ lent) h = All-append P (option_to_list o) (buffers_lent lent)
     one None p = All-nil P
     one (Some b) p = All-cons P b [] p (All-nil P)
 
-pub seat_each : (P : AnyDesk → Type 0) (v : FloorSeen) → ((a : ℕ) → a < desk_count v → P (desk_at v a)) → All P v.desks
-seat_each P v f = λ k d l. subst P (get_or_same v.desks k no_desk d l) (f k l)
+pub at_each_desk : (P : AnyDesk → Type 0) (v : FloorState) → ((a : ℕ) → a < desk_count v → P (desk_at v a)) → All P v.desks
+at_each_desk P v f = λ k d l. subst P (get_or_same v.desks k no_desk d l) (f k l)
 
-module _ (v : FloorSeen) (names : List Carved) (n : AreNames names v) where
+module _ (v : FloorState) (names : List Carved) (n : AreNames names v) where
   cached_named : All (HasName names) (flat_map cached_of v.desks)
-  cached_named = All-flat (HasName names) cached_of v.desks (seat_each (λ (s : AnyDesk). All (HasName names) (cached_of s)) v (λ a l. (n.desks a l).cached))
+  cached_named = All-flat (HasName names) cached_of v.desks (at_each_desk (λ (s : AnyDesk). All (HasName names) (cached_of s)) v (λ a l. (n.desks a l).cached))
 
   home_named : All (λ (s : AnyDesk). All (IsNamedHome names) (home_of s)) v.desks
-  home_named = seat_each (λ (s : AnyDesk). All (IsNamedHome names) (home_of s)) v (λ a l. (n.desks a l).home)
+  home_named = at_each_desk (λ (s : AnyDesk). All (IsNamedHome names) (home_of s)) v (λ a l. (n.desks a l).home)
 
   lent_named : All (HasName names) (buffers_lent v.lent)
   lent_named = lent_each (HasName names) v.lent n.lent
 
-  posted_named : All (HasName names) (flat_map buffers_in v.inboxes)
-  posted_named = All-flat (HasName names) buffers_in v.inboxes
-      (λ k d l. subst (λ ps. All (HasName names) (buffers_in ps)) (get_or_same v.inboxes k [] d l) (All-flat (HasName names) (λ (p : BatchSeen). p.buffers) (inbox_at v.inboxes k) (n.posted k)))
+  queued_named : All (HasName names) (flat_map buffers_in v.inboxes)
+  queued_named = All-flat (HasName names) buffers_in v.inboxes
+      (λ k d l. subst (λ ps. All (HasName names) (buffers_in ps)) (get_or_same v.inboxes k [] d l) (All-flat (HasName names) (λ (p : QueuedState). p.buffers) (inbox_at v.inboxes k) (n.queued k)))
 
   places_named : All (IsNamedHome names) (places v)
   places_named =
       All-append (IsNamedHome names) (flat_map home_of v.desks) _ (All-flat (IsNamedHome names) home_of v.desks home_named)
       (All-append (IsNamedHome names) (map Kept (buffers_lent v.lent)) _ (All-map (IsNamedHome names) Kept (buffers_lent v.lent) lent_named)
       (All-append (IsNamedHome names) (map Kept (flat_map cached_of v.desks)) _ (All-map (IsNamedHome names) Kept (flat_map cached_of v.desks) cached_named)
-      (All-map (IsNamedHome names) Kept (flat_map buffers_in v.inboxes) posted_named)))
+      (All-map (IsNamedHome names) Kept (flat_map buffers_in v.inboxes) queued_named)))
 
   pub buffers_named : All (HasName names) (buffers_of v)
   buffers_named =
       All-append (HasName names) (flat_map buffers_with v.desks) _
       (All-flat (HasName names) buffers_with v.desks
-      (seat_each (λ (s : AnyDesk). All (HasName names) (buffers_with s)) v
+      (at_each_desk (λ (s : AnyDesk). All (HasName names) (buffers_with s)) v
       (λ a l. All-append (HasName names) (kept_in (home_of (desk_at v a))) _ (kept_back (IsNamedHome names) (home_of (desk_at v a)) (n.desks a l).home) (n.desks a l).cached)))
-      (All-append (HasName names) (buffers_lent v.lent) _ lent_named posted_named)
+      (All-append (HasName names) (buffers_lent v.lent) _ lent_named queued_named)
 
   module _ (st : State) (count : Slot → ℕ) (h : Located (listing_of v) st count) where
     has_place : (o : Option DrawnChunk) (i class : ℕ) → option_map (λ (d : DrawnChunk). d.class) o ≡ Some class → i < slots_of class → has_index i o ≡ true

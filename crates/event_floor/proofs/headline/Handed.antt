@@ -19,9 +19,9 @@ use Rattle.pool_desk.specs.Desks.{DeskState}
 use Rattle.pool_machine.specs.declared.chunk.DrawnChunk.{DrawnChunk}
 use Rattle.event_floor.specs.declared.any_desk.AnyDesk.TheVariants.{Held}
 use Rattle.event_floor.specs.Lent.{place_of}
-use Rattle.event_floor.specs.Posted.{BatchSeen, inbox_at}
-use Rattle.event_floor.specs.Seats.{home_of, cached_of}
-use Rattle.event_floor.specs.Floors.{FloorSeen, desk_at, no_desk}
+use Rattle.event_floor.specs.Inboxes.{QueuedState, inbox_at}
+use Rattle.event_floor.specs.Desks.{home_of, cached_of}
+use Rattle.event_floor.specs.Floors.{FloorState, desk_at, no_desk}
 use Rattle.event_floor.specs.Steps.{LendsSlot}
 use Rattle.pool_machine.specs.Slots.{one_if}
 use Rattle.pool_machine.specs.State.{State}
@@ -43,7 +43,7 @@ drawn_apart a b (Some d) e ne = other_eqb d.owner b (λ q. ne (sym q ∙ eqb_is 
 pub All-to-both : {X : Type 0} (P Q R : X → Type 0) (xs : List X) → ((x : X) → P x → Q x → R x) → All P xs → All Q xs → All R xs
 All-to-both P Q R xs f p q = λ k d l. f (get_or xs k d) (p k d l) (q k d l)
 
-module _ (names : List Carved) (v w : FloorSeen) (a n : ℕ) (slot : Slot) (f : AreNames names v) (s : LendsSlot v a n slot w) where
+module _ (names : List Carved) (v w : FloorState) (a n : ℕ) (slot : Slot) (f : AreNames names v) (s : LendsSlot v a n slot w) where
   abbrev buffer : Buffer
   buffer = s.buffer
 
@@ -60,7 +60,7 @@ module _ (names : List Carved) (v w : FloorSeen) (a n : ℕ) (slot : Slot) (f : 
       (changed_named names v f a (Held s.after) (set v.lent (place_of slot) (Some buffer)) v.inboxes v.next s.held.0
       (desk_named names v f a s.before s.after lender_named same (All-tail (IsNamedHome names) (Kept c) s.after.home all)
       (subst (λ bs. All (HasName names) bs) (ap (λ (x : DeskState). x.cached) (sym s.allocs.2)) lender_named.cached))
-      (each_place (HasName names) v.lent (place_of slot) (Some buffer) named f.lent) f.posted)
+      (each_place (HasName names) v.lent (place_of slot) (Some buffer) named f.lent) f.queued)
 
   -- ---- a slot is lent for the first time: its name is the next of its chunk
 
@@ -221,8 +221,8 @@ module _ (names : List Carved) (v w : FloorSeen) (a n : ℕ) (slot : Slot) (f : 
       chunks = lent_chunks;
       desks = each_lending;
       lent = each_place (HasName new_names) v.lent (place_of slot) (Some buffer) named_now (λ i. some_to (HasName names) (HasName new_names) (get_or v.lent i None) kept_name (f.lent i));
-      posted = λ b. All-to (λ (q : BatchSeen). All (HasName names) q.buffers) (λ (q : BatchSeen). All (HasName new_names) q.buffers) (inbox_at v.inboxes b)
-          (λ q h. All-to (HasName names) (HasName new_names) q.buffers kept_name h) (f.posted b);
+      queued = λ b. All-to (λ (q : QueuedState). All (HasName names) q.buffers) (λ (q : QueuedState). All (HasName new_names) q.buffers) (inbox_at v.inboxes b)
+          (λ q h. All-to (HasName names) (HasName new_names) q.buffers kept_name h) (f.queued b);
     })
 
   handed : (st : State) (count : Slot → ℕ) → Located (listing_of v) st count → (x : AtHome) → GivenAs x buffer → Names x buffer s.before.drawn s.after.drawn

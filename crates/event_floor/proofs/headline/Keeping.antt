@@ -13,9 +13,9 @@ use Rattle.pool_machine.specs.declared.request.Request.TheVariants.{Adopt, Retir
 use Rattle.pool_machine.specs.declared.reply.Reply.{Reply}
 use Rattle.pool_machine.specs.declared.reply.Reply.TheVariants.{Done, Chunk, Slot as Lent, Home, Cached, Due, Batch, Counts}
 use Rattle.event_floor.specs.declared.any_desk.AnyDesk.{AnyDesk}
-use Rattle.event_floor.specs.Posted.{BatchSeen}
-use Rattle.event_floor.specs.Seats.{new_desks, home_of, cached_of}
-use Rattle.event_floor.specs.Floors.{FloorSeen, no_desk, opening}
+use Rattle.event_floor.specs.Inboxes.{QueuedState}
+use Rattle.event_floor.specs.Desks.{new_desks, home_of, cached_of}
+use Rattle.event_floor.specs.Floors.{FloorState, no_desk, opening}
 use Rattle.event_floor.specs.Steps.{Does}
 use Rattle.event_floor.specs.Steps.{Answers}
 use Rattle.pool_machine.specs.Steps.{Answer}
@@ -27,7 +27,7 @@ use Rattle.event_floor.proofs.headline.Named.{adopt_named, retire_named, free_na
 use Rattle.event_floor.proofs.headline.Taken.{claim_named}
 use Rattle.event_floor.proofs.headline.Handed.{alloc_named}
 
-does_named : (names : List Carved) (v w : FloorSeen) (q : Request) (r : Reply) → Shows v → AreNames names v → Does v q r w → (new : List Carved) × AreNames new w
+does_named : (names : List Carved) (v w : FloorState) (q : Request) (r : Reply) → Shows v → AreNames names v → Does v q r w → (new : List Carved) × AreNames new w
 unfolding Shows
 does_named names v w (Adopt a x) Done s n h = (names, adopt_named names v n w a x h.0 h.1 h.2)
 does_named names v w (Adopt a x) _ s n h = elim h [ ]
@@ -48,10 +48,10 @@ does_named names v w (Link number) _ s n h = elim h [ ]
 does_named names v w (Take b) (Counts home on) s n h = (names, take_named names v n w b home on h)
 does_named names v w (Take b) _ s n h = elim h [ ]
 
-pub stays_named : (v w : FloorSeen) (q : Request) (y : Answer) → Shows v → IsNamed v → Answers v q y w → IsNamed w
+pub stays_named : (v w : FloorState) (q : Request) (y : Answer) → Shows v → IsNamed v → Answers v q y w → IsNamed w
 unfolding IsNamed
 stays_named v w q (Ok r) s n h = does_named n.0 v w q r s n.1 h
-stays_named v w q (Err r) s n h = subst (λ (z : FloorSeen). (names : List Carved) × AreNames names z) (sym h.1) n
+stays_named v w q (Err r) s n h = subst (λ (z : FloorState). (names : List Carved) × AreNames names z) (sym h.1) n
 
 -- ---- a new floor
 
@@ -78,11 +78,11 @@ none_lent P zero (suc i) = tt
 none_lent P (suc n) zero = tt
 none_lent P (suc n) (suc i) = none_lent P n i
 
-pub none_posted : (P : BatchSeen → Type 0) (n b : ℕ) → All P (get_or (replicate n (let ps : List BatchSeen = [] in ps)) b [])
-none_posted P zero zero = All-nil P
-none_posted P zero (suc b) = All-nil P
-none_posted P (suc n) zero = All-nil P
-none_posted P (suc n) (suc b) = none_posted P n b
+pub none_queued : (P : QueuedState → Type 0) (n b : ℕ) → All P (get_or (replicate n (let ps : List QueuedState = [] in ps)) b [])
+none_queued P zero zero = All-nil P
+none_queued P zero (suc b) = All-nil P
+none_queued P (suc n) zero = All-nil P
+none_queued P (suc n) (suc b) = none_queued P n b
 
 pub opening_named : (desks : ℕ) (parts : List Part) (digits : Scheme) (limit : ℕ) → IsNamed (opening desks parts digits limit)
 unfolding IsNamed
@@ -93,6 +93,6 @@ opening_named desks parts digits limit = (
     chunks = λ k c e. absurd (true≢false (sym (ap is_some e)));
     desks = λ a l. bare_named a (get_or (new_desks digits limit desks) a no_desk) (idle_bare digits limit desks a no_desk l);
     lent = λ i. none_lent (HasName []) (256 * length parts) i;
-    posted = λ b. none_posted (λ (p : BatchSeen). All (HasName []) p.buffers) desks b;
+    queued = λ b. none_queued (λ (p : QueuedState). All (HasName []) p.buffers) desks b;
   },
 )

@@ -23,21 +23,21 @@ use Rattle.pool_machine.specs.declared.request.Request.TheVariants.{Adopt, Retir
 use Rattle.pool_machine.specs.declared.reply.Reply.{Reply}
 use Rattle.pool_machine.specs.declared.reply.Reply.TheVariants.{Done, Chunk, Slot as Lent, Home, Cached, Due, Batch, Counts}
 use Rattle.pool_machine.specs.Steps.{Answer}
-use Rattle.event_floor.specs.Floors.{FloorSeen, no_desk, opening}
-use Rattle.event_floor.specs.Posted.{BatchSeen}
-use Rattle.event_floor.specs.Seats.{new_desks}
+use Rattle.event_floor.specs.Floors.{FloorState, no_desk, opening}
+use Rattle.event_floor.specs.Inboxes.{QueuedState}
+use Rattle.event_floor.specs.Desks.{new_desks}
 use Rattle.event_floor.specs.declared.any_desk.AnyDesk.{AnyDesk}
 use Rattle.digit_route.specs.Digits.{Scheme}
 use Rattle.event_floor.specs.Steps.{Answers}
 use Rattle.event_floor.specs.Steps.{Does, DrawsChunk, LendsSlot}
 use Rattle.event_floor.specs.headline.Bytes.{LieAt, RestLies, Holds, IsKept, KeepsBytes}
-use Rattle.event_floor.specs.headline.Known.{buffers_of, fresh_of}
+use Rattle.event_floor.specs.headline.EndsKnown.{buffers_of, fresh_of}
 use Rattle.event_floor.specs.headline.Names.{HasName, HasNoName, IsNamedHome, AreNames, IsNamed}
 use Rattle.event_floor.proofs.headline.Everywhere.{Everywhere, OfDesk, IsHome, everywhere, buffers_everywhere, fresh_everywhere, chunks_everywhere, adopt_everywhere, retire_everywhere, link_everywhere, send_everywhere, free_everywhere, take_everywhere, claim_everywhere, alloc_everywhere}
 use Rattle.event_floor.proofs.headline.Lists.{get_or_same}
 use Rattle.event_floor.proofs.headline.Named.{held_named}
 use Rattle.event_floor.proofs.headline.Stands.{stands_first, stands_second, stands_there, unused_stand}
-use Rattle.event_floor.proofs.headline.Keeping.{IsBare, idle_bare, none_lent, none_posted}
+use Rattle.event_floor.proofs.headline.Keeping.{IsBare, idle_bare, none_lent, none_queued}
 use Rattle.event_floor.proofs.headline.Taken.{All-to, some_is}
 
 -- ---- each request, of what holds everywhere
@@ -45,10 +45,10 @@ use Rattle.event_floor.proofs.headline.Taken.{All-to, some_is}
 module _ (K : Buffer → Type 0) (U : Unused → Type 0) (R : Carved → Type 0)
     (changed : (b : Buffer) (n : ℕ) → K b → K (record b { forwards = n }))
     (give : (u : Unused) (b : Buffer) → GivenAs (Fresh u) b → U u → K b)
-    (next : (names : List Carved) (v w : FloorSeen) (a n : ℕ) (slot : Slot) → AreNames names v → (s : LendsSlot v a n slot w)
+    (next : (names : List Carved) (v w : FloorState) (a n : ℕ) (slot : Slot) → AreNames names v → (s : LendsSlot v a n slot w)
     (u : Unused) (t : TakesNext u s.buffer s.before.drawn s.after.drawn) → IsPermutation s.before.home (Fresh u ∷ s.after.home)
     → GivenAs (Fresh u) s.buffer → R t.from → R (taken_next t.from s.buffer.bytes.ghost_name t.rest)) where
-  pub does_everywhere : (names : List Carved) (v w : FloorSeen) (q : Request) (r : Reply) → AreNames names v → Everywhere K U R v
+  pub does_everywhere : (names : List Carved) (v w : FloorState) (q : Request) (r : Reply) → AreNames names v → Everywhere K U R v
       → ((a class k : ℕ) (s : DrawsChunk v a class k w) → All (IsHome K U) (unused_from s.part.chunk class s.part.bytes.ghost_name (slots_of class) 0 s.part.bytes.now)
       × R s.claims.drawn.drawn)
       → Does v q r w → Everywhere K U R w
@@ -73,16 +73,16 @@ module _ (K : Buffer → Type 0) (U : Unused → Type 0) (R : Carved → Type 0)
 
 -- ---- which chunks are drawn
 
-abbrev SameChunks : FloorSeen → FloorSeen → Type 0
+abbrev SameChunks : FloorState → FloorState → Type 0
 SameChunks v w = (w.drawn ≡ v.drawn) × (w.undrawn ≡ v.undrawn)
 
-abbrev DrawsSome : FloorSeen → FloorSeen → Type 0
+abbrev DrawsSome : FloorState → FloorState → Type 0
 DrawsSome v w = (a : ℕ) × (class : ℕ) × (k : ℕ) × DrawsChunk v a class k w
 
-stays_drawn : (v w u : FloorSeen) → w ≡ u → u.drawn ≡ v.drawn → u.undrawn ≡ v.undrawn → SameChunks v w ⊎ DrawsSome v w
-stays_drawn v w u e d l = inl (ap (λ (f : FloorSeen). f.drawn) e ∙ d, ap (λ (f : FloorSeen). f.undrawn) e ∙ l)
+stays_drawn : (v w u : FloorState) → w ≡ u → u.drawn ≡ v.drawn → u.undrawn ≡ v.undrawn → SameChunks v w ⊎ DrawsSome v w
+stays_drawn v w u e d l = inl (ap (λ (f : FloorState). f.drawn) e ∙ d, ap (λ (f : FloorState). f.undrawn) e ∙ l)
 
-same_chunks : (v w : FloorSeen) (q : Request) (r : Reply) → Does v q r w → SameChunks v w ⊎ DrawsSome v w
+same_chunks : (v w : FloorState) (q : Request) (r : Reply) → Does v q r w → SameChunks v w ⊎ DrawsSome v w
 same_chunks v w (Adopt a x) Done h = stays_drawn v w _ h.2 refl refl
 same_chunks v w (Adopt a x) _ h = elim h [ ]
 same_chunks v w (Retire a) Done h = stays_drawn v w _ h.4 refl refl
@@ -116,7 +116,7 @@ module _ (region : List ℕ) where
       subst (λ bs. LieAt region b.slot b.class bs) (sym g.3)
       (subst (λ c. LieAt region b.slot c u.bytes) (sym g.1) (subst (λ s. LieAt region s u.class u.bytes) (sym g.0) h))
 
-  next_lies : (names : List Carved) (v w : FloorSeen) (a n : ℕ) (slot : Slot) → AreNames names v → (s : LendsSlot v a n slot w)
+  next_lies : (names : List Carved) (v w : FloorState) (a n : ℕ) (slot : Slot) → AreNames names v → (s : LendsSlot v a n slot w)
       (u : Unused) (t : TakesNext u s.buffer s.before.drawn s.after.drawn) → IsPermutation s.before.home (Fresh u ∷ s.after.home)
       → GivenAs (Fresh u) s.buffer → RestLies region t.from → RestLies region (taken_next t.from s.buffer.bytes.ghost_name t.rest)
   next_lies names v w a n slot f s u t p g h =
@@ -131,7 +131,7 @@ module _ (region : List ℕ) where
       (stands_second s.buffer.bytes.now t.rest at region (subst (λ bs. StandsAt bs at region) t.left h)))
 
   -- a drawn chunk stands where it stood undrawn
-  module _ (v w : FloorSeen) (a class k : ℕ) (s : DrawsChunk v a class k w) (h : StandsAt (flat_map (λ (bs : List ℕ). bs) v.undrawn) (CHUNK * length v.drawn) region) where
+  module _ (v w : FloorState) (a class k : ℕ) (s : DrawsChunk v a class k w) (h : StandsAt (flat_map (λ (bs : List ℕ). bs) v.undrawn) (CHUNK * length v.drawn) region) where
     both : StandsAt (bytes_of s.part ++ flat_map (λ (bs : List ℕ). bs) w.undrawn) (CHUNK * length v.drawn) region
     both = subst (λ us. StandsAt (flat_map (λ (bs : List ℕ). bs) us) (CHUNK * length v.drawn) region) s.first h
 
@@ -157,13 +157,13 @@ module _ (region : List ℕ) where
     left_lies : StandsAt (flat_map (λ (bs : List ℕ). bs) w.undrawn) (CHUNK * length w.drawn) region
     left_lies =
         let whole = s.part.is_whole in
-        let more : length w.drawn ≡ length v.drawn + 1 = ap (λ (x : FloorSeen). length x.drawn) s.same ∙ length_push v.drawn _ in
+        let more : length w.drawn ≡ length v.drawn + 1 = ap (λ (x : FloorState). length x.drawn) s.same ∙ length_push v.drawn _ in
         let p : CHUNK * length v.drawn + length (bytes_of s.part) ≡ CHUNK * (length v.drawn + 1) = omega (arith, whole) in
         subst (λ n. StandsAt (flat_map (λ (bs : List ℕ). bs) w.undrawn) (CHUNK * n) region) (sym more)
         (subst (λ n. StandsAt (flat_map (λ (bs : List ℕ). bs) w.undrawn) n region) p (stands_second (bytes_of s.part) _ _ region both))
 
   -- the parts that aren't drawn stay, but for the one of a claim
-  undrawn_lies : (v w : FloorSeen) (q : Request) (r : Reply) → StandsAt (flat_map (λ (bs : List ℕ). bs) v.undrawn) (CHUNK * length v.drawn) region → Does v q r w
+  undrawn_lies : (v w : FloorState) (q : Request) (r : Reply) → StandsAt (flat_map (λ (bs : List ℕ). bs) v.undrawn) (CHUNK * length v.drawn) region → Does v q r w
       → StandsAt (flat_map (λ (bs : List ℕ). bs) w.undrawn) (CHUNK * length w.drawn) region
   undrawn_lies v w q r l h = ⊎_elim
       (λ (same : SameChunks v w).
@@ -171,7 +171,7 @@ module _ (region : List ℕ) where
       (subst (λ ds. StandsAt (flat_map (λ (bs : List ℕ). bs) v.undrawn) (CHUNK * length ds) region) (sym same.0) l))
       (λ (draws : DrawsSome v w). left_lies v w draws.0 draws.1 draws.2 draws.3 l) (same_chunks v w q r h)
 
-  does_hold : (names : List Carved) (v w : FloorSeen) (q : Request) (r : Reply) → AreNames names v → Holds v region → Does v q r w → Holds w region
+  does_hold : (names : List Carved) (v w : FloorState) (q : Request) (r : Reply) → AreNames names v → Holds v region → Does v q r w → Holds w region
   does_hold names v w q r n h d =
       let e = does_everywhere BufferLies FreshLies (RestLies region) (λ b m p. p) given_lies next_lies names v w q r n
       (everywhere BufferLies FreshLies (RestLies region) v h.buffers h.fresh h.rests)
@@ -192,7 +192,7 @@ abbrev AnyChunk : Carved → Type 0
 AnyChunk c = Unit {0}
 
 -- the floor's buffers since it was `old`
-pub record KeptSince (old v : FloorSeen) : Type 0 where
+pub record KeptSince (old v : FloorState) : Type 0 where
   pub kept : Everywhere (IsKept (buffers_of old)) (HasNone (buffers_of old)) AnyChunk v
   pub below : All (λ (c : Buffer). c.slot.chunk < length v.drawn) (buffers_of old)
 
@@ -230,7 +230,7 @@ home_of_names : (names : List Carved) (x : AtHome) → IsNamedHome names x → I
 home_of_names names (Kept b) h = h
 home_of_names names (Fresh u) h = h
 
-names_everywhere : (names : List Carved) (v : FloorSeen) → AreNames names v → Everywhere (HasName names) (HasNoName names) AnyChunk v
+names_everywhere : (names : List Carved) (v : FloorState) → AreNames names v → Everywhere (HasName names) (HasNoName names) AnyChunk v
 names_everywhere names v n = record {
   desks = λ a l. record {
     home = All-to (IsNamedHome names) (IsHome (HasName names) (HasNoName names)) _ (home_of_names names) (n.desks a l).home;
@@ -238,13 +238,13 @@ names_everywhere names v n = record {
     chunks = λ k d m. tt;
   };
   lent = n.lent;
-  posted = n.posted;
+  queued = n.queued;
 }
 
-pub fresh_named : (names : List Carved) (v : FloorSeen) → AreNames names v → All (HasNoName names) (fresh_of v)
+pub fresh_named : (names : List Carved) (v : FloorState) → AreNames names v → All (HasNoName names) (fresh_of v)
 fresh_named names v n = fresh_everywhere (HasName names) (HasNoName names) AnyChunk v (names_everywhere names v n)
 
-names_start : (names : List Carved) (v : FloorSeen) → AreNames names v → KeptSince v v
+names_start : (names : List Carved) (v : FloorState) → AreNames names v → KeptSince v v
 names_start names v n =
     let e = names_everywhere names v n in
     let named = buffers_everywhere (HasName names) (HasNoName names) AnyChunk v e in
@@ -256,7 +256,7 @@ names_start names v n =
           (λ c h. subst (λ m. c.slot.chunk < m) n.count (slice_get_within names c.slot.chunk h.chunk h.is_chunk)) named;
     }
 
-does_keep : (names : List Carved) (old v w : FloorSeen) (q : Request) (r : Reply) → AreNames names v → KeptSince old v → Does v q r w → KeptSince old w
+does_keep : (names : List Carved) (old v w : FloorState) (q : Request) (r : Reply) → AreNames names v → KeptSince old v → Does v q r w → KeptSince old w
 does_keep names old v w q r n h d =
     let olds = buffers_of old in record {
       kept = does_everywhere (IsKept olds) (HasNone olds) AnyChunk (λ b m p. p) (given_kept olds) (λ names v w a n slot f s u t p g m. m) names v w q r n h.kept
@@ -268,31 +268,31 @@ does_keep names old v w q r n h d =
       below = ⊎_elim
           (λ (same : SameChunks v w). subst (λ ds. All (λ (c : Buffer). c.slot.chunk < length ds) olds) (sym same.0) h.below)
           (λ (draws : DrawsSome v w).
-          let more : length w.drawn ≡ length v.drawn + 1 = ap (λ (x : FloorSeen). length x.drawn) draws.3.same ∙ length_push v.drawn _ in
+          let more : length w.drawn ≡ length v.drawn + 1 = ap (λ (x : FloorState). length x.drawn) draws.3.same ∙ length_push v.drawn _ in
           All-to (λ (c : Buffer). c.slot.chunk < length v.drawn) (λ (c : Buffer). c.slot.chunk < length w.drawn) olds (λ c l. omega (arith, l, more)) h.below)
           (same_chunks v w q r d);
     }
 
 -- ---- answers
 
-pub start_kept : (v : FloorSeen) → IsNamed v → KeptSince v v
+pub start_kept : (v : FloorState) → IsNamed v → KeptSince v v
 unfolding IsNamed
 start_kept v n = names_start n.0 v n.1
 
-pub stays_kept : (old v w : FloorSeen) (q : Request) (y : Answer) → IsNamed v → KeptSince old v → Answers v q y w → KeptSince old w
+pub stays_kept : (old v w : FloorState) (q : Request) (y : Answer) → IsNamed v → KeptSince old v → Answers v q y w → KeptSince old w
 unfolding IsNamed
 stays_kept old v w q (Ok r) n h d = does_keep n.0 old v w q r n.1 h d
 stays_kept old v w q (Err r) n h d = subst (KeptSince old) (sym d.1) h
 
-pub stays_held : (v w : FloorSeen) (q : Request) (y : Answer) (region : List ℕ) → IsNamed v → Answers v q y w → Holds v region → Holds w region
+pub stays_held : (v w : FloorState) (q : Request) (y : Answer) (region : List ℕ) → IsNamed v → Answers v q y w → Holds v region → Holds w region
 unfolding IsNamed
 stays_held v w q (Ok r) region n d h = does_hold region n.0 v w q r n.1 h d
 stays_held v w q (Err r) region n d h = subst (λ f. Holds f region) (sym d.1) h
 
-pub keeps_bytes : (old w : FloorSeen) → KeptSince old w → ((region : List ℕ) → Holds old region → Holds w region) → KeepsBytes old w
+pub keeps_bytes : (old w : FloorState) → KeptSince old w → ((region : List ℕ) → Holds old region → Holds w region) → KeepsBytes old w
 keeps_bytes old w h f = record { buffers = buffers_everywhere (IsKept (buffers_of old)) (HasNone (buffers_of old)) AnyChunk w h.kept; region = f }
 
-pub step_keeps_bytes : (v w : FloorSeen) (q : Request) (y : Answer) → IsNamed v → Answers v q y w → KeepsBytes v w
+pub step_keeps_bytes : (v w : FloorState) (q : Request) (y : Answer) → IsNamed v → Answers v q y w → KeepsBytes v w
 step_keeps_bytes v w q y n d = keeps_bytes v w (stays_kept v v w q y n (start_kept v n) d) (λ region h. stays_held v w q y region n d h)
 
 -- ---- a new floor
@@ -309,7 +309,7 @@ module _ (K : Buffer → Type 0) (U : Unused → Type 0) (R : Carved → Type 0)
   opening_everywhere desks parts digits limit = record {
     desks = λ a l. bare_desk (get_or (new_desks digits limit desks) a no_desk) (idle_bare digits limit desks a no_desk l);
     lent = λ i. none_lent K (256 * length parts) i;
-    posted = λ b. none_posted (λ (p : BatchSeen). All K p.buffers) desks b;
+    queued = λ b. none_queued (λ (p : QueuedState). All K p.buffers) desks b;
   }
 
 flat_of_map : (parts : List Part) → flat_map (λ (bs : List ℕ). bs) (map bytes_of parts) ≡ flat_map bytes_of parts

@@ -19,13 +19,13 @@ use Rattle.pool_desk.specs.Desks.{DeskState}
 use Rattle.pool_desk.specs.Steps.{Frees, Caches}
 use Rattle.pool_desk.specs.declared.freed.Freed.{Freed}
 use Rattle.pool_desk.specs.declared.freed.Freed.TheVariants.{Home as FreedHome, Cached as FreedCached, Due as FreedDue}
-use Rattle.event_floor.specs.declared.any_desk.AnyDesk.TheVariants.{Held as HeldSeat}
+use Rattle.event_floor.specs.declared.any_desk.AnyDesk.TheVariants.{Held as HeldDesk}
 use Rattle.pool_machine.specs.declared.request.Request.TheVariants.{Alloc, Free}
 use Rattle.pool_machine.specs.declared.reply.Reply.TheVariants.{Slot as Lent}
-use Rattle.event_floor.specs.Answers.{reply_of}
-use Rattle.event_floor.specs.Seats.{HasPlace, home_of}
+use Rattle.event_floor.specs.DeskAnswers.{reply_of}
+use Rattle.event_floor.specs.Desks.{HasPlace, home_of}
 use Rattle.event_floor.specs.Lent.{buffers_lent, place_of}
-use Rattle.event_floor.specs.Floors.{FloorSeen, IsHeld}
+use Rattle.event_floor.specs.Floors.{FloorState, IsHeld}
 use Rattle.event_floor.specs.Steps.{LendsSlot, TakesBack}
 use Rattle.pool_machine.specs.State.{State}
 use Rattle.pool_machine.specs.Listing.{Entry, DeskListing, Listing, desk_listing}
@@ -38,7 +38,7 @@ use Rattle.pool_machine.proofs.AllocStep.{AllocEdits, alloc_applies}
 use Rattle.pool_machine.proofs.Applied.{FreeReplies, free_applies}
 use Rattle.event_floor.proofs.headline.Least.{least_is}
 use Rattle.event_floor.proofs.headline.Tables.{lent_place as lent_at_place, present_put, present_gone, present_at, at_its_place, same_place}
-use Rattle.event_floor.proofs.headline.Views.{held_seen, with_seat_seen, slot_seen}
+use Rattle.event_floor.proofs.headline.Views.{held_seen, with_any_desk_seen, slot_seen}
 use Rattle.event_floor.proofs.headline.Refused.{alloc_accepted, free_accepted}
 use Rattle.event_floor.proofs.headline.Holders.{numbered_held}
 
@@ -50,7 +50,7 @@ gives_seen a (Kept c) b g o = ap entry_of (sym g)
 gives_seen a (Fresh u) b g o = rw (g.0, g.1, g.2, o) refl
 
 -- what is at home isn't lent
-apart : (v : FloorSeen) (st : State) (count : Slot → ℕ) (a : ℕ) (d : DeskState) (s : AtHome) (home : List AtHome) (b c : Buffer)
+apart : (v : FloorState) (st : State) (count : Slot → ℕ) (a : ℕ) (d : DeskState) (s : AtHome) (home : List AtHome) (b c : Buffer)
     → Located (listing_of v) st count → IsHeld v a d → IsPermutation d.home (s ∷ home) → slot_at s ≡ b.slot
     → get_or v.lent (place_of b.slot) None ≡ Some c → c.slot ≡ b.slot → ⊥
 apart v st count a d s home b c h l p e m same =
@@ -81,12 +81,12 @@ has_slot : (s : AtHome) (home rest : List AtHome) (c : ℕ) → IsPermutation ho
 has_slot s home rest c p e =
     let h = Contains-permutation (s ∷ rest) home s (IsPermutation-sym _ _ p) (0, omega arith, refl) in (h.0, s, h.1, h.2, e)
 
-module _ (v w : FloorSeen) (a n : ℕ) (slot : Slot) (f : IsWhole v) (s : LendsSlot v a n slot w) where
+module _ (v w : FloorState) (a n : ℕ) (slot : Slot) (f : IsWhole v) (s : LendsSlot v a n slot w) where
   abbrev lent_listing : Listing
   lent_listing = listing_of v
 
   abbrev lender : DeskListing
-  lender = desk_of (HeldSeat s.after)
+  lender = desk_of (HeldDesk s.after)
 
   abbrev lent_place_of : ℕ
   lent_place_of = place_of s.buffer.slot
@@ -98,7 +98,7 @@ module _ (v w : FloorSeen) (a n : ℕ) (slot : Slot) (f : IsWhole v) (s : LendsS
   pub placed_slot : (s.buffer.slot.chunk < v.chunks) × (s.buffer.slot.index < 256)
   placed_slot =
       let g = s.allocs.1 in
-      let homes : All (HasPlace v.chunks) s.before.home = subst (λ z. All (HasPlace v.chunks) (home_of z)) s.held.1 (f.floor.seated a s.held.0).placed in
+      let homes : All (HasPlace v.chunks) s.before.home = subst (λ z. All (HasPlace v.chunks) (home_of z)) s.held.1 (f.floor.each_desk a s.held.0).placed in
       let first = All-head (HasPlace v.chunks) g.from s.after.home (All-permutation (HasPlace v.chunks) s.before.home (g.from ∷ s.after.home) g.others homes) in
       subst (λ (z : Slot). (z.chunk < v.chunks) × (z.index < 256)) (gives_slot g.from s.buffer g.gives) first
 
@@ -136,7 +136,7 @@ module _ (v w : FloorSeen) (a n : ℕ) (slot : Slot) (f : IsWhole v) (s : LendsS
   lent_shown : listing_of w ≡ after_edits (listing_of v) a (map entry_of (buffers_lent (set v.lent lent_place_of (Some s.buffer)))) lender
   lent_shown =
       ap listing_of s.same
-      ∙ ap₂ (λ xs ys. record (listing_of v) { desks = xs; lent = ys }) (with_seat_seen v a (HeldSeat s.after))
+      ∙ ap₂ (λ xs ys. record (listing_of v) { desks = xs; lent = ys }) (with_any_desk_seen v a (HeldDesk s.after))
       (ap (λ z. map entry_of (buffers_lent (set v.lent (place_of z) (Some s.buffer)))) (sym s.is_slot))
 
   pub alloc_done : LocatedStep (listing_of v) (Alloc a n) (Ok (Lent slot)) (listing_of w)
@@ -157,9 +157,9 @@ bytes_from n (b ∷ bs) = bytes_from (n + size_of b.class) bs
 bytes_of : (bs : List Buffer) → sum_by (λ (e : Entry). size_of e.class) (map entry_of bs) ≡ sizes bs
 bytes_of bs = bytes_from 0 bs
 
-module _ (v w : FloorSeen) (a : ℕ) (pair : ℕ × ℕ) (r : Freed) (f : IsWhole v) (s : TakesBack v a pair.0 pair.1 r w) where
+module _ (v w : FloorState) (a : ℕ) (pair : ℕ × ℕ) (r : Freed) (f : IsWhole v) (s : TakesBack v a pair.0 pair.1 r w) where
   abbrev freer : DeskListing
-  freer = desk_of (HeldSeat s.after)
+  freer = desk_of (HeldDesk s.after)
 
   abbrev lent_after : List Entry
   lent_after = map entry_of (buffers_lent (set v.lent (place_of s.buffer.slot) None))
@@ -209,7 +209,7 @@ module _ (v w : FloorSeen) (a : ℕ) (pair : ℕ × ℕ) (r : Freed) (f : IsWhol
   replies FreedDue h = ((λ o. h.0.0 (o ∙ sym freer_number.0)), rw (bytes_of s.after.cached, ← freer_number.1) h.1)
 
   free_shown : listing_of w ≡ after_edits (listing_of v) a lent_after freer
-  free_shown = ap listing_of s.same ∙ ap (λ xs. record (listing_of v) { desks = xs; lent = lent_after }) (with_seat_seen v a (HeldSeat s.after))
+  free_shown = ap listing_of s.same ∙ ap (λ xs. record (listing_of v) { desks = xs; lent = lent_after }) (with_any_desk_seen v a (HeldDesk s.after))
 
   pub free_done : LocatedStep (listing_of v) (Free a pair) (Ok (reply_of r)) (listing_of w)
   free_done =

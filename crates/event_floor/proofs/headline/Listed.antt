@@ -14,16 +14,16 @@ use Rattle.pool_machine.specs.declared.chunk.DrawnChunk.{DrawnChunk}
 use Rattle.pool_machine.specs.Headline.{joined}
 use Rattle.pool_machine.specs.Listing.{DeskListing, BatchListing, slots_seen, inbox_listing, as_waiting, Shown}
 use Rattle.pool_machine.specs.Slots.{same_slot, times, one_if}
-use Rattle.pool_machine.specs.State.{State, Waiting, owner_of, is_slot, slots, is_lent, is_posted, cached_by, slots_of_batch}
-use Rattle.pool_machine.specs.Told.{at_home_with, home_slots, cached_slots, queued_slots, lent_slots}
+use Rattle.pool_machine.specs.State.{State, Waiting, owner_of, is_slot, slots, is_lent, is_queued, cached_by, slots_of_batch}
+use Rattle.pool_machine.specs.SlotLists.{at_home_with, home_slots, cached_slots, queued_slots, lent_slots}
 use Rattle.event_floor.specs.declared.any_desk.AnyDesk.{AnyDesk}
 use Rattle.event_floor.specs.declared.any_desk.AnyDesk.TheVariants.{Idle, Held}
 use Rattle.event_floor.specs.Lent.{buffers_lent}
-use Rattle.event_floor.specs.Posted.{BatchSeen, buffers_in, inbox_at}
-use Rattle.event_floor.specs.Seats.{home_of, cached_of}
-use Rattle.event_floor.specs.Floors.{FloorSeen, desk_count, desk_at, no_desk}
+use Rattle.event_floor.specs.Inboxes.{QueuedState, buffers_in, inbox_at}
+use Rattle.event_floor.specs.Desks.{home_of, cached_of}
+use Rattle.event_floor.specs.Floors.{FloorState, desk_count, desk_at, no_desk}
 use Rattle.event_floor.specs.headline.Listing.{entry_of, desk_of, batch_of, listing_of}
-use Rattle.event_floor.specs.headline.Slots.{slots_with, slots_on, ListsSlots}
+use Rattle.event_floor.specs.headline.ListsSlots.{slots_with, slots_on, ListsSlots}
 use Rattle.pool_machine.proofs.Joined.{located_once}
 use Rattle.pool_machine.proofs.Shown.{located}
 use Rattle.event_floor.proofs.headline.Apart.{home_slots as home_seen}
@@ -35,11 +35,11 @@ seen_buffers : (bs : List Buffer) → slots_seen (map entry_of bs) ≡ map slot_
 seen_buffers [] = refl
 seen_buffers (b ∷ bs) = ap (λ ss. b.slot ∷ ss) (seen_buffers bs)
 
-seat_cache : (x : AnyDesk) → slots_seen (desk_of x).cache ≡ map slot_of (cached_of x)
-seat_cache (Idle d) = refl
-seat_cache (Held d) = seen_buffers d.cached
+desk_cache : (x : AnyDesk) → slots_seen (desk_of x).cache ≡ map slot_of (cached_of x)
+desk_cache (Idle d) = refl
+desk_cache (Held d) = seen_buffers d.cached
 
-seen_batches : (ps : List BatchSeen) → flat_map (λ (w : BatchListing). slots_seen w.buffers) (map batch_of ps) ≡ map slot_of (buffers_in ps)
+seen_batches : (ps : List QueuedState) → flat_map (λ (w : BatchListing). slots_seen w.buffers) (map batch_of ps) ≡ map slot_of (buffers_in ps)
 seen_batches [] = refl
 seen_batches (p ∷ ps) = ap₂ (λ xs ys. xs ++ ys) (seen_buffers p.buffers) (seen_batches ps) ∙ sym (map-append slot_of p.buffers (buffers_in ps))
 
@@ -88,7 +88,7 @@ sum_three f g h k (x ∷ xs) e =
 
 -- ---- all lists
 
-module _ (v : FloorSeen) (st : State) (c : Slot → ℕ) (h : Shown (listing_of v) st c) (s : Slot) where
+module _ (v : FloorState) (st : State) (c : Slot → ℕ) (h : Shown (listing_of v) st c) (s : Slot) where
   abbrev at_home : ℕ → ℕ
   at_home a = times s (map slot_at (home_of (desk_at v a)))
 
@@ -128,11 +128,11 @@ module _ (v : FloorSeen) (st : State) (c : Slot → ℕ) (h : Shown (listing_of 
   caches : sum_by in_cache places ≡ times s cache_slots
   caches =
       sum_places in_cache (λ x. times s (slots_seen (desk_of x).cache)) v.desks no_desk 0
-      (λ i. ap in_cache (let z : 0 + i ≡ i = omega arith in z) ∙ ap (times s) (sym (seat_cache (get_or v.desks i no_desk))))
+      (λ i. ap in_cache (let z : 0 + i ≡ i = omega arith in z) ∙ ap (times s) (sym (desk_cache (get_or v.desks i no_desk))))
       ∙ sym (times_flat s (λ (d : DeskListing). slots_seen d.cache) (map desk_of v.desks) ∙ sum_map (λ (d : DeskListing). times s (slots_seen d.cache)) desk_of v.desks)
 
   as_many : length v.inboxes ≡ desk_count v
-  as_many = sym (length-map v.inboxes (map batch_of)) ∙ (h.frame.posts ∙ (sym h.frame.desks ∙ length-map v.desks desk_of))
+  as_many = sym (length-map v.inboxes (map batch_of)) ∙ (h.frame.inbox_count ∙ (sym h.frame.desks ∙ length-map v.desks desk_of))
 
   inboxes : sum_by in_inbox places ≡ times s inbox_slots
   inboxes =
@@ -171,14 +171,14 @@ flat_of_map : {X Y : Type 0} (f : Y → List Slot) (g : X → Y) (xs : List X) �
 flat_of_map f g [] = refl
 flat_of_map f g (x ∷ xs) = ap (λ ys. f (g x) ++ ys) (flat_of_map f g xs)
 
-module _ (v : FloorSeen) (st : State) (c : Slot → ℕ) (h : Shown (listing_of v) st c) where
+module _ (v : FloorState) (st : State) (c : Slot → ℕ) (h : Shown (listing_of v) st c) where
   pub home_listed : (a : ℕ) → IsPermutation (map slot_at (home_of (desk_at v a))) (home_slots st a)
   home_listed a = subst (λ xs. IsPermutation xs (home_slots st a))
       (ap (λ (d : DeskListing). slots_seen d.home) (desk_seen v a) ∙ home_seen (desk_at v a)) (h.homes a).0
 
   pub cache_listed : (a : ℕ) → IsPermutation (map slot_of (cached_of (desk_at v a))) (cached_slots st a)
   cache_listed a = subst (λ xs. IsPermutation xs (cached_slots st a))
-      (ap (λ (d : DeskListing). slots_seen d.cache) (desk_seen v a) ∙ seat_cache (desk_at v a)) (h.caches a).0
+      (ap (λ (d : DeskListing). slots_seen d.cache) (desk_seen v a) ∙ desk_cache (desk_at v a)) (h.caches a).0
 
   pub lent_listed : IsPermutation (map slot_of (buffers_lent v.lent)) (lent_slots st)
   lent_listed = subst (λ xs. IsPermutation xs (lent_slots st)) (seen_buffers (buffers_lent v.lent)) h.lent.0
@@ -197,7 +197,7 @@ module _ (v : FloorSeen) (st : State) (c : Slot → ℕ) (h : Shown (listing_of 
       (flat_permuted (λ (w : BatchListing). slots_seen w.buffers) (λ (w : BatchListing). slots_of_batch st w.number) ws
       (λ j d m. (h.batches b j d m).0)))
 
-pub floor_lists : (v : FloorSeen) (st : State) (count : Slot → ℕ) → Shown (listing_of v) st count → ListsSlots v st
+pub floor_lists : (v : FloorState) (st : State) (count : Slot → ℕ) → Shown (listing_of v) st count → ListsSlots v st
 floor_lists v st count h = record {
   home = home_listed v st count h;
   cached = cache_listed v st count h;

@@ -16,9 +16,9 @@ use Rattle.pool_desk.specs.declared.freed.Freed.TheVariants.{Home as FreedHome, 
 use Rattle.event_floor.specs.declared.any_desk.AnyDesk.{AnyDesk}
 use Rattle.event_floor.specs.declared.any_desk.AnyDesk.TheVariants.{Idle, Held}
 use Rattle.event_floor.specs.Lent.{place_of}
-use Rattle.event_floor.specs.Posted.{BatchSeen, inbox_at, sent_as, as_linked, no_batch}
-use Rattle.event_floor.specs.Seats.{adopted, retired}
-use Rattle.event_floor.specs.Floors.{FloorSeen, desk_count, no_desk, with_seat, with_desk, IsIdle, IsHeld}
+use Rattle.event_floor.specs.Inboxes.{QueuedState, inbox_at, sent_as, as_linked, no_batch}
+use Rattle.event_floor.specs.Desks.{adopted, retired}
+use Rattle.event_floor.specs.Floors.{FloorState, desk_count, no_desk, with_any_desk, with_desk, IsIdle, IsHeld}
 use Rattle.event_floor.specs.Steps.{SendsBatch, LinksBatch, TakesFront, TakesBack}
 use Rattle.event_floor.specs.headline.Names.{HasName, IsNamedHome, IsNamedDesk, AreNames}
 use Rattle.event_floor.proofs.headline.Tables.{lent_place}
@@ -75,7 +75,7 @@ freed_named names b h = record { chunk = h.chunk; is_chunk = h.is_chunk; class =
 pub passed_named : (names : List Carved) (b : Buffer) → HasName names b → HasName names (passed_on b)
 passed_named names b h = record { chunk = h.chunk; is_chunk = h.is_chunk; class = h.class; name = h.name; size = h.size }
 
-module _ (names : List Carved) (v : FloorSeen) (n : AreNames names v) where
+module _ (names : List Carved) (v : FloorState) (n : AreNames names v) where
   pub held_named : (a : ℕ) (d : DeskState) → IsHeld v a d → IsNamedDesk names v.drawn a (Held d)
   held_named a d h = subst (IsNamedDesk names v.drawn a) h.1 (n.desks a h.0)
 
@@ -83,15 +83,15 @@ module _ (names : List Carved) (v : FloorSeen) (n : AreNames names v) where
   idle_named a d h = subst (IsNamedDesk names v.drawn a) h.1 (n.desks a h.0)
 
   -- the floor with another desk, another table and other inboxes
-  pub changed_named : (a : ℕ) (s : AnyDesk) (lent : List (Option Buffer)) (inboxes : List (List BatchSeen)) (next : ℕ) → a < desk_count v → IsNamedDesk names v.drawn a s
-      → ((i : ℕ) → IfSome (get_or lent i None) (HasName names)) → ((b : ℕ) → All (λ (p : BatchSeen). All (HasName names) p.buffers) (inbox_at inboxes b))
+  pub changed_named : (a : ℕ) (s : AnyDesk) (lent : List (Option Buffer)) (inboxes : List (List QueuedState)) (next : ℕ) → a < desk_count v → IsNamedDesk names v.drawn a s
+      → ((i : ℕ) → IfSome (get_or lent i None) (HasName names)) → ((b : ℕ) → All (λ (p : QueuedState). All (HasName names) p.buffers) (inbox_at inboxes b))
       → AreNames names (record v { desks = set v.desks a s; lent = lent; inboxes = inboxes; next = next })
-  changed_named a s lent inboxes next l p lends posts = record {
+  changed_named a s lent inboxes next l p lends batches = record {
     count = n.count;
     chunks = n.chunks;
     desks = λ b m. each_desk (IsNamedDesk names v.drawn) v.desks a s l p n.desks b m;
     lent = lends;
-    posted = posts;
+    queued = batches;
   }
 
   -- the desk with other slots at home and another cache
@@ -104,17 +104,17 @@ module _ (names : List Carved) (v : FloorSeen) (n : AreNames names v) where
     once = λ k. ap (count_by (λ (c : Carved). c.chunk == k)) e ∙ h.once k;
   }
 
-  pub adopt_named : (w : FloorSeen) (a x : ℕ) (d : IdleState) → IsIdle v a d → w ≡ with_desk v a (adopted x d) → AreNames names w
+  pub adopt_named : (w : FloorState) (a x : ℕ) (d : IdleState) → IsIdle v a d → w ≡ with_desk v a (adopted x d) → AreNames names w
   adopt_named w a x d h e =
       let k = idle_named a d h in
       subst (AreNames names) (sym e)
-      (changed_named a (Held (adopted x d)) v.lent v.inboxes v.next h.0 (record { home = k.home; cached = All-nil (HasName names); same = k.same; once = k.once }) n.lent n.posted)
+      (changed_named a (Held (adopted x d)) v.lent v.inboxes v.next h.0 (record { home = k.home; cached = All-nil (HasName names); same = k.same; once = k.once }) n.lent n.queued)
 
-  pub retire_named : (w : FloorSeen) (a : ℕ) (d : DeskState) → IsHeld v a d → w ≡ with_seat v a (Idle (retired d)) → AreNames names w
+  pub retire_named : (w : FloorState) (a : ℕ) (d : DeskState) → IsHeld v a d → w ≡ with_any_desk v a (Idle (retired d)) → AreNames names w
   retire_named w a d h e =
       let k = held_named a d h in
       subst (AreNames names) (sym e)
-      (changed_named a (Idle (retired d)) v.lent v.inboxes v.next h.0 (record { home = k.home; cached = All-nil (HasName names); same = k.same; once = k.once }) n.lent n.posted)
+      (changed_named a (Idle (retired d)) v.lent v.inboxes v.next h.0 (record { home = k.home; cached = All-nil (HasName names); same = k.same; once = k.once }) n.lent n.queued)
 
   freed_cache : (a : ℕ) (d d' : DeskState) (b : Buffer) → IsNamedDesk names v.drawn a (Held d) → HasName names b → Caches d b d' → IsNamedDesk names v.drawn a (Held d')
   freed_cache a d d' b k p f =
@@ -130,16 +130,16 @@ module _ (names : List Carved) (v : FloorSeen) (n : AreNames names v) where
   freed_desk a d d' b FreedCached k p f = freed_cache a d d' b k p f.0
   freed_desk a d d' b FreedDue k p f = freed_cache a d d' b k p f.0
 
-  pub free_named : (w : FloorSeen) (a chunk index : ℕ) (r : Freed) → TakesBack v a chunk index r w → AreNames names w
+  pub free_named : (w : FloorState) (a chunk index : ℕ) (r : Freed) → TakesBack v a chunk index r w → AreNames names w
   free_named w a chunk index r s =
       let here = lent_place v.lent chunk index s.buffer s.was_lent in
       let p : HasName names s.buffer = subst (λ (o : Option Buffer). IfSome o (HasName names)) here.1 (n.lent _) in
       subst (AreNames names) (sym s.same)
       (changed_named a (Held s.after) (set v.lent (place_of s.buffer.slot) None) v.inboxes v.next s.held.0
       (freed_desk a s.before s.after s.buffer r (held_named a s.before s.held) p s.frees)
-      (each_place (HasName names) v.lent (place_of s.buffer.slot) None tt n.lent) n.posted)
+      (each_place (HasName names) v.lent (place_of s.buffer.slot) None tt n.lent) n.queued)
 
-  pub send_named : (w : FloorSeen) (a t number count : ℕ) → SendsBatch v a t number count w → AreNames names w
+  pub send_named : (w : FloorState) (a t number count : ℕ) → SendsBatch v a t number count w → AreNames names w
   send_named w a t number count s =
       let k = held_named a s.before s.routes.0 in
       let all = All-permutation (HasName names) _ _ s.gives.taken.together k.cached in
@@ -149,28 +149,28 @@ module _ (names : List Carved) (v : FloorSeen) (n : AreNames names v) where
       (subst (λ hs. All (IsNamedHome names) hs) (sym (ap (λ (x : DeskState). x.home) s.same_desk)) k.home)
       (All-second (HasName names) s.batch.items s.after.cached all))
       n.lent
-      (each_row (All (λ (p : BatchSeen). All (HasName names) p.buffers)) v.inboxes t _
-      (All-append (λ (p : BatchSeen). All (HasName names) p.buffers) (inbox_at v.inboxes t) (sent_as number s.batch ∷ []) (n.posted t)
-      (All-cons (λ (p : BatchSeen). All (HasName names) p.buffers) (sent_as number s.batch) [] (All-first (HasName names) s.batch.items s.after.cached all) (All-nil _)))
-      n.posted))
+      (each_row (All (λ (p : QueuedState). All (HasName names) p.buffers)) v.inboxes t _
+      (All-append (λ (p : QueuedState). All (HasName names) p.buffers) (inbox_at v.inboxes t) (sent_as number s.batch ∷ []) (n.queued t)
+      (All-cons (λ (p : QueuedState). All (HasName names) p.buffers) (sent_as number s.batch) [] (All-first (HasName names) s.batch.items s.after.cached all) (All-nil _)))
+      n.queued))
 
-  pub link_named : (w : FloorSeen) (number : ℕ) → LinksBatch v number w → AreNames names w
+  pub link_named : (w : FloorState) (number : ℕ) → LinksBatch v number w → AreNames names w
   link_named w number s =
       subst (AreNames names) (sym s.same) (record {
         count = n.count;
         chunks = n.chunks;
         desks = n.desks;
         lent = n.lent;
-        posted = each_row (All (λ (p : BatchSeen). All (HasName names) p.buffers)) v.inboxes s.inbox _
-            (All-set (λ (p : BatchSeen). All (HasName names) p.buffers) (inbox_at v.inboxes s.inbox) s.place (as_linked (get_or (inbox_at v.inboxes s.inbox) s.place no_batch))
-            (n.posted s.inbox s.place no_batch s.half.1) (n.posted s.inbox)) n.posted;
+        queued = each_row (All (λ (p : QueuedState). All (HasName names) p.buffers)) v.inboxes s.inbox _
+            (All-set (λ (p : QueuedState). All (HasName names) p.buffers) (inbox_at v.inboxes s.inbox) s.place (as_linked (get_or (inbox_at v.inboxes s.inbox) s.place no_batch))
+            (n.queued s.inbox s.place no_batch s.half.1) (n.queued s.inbox)) n.queued;
       })
 
-  pub take_named : (w : FloorSeen) (b home on : ℕ) → TakesFront v b home on w → AreNames names w
+  pub take_named : (w : FloorState) (b home on : ℕ) → TakesFront v b home on w → AreNames names w
   take_named w b home on s =
       let k = held_named b s.before s.held in
-      let row = subst (λ ps. All (λ (p : BatchSeen). All (HasName names) p.buffers) ps) s.is_front (n.posted b) in
-      let all : All (HasName names) s.front.buffers = All-head (λ (p : BatchSeen). All (HasName names) p.buffers) s.front s.rest row in
+      let row = subst (λ ps. All (λ (p : QueuedState). All (HasName names) p.buffers) ps) s.is_front (n.queued b) in
+      let all : All (HasName names) s.front.buffers = All-head (λ (p : QueuedState). All (HasName names) p.buffers) s.front s.rest row in
       let number = s.before.number in
       subst (AreNames names) (sym s.same)
       (changed_named b (Held s.after) v.lent (set v.inboxes b s.rest) v.next s.held.0
@@ -182,4 +182,4 @@ module _ (names : List Carved) (v : FloorSeen) (n : AreNames names v) where
       (All-append (HasName names) (map passed_on (others number s.front.buffers)) s.before.cached
       (All-map-to (HasName names) (HasName names) passed_on (others number s.front.buffers) (passed_named names) (All-filtered (HasName names) (λ (x : Buffer). not (x.owner == number)) s.front.buffers all)) k.cached)))
       n.lent
-      (each_row (All (λ (p : BatchSeen). All (HasName names) p.buffers)) v.inboxes b s.rest (All-tail (λ (p : BatchSeen). All (HasName names) p.buffers) s.front s.rest row) n.posted))
+      (each_row (All (λ (p : QueuedState). All (HasName names) p.buffers)) v.inboxes b s.rest (All-tail (λ (p : QueuedState). All (HasName names) p.buffers) s.front s.rest row) n.queued))

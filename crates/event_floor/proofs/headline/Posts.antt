@@ -9,14 +9,14 @@ use Rattle.digit_route.specs.Route.{TakesBucket}
 use Rattle.pool_desk.specs.Homes.AtHome.{Kept}
 use Rattle.pool_desk.specs.Desks.{DeskState}
 use Rattle.pool_desk.specs.Steps.{passed_on as buffer_passed_on, own, others}
-use Rattle.event_floor.specs.declared.any_desk.AnyDesk.TheVariants.{Held as HeldSeat}
+use Rattle.event_floor.specs.declared.any_desk.AnyDesk.TheVariants.{Held as HeldDesk}
 use Rattle.pool_machine.specs.declared.request.Request.TheVariants.{Send, Link, Take}
 use Rattle.pool_machine.specs.declared.reply.Reply.{Reply}
 use Rattle.pool_machine.specs.declared.reply.Reply.TheVariants.{Done, Batch, Counts}
-use Rattle.event_floor.specs.Posted.{BatchSeen, inbox_at, sent_as, as_linked, no_batch, IsHalf, SomePosted}
-use Rattle.event_floor.specs.Floors.{FloorSeen}
+use Rattle.event_floor.specs.Inboxes.{QueuedState, inbox_at, sent_as, as_linked, no_batch, IsHalf, SomeQueued}
+use Rattle.event_floor.specs.Floors.{FloorState}
 use Rattle.event_floor.specs.Steps.{SendsBatch, LinksBatch, TakesFront}
-use Rattle.pool_machine.specs.State.{State, bucket, in_bucket, slots, slots_of_batch, is_posted, owner_of}
+use Rattle.pool_machine.specs.State.{State, bucket, in_bucket, slots, slots_of_batch, is_queued, owner_of}
 use Rattle.pool_machine.specs.Steps.{Step, front_of, coming_home, going_on}
 use Rattle.pool_machine.specs.Forwards.{counted as forward_count}
 use Rattle.pool_machine.specs.Listing.{Entry, DeskListing, BatchListing, Listing, inbox_listing}
@@ -30,23 +30,23 @@ use Rattle.pool_machine.proofs.TakeFloor.{TakeEdits, passed_on, after_taking, ta
 use Rattle.pool_machine.proofs.Applied.{SendMoves, send_applies}
 use Rattle.event_floor.proofs.headline.Lists.{get_or-map_default, set-map, filter-map, filter-permutation, filter-append, filter_kept, filter_gone, get_or_same}
 use Rattle.event_floor.proofs.headline.Bounds.{all_few, filter_few, capped_is}
-use Rattle.event_floor.proofs.headline.Views.{held_seen, with_seat_seen, inbox_seen}
+use Rattle.event_floor.proofs.headline.Views.{held_seen, with_any_desk_seen, inbox_seen}
 use Rattle.event_floor.proofs.headline.Refused.{send_accepted, link_accepted, take_accepted, goes_seen, stays_seen}
 use Rattle.event_floor.proofs.headline.Holders.{numbered_held}
 
 -- the listing's inboxes, with another one
-inboxes_seen : (v : FloorSeen) (b : ℕ) (ps : List BatchSeen) → map (map batch_of) (set v.inboxes b ps) ≡ set (listing_of v).inboxes b (map batch_of ps)
+inboxes_seen : (v : FloorState) (b : ℕ) (ps : List QueuedState) → map (map batch_of) (set v.inboxes b ps) ≡ set (listing_of v).inboxes b (map batch_of ps)
 inboxes_seen v b ps = set-map (map batch_of) v.inboxes b ps
 
 -- a state of the floor has few chunks
-few_slots : (v : FloorSeen) (st : State) → (count : Slot → ℕ) → IsWhole v → Located (listing_of v) st count → length (slots st) ≤ 4194304
+few_slots : (v : FloorState) (st : State) → (count : Slot → ℕ) → IsWhole v → Located (listing_of v) st count → length (slots st) ≤ 4194304
 few_slots v st count f h = all_few st (subst (λ n. n ≤ 1024) h.frame.chunks f.few_chunks)
 
 -- ---- Send
 
-module _ (v w : FloorSeen) (a t number count : ℕ) (f : IsWhole v) (s : SendsBatch v a t number count w) where
+module _ (v w : FloorState) (a t number count : ℕ) (f : IsWhole v) (s : SendsBatch v a t number count w) where
   abbrev sender : DeskListing
-  sender = desk_of (HeldSeat s.after)
+  sender = desk_of (HeldDesk s.after)
 
   abbrev sent : List Entry
   sent = map entry_of s.batch.items
@@ -93,7 +93,7 @@ module _ (v w : FloorSeen) (a t number count : ℕ) (f : IsWhole v) (s : SendsBa
   sent_shown : listing_of w ≡ after_sending (listing_of v) a t sent sender
   sent_shown =
       ap listing_of s.same
-      ∙ (ap₂ (λ xs ys. record (listing_of v) { desks = xs; inboxes = ys; next = v.next + 1 }) (with_seat_seen v a (HeldSeat s.after))
+      ∙ (ap₂ (λ xs ys. record (listing_of v) { desks = xs; inboxes = ys; next = v.next + 1 }) (with_any_desk_seen v a (HeldDesk s.after))
       (inboxes_seen v t (inbox_at v.inboxes t ++ sent_as number s.batch ∷ [])
       ∙ ap (set (listing_of v).inboxes t)
       (map_push batch_of (inbox_at v.inboxes t) (sent_as number s.batch) ∙ ap₂ (λ xs y. xs ++ y ∷ []) (sym (inbox_seen v t)) batch_seen))
@@ -108,9 +108,9 @@ module _ (v w : FloorSeen) (a t number count : ℕ) (f : IsWhole v) (s : SendsBa
 
   pub send_done : LocatedStep (listing_of v) (Send a t) (Ok (Batch number count)) (listing_of w)
   send_done st passes h =
-      let posts : length (listing_of v).inboxes ≡ length (listing_of v).desks =
-      length-map v.inboxes (map batch_of) ∙ (f.floor.boxes ∙ (sym f.floor.count ∙ sym (length-map v.desks desk_of))) in
-      let g = send_applies (listing_of v) a t sent sender posts (send_accepted v a t s.before s.routes s.unspent) sending st passes h in
+      let batches : length (listing_of v).inboxes ≡ length (listing_of v).desks =
+      length-map v.inboxes (map batch_of) ∙ (f.floor.inbox_count ∙ (sym f.floor.count ∙ sym (length-map v.desks desk_of))) in
+      let g = send_applies (listing_of v) a t sent sender batches (send_accepted v a t s.before s.routes s.unspent) sending st passes h in
       let few = le_trans (filter_few (in_bucket st a t) (slots st)) (few_slots v st passes f h) in
       let same : length sent ≡ count = counted_as count (length (bucket st a t)) s.counted g.1.0.1.1 few in
       subst (λ n. StepShown (Batch n count) st passes) (sym s.is_next)
@@ -123,11 +123,11 @@ module _ (v w : FloorSeen) (a t number count : ℕ) (f : IsWhole v) (s : SendsBa
 
 -- ---- Link
 
-pub link_done : (v w : FloorSeen) (n : ℕ) → LinksBatch v n w → LocatedStep (listing_of v) (Link n) (Ok Done) (listing_of w)
+pub link_done : (v w : FloorState) (n : ℕ) → LinksBatch v n w → LocatedStep (listing_of v) (Link n) (Ok Done) (listing_of w)
 link_done v w n s =
     let ps = inbox_at v.inboxes s.inbox in
     let p = get_or ps s.place no_batch in
-    let some : SomePosted (IsHalf n) v.inboxes = (s.inbox, s.half.0, (s.place, p, s.half.1, get_or_same ps s.place p no_batch s.half.1, s.half.2)) in
+    let some : SomeQueued (IsHalf n) v.inboxes = (s.inbox, s.half.0, (s.place, p, s.half.1, get_or_same ps s.place p no_batch s.half.1, s.half.2)) in
     let row : get_or (inbox_listing (listing_of v) s.inbox) s.place (batch_of no_batch) ≡ batch_of p =
     ap (λ ws. get_or ws s.place (batch_of no_batch)) (inbox_seen v s.inbox) ∙ get_or-map_default batch_of ps s.place no_batch in
     let shown : listing_of w ≡ after_link (listing_of v) s.inbox s.place (get_or (inbox_listing (listing_of v) s.inbox) s.place (batch_of no_batch)) =
@@ -152,9 +152,9 @@ passed_seen : (bs : List Buffer) → map entry_of (map buffer_passed_on bs) ≡ 
 passed_seen [] = refl
 passed_seen (b ∷ bs) = ap₂ (λ (n : ℕ) (l : List Entry). record (entry_of b) { forwards = n } ∷ l) (omega arith) (passed_seen bs)
 
-module _ (v w : FloorSeen) (b home on : ℕ) (f : IsWhole v) (s : TakesFront v b home on w) where
+module _ (v w : FloorState) (b home on : ℕ) (f : IsWhole v) (s : TakesFront v b home on w) where
   abbrev taker : DeskListing
-  taker = desk_of (HeldSeat s.after)
+  taker = desk_of (HeldDesk s.after)
 
   abbrev taken_batch : BatchListing
   taken_batch = batch_of s.front
@@ -197,7 +197,7 @@ module _ (v w : FloorSeen) (b home on : ℕ) (f : IsWhole v) (s : TakesFront v b
   taken_shown : listing_of w ≡ after_taking (listing_of v) b (map batch_of s.rest) taker
   taken_shown =
       ap listing_of s.same
-      ∙ ap₂ (λ xs ys. record (listing_of v) { desks = xs; inboxes = ys }) (with_seat_seen v b (HeldSeat s.after)) (inboxes_seen v b s.rest)
+      ∙ ap₂ (λ xs ys. record (listing_of v) { desks = xs; inboxes = ys }) (with_any_desk_seen v b (HeldDesk s.after)) (inboxes_seen v b s.rest)
 
   counted_few : (xs : List Buffer) (ys : List Entry) (m n : ℕ) → map entry_of xs ≡ ys → m ≡ capped (length xs) → length ys ≡ n → n ≤ 4194304 → length ys ≡ m
   counted_few xs ys m n q e g l =
@@ -212,7 +212,7 @@ module _ (v w : FloorSeen) (b home on : ℕ) (f : IsWhole v) (s : TakesFront v b
   take_done st passes h =
       let g = take_applies (listing_of v) b taken_batch (map batch_of s.rest) taker (take_accepted v b s.before s.front s.rest s.held s.is_front s.linked) taking st passes h in
       let all = few_slots v st passes f h in
-      let of_batch = le_trans (filter_few (λ x. is_posted (front_of st b) (st.place x)) (slots st)) all in
+      let of_batch = le_trans (filter_few (λ x. is_queued (front_of st b) (st.place x)) (slots st)) all in
       let m = counted_few (own s.before.number s.front.buffers) (filter is_own taken_batch.buffers) home (length (coming_home st b)) own_seen s.counted.home g.1.0.1.0
       (le_trans (filter_few (λ x. owner_of st x == b) (slots_of_batch st (front_of st b))) of_batch) in
       let n = counted_few (others s.before.number s.front.buffers) (filter is_other taken_batch.buffers) on (length (going_on st b)) others_seen s.counted.on g.1.0.1.1

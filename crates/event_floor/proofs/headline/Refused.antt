@@ -15,26 +15,26 @@ use Rattle.pool_machine.specs.declared.request.Request.TheVariants.{Adopt, Retir
 use Rattle.pool_machine.specs.declared.refusal.Refusal.{Refusal}
 use Rattle.pool_machine.specs.declared.refusal.Refusal.TheVariants.{NoDesk, Idle, TooLarge, NeedChunk, NotNeeded, NoChunk, NotLent, NothingFor, NotAnOwner, ToSelf, NoBatch, Nothing, Unsettled, Held, NoMemory, BadClass, Spent}
 use Rattle.event_floor.specs.Lent.{buffers_lent, lent_at, AreInPlace}
-use Rattle.event_floor.specs.Posted.{BatchSeen, inbox_at, IsHalf, IsHalfOf, SomePosted, NonePosted, HasNoFront}
-use Rattle.event_floor.specs.Floors.{FloorSeen, desk_count, last_number, IsHeld}
+use Rattle.event_floor.specs.Inboxes.{QueuedState, inbox_at, IsHalf, IsHalfOf, SomeQueued, NoneQueued, HasNoFront}
+use Rattle.event_floor.specs.Floors.{FloorState, desk_count, last_number, IsHeld}
 use Rattle.event_floor.specs.Steps.{Refuses, Routes, class_limit, size_limit}
 use Rattle.pool_machine.specs.State.{Waiting, least_class}
 use Rattle.pool_machine.specs.Slots.{same_slot}
 use Rattle.pool_machine.specs.Refusals.{first, is_half, front_ready, slot_at}
 use Rattle.pool_machine.specs.Listing.{Entry, DeskListing, desk_listing, inbox_listing, as_waiting}
 use Rattle.event_floor.specs.headline.Listing.{entry_of, batch_of, listing_of}
-use Rattle.pool_machine.proofs.Refusals.{refusal_seen, goes_by, any_posted, any_of_row}
+use Rattle.pool_machine.proofs.Refusals.{refusal_seen, goes_by, any_queued, any_of_row}
 use Rattle.event_floor.proofs.headline.Least.{holds_within, least_is}
 use Rattle.event_floor.proofs.headline.Lists.{any-map, All-not-from_Any}
 use Rattle.event_floor.proofs.headline.Tables.{none_lent, one_lent}
 use Rattle.event_floor.proofs.headline.Views.{leb_past, ltb_past, any_of, none_of, hits, passes, held_seen, idle_seen, no_desk_seen, is_desk_seen, no_desk_first, idle_first, held_first, has_class_seen, lacks_class_seen, inbox_seen}
 
-abbrev pub Says : FloorSeen → Request → Refusal → Type 0
+abbrev pub Says : FloorState → Request → Refusal → Type 0
 Says v q r = refusal_seen (listing_of v) q ≡ Some r
 
 -- ---- Adopt
 
-pub adopt_refused : (v : FloorSeen) (a x : ℕ) (r : Refusal) → Refuses v (Adopt a x) r → Says v (Adopt a x) r
+pub adopt_refused : (v : FloorState) (a x : ℕ) (r : Refusal) → Refuses v (Adopt a x) r → Says v (Adopt a x) r
 adopt_refused v a x NoDesk h = hits (nat_le (length (listing_of v).desks) a) NoDesk ((is_some (desk_listing (listing_of v) a).worker, Held) ∷ []) (no_desk_seen v a h)
 adopt_refused v a x Held h =
     passes (nat_le (length (listing_of v).desks) a) NoDesk ((is_some (desk_listing (listing_of v) a).worker, Held) ∷ []) (is_desk_seen v a h.1.0)
@@ -43,28 +43,28 @@ adopt_refused v a x _ h = elim h [ ]
 
 -- ---- batches
 
-half_seen : (n : ℕ) (p : BatchSeen) → is_half n (as_waiting (batch_of p)) ≡ ((n == p.number) && not p.linked)
+half_seen : (n : ℕ) (p : QueuedState) → is_half n (as_waiting (batch_of p)) ≡ ((n == p.number) && not p.linked)
 half_seen n p = refl
 
 -- some batch passes, and none does
-pub posted_some : (v : FloorSeen) (P : BatchSeen → Type 0) (p : Waiting → Bool) → ((x : BatchSeen) → P x → p (as_waiting (batch_of x)) ≡ true)
-    → SomePosted P v.inboxes → any_posted p (listing_of v).inboxes ≡ true
-posted_some v P p f h =
+pub queued_some : (v : FloorState) (P : QueuedState → Type 0) (p : Waiting → Bool) → ((x : QueuedState) → P x → p (as_waiting (batch_of x)) ≡ true)
+    → SomeQueued P v.inboxes → any_queued p (listing_of v).inboxes ≡ true
+queued_some v P p f h =
     any_of_row (λ ws. list_any (λ w. p (as_waiting w)) ws) (listing_of v).inboxes h.0 refl
     (ap (λ ws. list_any (λ w. p (as_waiting w)) ws) (inbox_seen v h.0)
     ∙ (any-map batch_of (λ w. p (as_waiting w)) (inbox_at v.inboxes h.0) ∙ any_of P (λ x. p (as_waiting (batch_of x))) (inbox_at v.inboxes h.0) f h.2))
 
-none_in_rows : (P : BatchSeen → Type 0) (p : Waiting → Bool) (rows : List (List BatchSeen)) → ((x : BatchSeen) → P x → p (as_waiting (batch_of x)) ≡ false)
-    → ((b : ℕ) → b < length rows → All P (inbox_at rows b)) → any_posted p (map (map batch_of) rows) ≡ false
+none_in_rows : (P : QueuedState → Type 0) (p : Waiting → Bool) (rows : List (List QueuedState)) → ((x : QueuedState) → P x → p (as_waiting (batch_of x)) ≡ false)
+    → ((b : ℕ) → b < length rows → All P (inbox_at rows b)) → any_queued p (map (map batch_of) rows) ≡ false
 none_in_rows P p [] f h = refl
 none_in_rows P p (ps ∷ rows) f h =
-    ap (λ b. b || any_posted p (map (map batch_of) rows))
+    ap (λ b. b || any_queued p (map (map batch_of) rows))
     (any-map batch_of (λ w. p (as_waiting w)) ps ∙ none_of P (λ x. p (as_waiting (batch_of x))) ps f (h 0 (omega arith)))
     ∙ none_in_rows P p rows f (λ b l. h (suc b) (omega (arith, l)))
 
-pub posted_none : (v : FloorSeen) (P : BatchSeen → Type 0) (p : Waiting → Bool) → ((x : BatchSeen) → (P x → ⊥) → p (as_waiting (batch_of x)) ≡ false)
-    → NonePosted P v.inboxes → any_posted p (listing_of v).inboxes ≡ false
-posted_none v P p f h = none_in_rows (λ x. P x → ⊥) p v.inboxes f h
+pub queued_none : (v : FloorState) (P : QueuedState → Type 0) (p : Waiting → Bool) → ((x : QueuedState) → (P x → ⊥) → p (as_waiting (batch_of x)) ≡ false)
+    → NoneQueued P v.inboxes → any_queued p (listing_of v).inboxes ≡ false
+queued_none v P p f h = none_in_rows (λ x. P x → ⊥) p v.inboxes f h
 
 two_true : (x y : Bool) → x ≡ true → y ≡ false → (x && not y) ≡ true
 two_true true false e f = refl
@@ -89,17 +89,17 @@ isnt_eqb m n e = grind (arith, e)
 abbrev pub halves_of : ℕ → Waiting → Bool
 halves_of a w = (a == w.sender) && not w.linked
 
-pub half_of_some : (v : FloorSeen) (a : ℕ) → SomePosted (IsHalfOf a) v.inboxes → any_posted (halves_of a) (listing_of v).inboxes ≡ true
-half_of_some v a h = posted_some v (IsHalfOf a) (halves_of a) (λ x p. two_true (a == x.sender) x.linked (is_eqb a x.sender (sym p.0)) p.1) h
+pub half_of_some : (v : FloorState) (a : ℕ) → SomeQueued (IsHalfOf a) v.inboxes → any_queued (halves_of a) (listing_of v).inboxes ≡ true
+half_of_some v a h = queued_some v (IsHalfOf a) (halves_of a) (λ x p. two_true (a == x.sender) x.linked (is_eqb a x.sender (sym p.0)) p.1) h
 
-pub half_of_none : (v : FloorSeen) (a : ℕ) → NonePosted (IsHalfOf a) v.inboxes → any_posted (halves_of a) (listing_of v).inboxes ≡ false
-half_of_none v a h = posted_none v (IsHalfOf a) (halves_of a) (λ x f. one_false (a == x.sender) x.linked (λ p. f (sym (eqb_is a x.sender p.0), p.1))) h
+pub half_of_none : (v : FloorState) (a : ℕ) → NoneQueued (IsHalfOf a) v.inboxes → any_queued (halves_of a) (listing_of v).inboxes ≡ false
+half_of_none v a h = queued_none v (IsHalfOf a) (halves_of a) (λ x f. one_false (a == x.sender) x.linked (λ p. f (sym (eqb_is a x.sender p.0), p.1))) h
 
-pub half_some : (v : FloorSeen) (n : ℕ) → SomePosted (IsHalf n) v.inboxes → any_posted (is_half n) (listing_of v).inboxes ≡ true
-half_some v n h = posted_some v (IsHalf n) (is_half n) (λ x p. two_true (n == x.number) x.linked (is_eqb n x.number (sym p.0)) p.1) h
+pub half_some : (v : FloorState) (n : ℕ) → SomeQueued (IsHalf n) v.inboxes → any_queued (is_half n) (listing_of v).inboxes ≡ true
+half_some v n h = queued_some v (IsHalf n) (is_half n) (λ x p. two_true (n == x.number) x.linked (is_eqb n x.number (sym p.0)) p.1) h
 
-pub half_none : (v : FloorSeen) (n : ℕ) → NonePosted (IsHalf n) v.inboxes → any_posted (is_half n) (listing_of v).inboxes ≡ false
-half_none v n h = posted_none v (IsHalf n) (is_half n) (λ x f. one_false (n == x.number) x.linked (λ p. f (sym (eqb_is n x.number p.0), p.1))) h
+pub half_none : (v : FloorState) (n : ℕ) → NoneQueued (IsHalf n) v.inboxes → any_queued (is_half n) (listing_of v).inboxes ≡ false
+half_none v n h = queued_none v (IsHalf n) (is_half n) (λ x f. one_false (n == x.number) x.linked (λ p. f (sym (eqb_is n x.number p.0), p.1))) h
 
 -- ---- Retire
 
@@ -111,47 +111,47 @@ or_right : (x y : Bool) → y ≡ true → (x || y) ≡ true
 or_right true y e = refl
 or_right false y e = e
 
-abbrev pub unsettled : FloorSeen → ℕ → Bool
-unsettled v a = list_any (λ (e : Entry). true) (desk_listing (listing_of v) a).cache || any_posted (halves_of a) (listing_of v).inboxes
+abbrev pub unsettled : FloorState → ℕ → Bool
+unsettled v a = list_any (λ (e : Entry). true) (desk_listing (listing_of v) a).cache || any_queued (halves_of a) (listing_of v).inboxes
 
-pub retire_refused : (v : FloorSeen) (a : ℕ) (r : Refusal) → Refuses v (Retire a) r → Says v (Retire a) r
+pub retire_refused : (v : FloorState) (a : ℕ) (r : Refusal) → Refuses v (Retire a) r → Says v (Retire a) r
 retire_refused v a NoDesk h = no_desk_first v a ((unsettled v a, Unsettled) ∷ []) h
 retire_refused v a Idle h = idle_first v a ((unsettled v a, Unsettled) ∷ []) h.0 h.1
 retire_refused v a Unsettled h = held_first v a ((unsettled v a, Unsettled) ∷ []) h.0 h.1 ∙ hits (unsettled v a) Unsettled [] (either h.2)
   where
-    either : (h.0.cached ≢ []) ⊎ SomePosted (IsHalfOf a) v.inboxes → unsettled v a ≡ true
-    either (inl ne) = ap (λ b. b || any_posted (halves_of a) (listing_of v).inboxes)
+    either : (h.0.cached ≢ []) ⊎ SomeQueued (IsHalfOf a) v.inboxes → unsettled v a ≡ true
+    either (inl ne) = ap (λ b. b || any_queued (halves_of a) (listing_of v).inboxes)
         (ap (λ (x : DeskListing). list_any (λ (e : Entry). true) x.cache) (held_seen v a h.0 h.1) ∙ some_cached h.0.cached ne)
     either (inr s) = or_right (list_any (λ (e : Entry). true) (desk_listing (listing_of v) a).cache) _ (half_of_some v a s)
 retire_refused v a _ h = elim h [ ]
 
 -- ---- Claim
 
-abbrev pub class_beyond : FloorSeen → ℕ → Bool
+abbrev pub class_beyond : FloorState → ℕ → Bool
 class_beyond v c = nat_le (classes_of (profile_of v.digits.bits)) c
 
-abbrev pub home_has : FloorSeen → ℕ → ℕ → Bool
+abbrev pub home_has : FloorState → ℕ → ℕ → Bool
 home_has v a c = list_any (λ (e : Entry). e.class == c) (desk_listing (listing_of v) a).home
 
-abbrev pub all_drawn : FloorSeen → Bool
+abbrev pub all_drawn : FloorState → Bool
 all_drawn v = nat_le v.chunks (length v.drawn)
 
-abbrev claim_rest : FloorSeen → ℕ → ℕ → List (Bool × Refusal)
+abbrev claim_rest : FloorState → ℕ → ℕ → List (Bool × Refusal)
 claim_rest v a c = (class_beyond v c, BadClass) ∷ (home_has v a c, NotNeeded) ∷ (all_drawn v, NoChunk) ∷ []
 
-pub home_has_seen : (v : FloorSeen) (a c : ℕ) (d : DeskState) → IsHeld v a d → HasClass c d.home → home_has v a c ≡ true
+pub home_has_seen : (v : FloorState) (a c : ℕ) (d : DeskState) → IsHeld v a d → HasClass c d.home → home_has v a c ≡ true
 home_has_seen v a c d l h = ap (λ (x : DeskListing). list_any (λ (e : Entry). e.class == c) x.home) (held_seen v a d l) ∙ has_class_seen d.number c d.home h
 
-pub home_lacks_seen : (v : FloorSeen) (a c : ℕ) (d : DeskState) → IsHeld v a d → LacksClass c d.home → home_has v a c ≡ false
+pub home_lacks_seen : (v : FloorState) (a c : ℕ) (d : DeskState) → IsHeld v a d → LacksClass c d.home → home_has v a c ≡ false
 home_lacks_seen v a c d l h = ap (λ (x : DeskListing). list_any (λ (e : Entry). e.class == c) x.home) (held_seen v a d l) ∙ lacks_class_seen d.number c d.home h
 
-pub all_drawn_seen : (v : FloorSeen) → length v.drawn ≡ v.chunks → all_drawn v ≡ true
+pub all_drawn_seen : (v : FloorState) → length v.drawn ≡ v.chunks → all_drawn v ≡ true
 all_drawn_seen v e = le-leb v.chunks (length v.drawn) (omega (arith, e))
 
-pub some_undrawn_seen : (v : FloorSeen) → length v.drawn < v.chunks → all_drawn v ≡ false
+pub some_undrawn_seen : (v : FloorState) → length v.drawn < v.chunks → all_drawn v ≡ false
 some_undrawn_seen v l = leb_past v.chunks (length v.drawn) l
 
-pub claim_refused : (v : FloorSeen) (a c : ℕ) (r : Refusal) → Refuses v (Claim a c) r → Says v (Claim a c) r
+pub claim_refused : (v : FloorState) (a c : ℕ) (r : Refusal) → Refuses v (Claim a c) r → Says v (Claim a c) r
 claim_refused v a c NoDesk h = no_desk_first v a (claim_rest v a c) h
 claim_refused v a c Idle h = idle_first v a (claim_rest v a c) h.0 h.1
 claim_refused v a c BadClass h =
@@ -170,7 +170,7 @@ claim_refused v a c NoChunk h =
 claim_refused v a c _ h = elim h [ ]
 
 -- an accepted claim
-pub claim_accepted : (v : FloorSeen) (a c : ℕ) (d : DeskState) → IsHeld v a d → c < class_limit v → LacksClass c d.home → length v.drawn < v.chunks
+pub claim_accepted : (v : FloorState) (a c : ℕ) (d : DeskState) → IsHeld v a d → c < class_limit v → LacksClass c d.home → length v.drawn < v.chunks
     → refusal_seen (listing_of v) (Claim a c) ≡ None
 claim_accepted v a c d l few lacks left =
     held_first v a (claim_rest v a c) d l
@@ -180,17 +180,17 @@ claim_accepted v a c d l few lacks left =
 
 -- ---- Alloc
 
-abbrev pub size_beyond : FloorSeen → ℕ → Bool
+abbrev pub size_beyond : FloorState → ℕ → Bool
 size_beyond v n = nat_lt (largest_of (profile_of v.digits.bits)) n
 
-abbrev pub home_wants : FloorSeen → ℕ → ℕ → Bool
+abbrev pub home_wants : FloorState → ℕ → ℕ → Bool
 home_wants v a n = not (home_has v a (least_class (profile_of v.digits.bits) n))
 
-abbrev alloc_rest : FloorSeen → ℕ → ℕ → List (Bool × Refusal)
+abbrev alloc_rest : FloorState → ℕ → ℕ → List (Bool × Refusal)
 alloc_rest v a n = (size_beyond v n, TooLarge) ∷ (home_wants v a n, NeedChunk) ∷ []
 
 -- an accepted allocation, and one that meets a want of memory
-pub alloc_accepted : (v : FloorSeen) (a n c : ℕ) (d : DeskState) → d.digits ≡ v.digits → IsHeld v a d
+pub alloc_accepted : (v : FloorState) (a n c : ℕ) (d : DeskState) → d.digits ≡ v.digits → IsHeld v a d
     → IsLeastFor (profile_of d.digits.bits) n c → HasClass c d.home → refusal_seen (listing_of v) (Alloc a n) ≡ None
 alloc_accepted v a n c d same l least has =
     let p = profile_of v.digits.bits in
@@ -199,7 +199,7 @@ alloc_accepted v a n c d same l least has =
     ∙ (passes (size_beyond v n) TooLarge ((home_wants v a n, NeedChunk) ∷ []) (ltb_past (largest_of p) n (holds_within p n c q))
     ∙ passes (home_wants v a n) NeedChunk [] (ap not (home_has_seen v a (least_class p n) d l (subst (λ k. HasClass k d.home) (sym (least_is p n c q)) has))))
 
-pub alloc_refused : (v : FloorSeen) (a n : ℕ) (r : Refusal) → ((d : DeskState) → IsHeld v a d → d.digits ≡ v.digits) → Refuses v (Alloc a n) r
+pub alloc_refused : (v : FloorState) (a n : ℕ) (r : Refusal) → ((d : DeskState) → IsHeld v a d → d.digits ≡ v.digits) → Refuses v (Alloc a n) r
     → (Says v (Alloc a n) r) ⊎ ((refusal_seen (listing_of v) (Alloc a n) ≡ None) × (r ≡ NoMemory))
 alloc_refused v a n NoDesk f h = inl (no_desk_first v a (alloc_rest v a n) h)
 alloc_refused v a n Idle f h = inl (idle_first v a (alloc_rest v a n) h.0 h.1)
@@ -215,10 +215,10 @@ alloc_refused v a n _ f h = elim h [ ]
 
 -- ---- Free
 
-abbrev pub not_lent : FloorSeen → ℕ × ℕ → Bool
+abbrev pub not_lent : FloorState → ℕ × ℕ → Bool
 not_lent v pair = not (list_any (λ (e : Entry). same_slot (slot_at pair) e.slot) (listing_of v).lent)
 
-pub free_refused : (v : FloorSeen) (a : ℕ) (pair : ℕ × ℕ) (r : Refusal) → AreInPlace v.lent → Refuses v (Free a pair) r → Says v (Free a pair) r
+pub free_refused : (v : FloorState) (a : ℕ) (pair : ℕ × ℕ) (r : Refusal) → AreInPlace v.lent → Refuses v (Free a pair) r → Says v (Free a pair) r
 free_refused v a pair NoDesk f h = no_desk_first v a ((not_lent v pair, NotLent) ∷ []) h
 free_refused v a pair Idle f h = idle_first v a ((not_lent v pair, NotLent) ∷ []) h.0 h.1
 free_refused v a pair NotLent f h =
@@ -227,7 +227,7 @@ free_refused v a pair NotLent f h =
     (ap not (any-map entry_of (λ (e : Entry). same_slot (slot_at pair) e.slot) (buffers_lent v.lent) ∙ none_lent v.lent pair.0 pair.1 f h.1))
 free_refused v a pair _ f h = elim h [ ]
 
-pub free_accepted : (v : FloorSeen) (a : ℕ) (pair : ℕ × ℕ) (d : DeskState) (b : Buffer) → IsHeld v a d → lent_at v.lent pair.0 pair.1 ≡ Some b
+pub free_accepted : (v : FloorState) (a : ℕ) (pair : ℕ × ℕ) (d : DeskState) (b : Buffer) → IsHeld v a d → lent_at v.lent pair.0 pair.1 ≡ Some b
     → b.slot ≡ record { chunk = pair.0; index = pair.1 } → refusal_seen (listing_of v) (Free a pair) ≡ None
 free_accepted v a pair d b l e s =
     held_first v a ((not_lent v pair, NotLent) ∷ []) d l
@@ -236,19 +236,19 @@ free_accepted v a pair d b l e s =
 
 -- ---- Send
 
-abbrev pub none_goes : FloorSeen → ℕ → ℕ → Bool
+abbrev pub none_goes : FloorState → ℕ → ℕ → Bool
 none_goes v a t = not (list_any (λ (e : Entry). goes_by v.digits a t e.owner) (desk_listing (listing_of v) a).cache)
 
-abbrev pub none_owned : FloorSeen → ℕ → ℕ → Bool
+abbrev pub none_owned : FloorState → ℕ → ℕ → Bool
 none_owned v a t = not (list_any (λ (e : Entry). goes_by v.digits a t e.owner && (e.owner == t)) (desk_listing (listing_of v) a).cache)
 
-abbrev spent : FloorSeen → List (Bool × Refusal)
+abbrev spent : FloorState → List (Bool × Refusal)
 spent v = (nat_le (2 ^ 32) v.next, Spent) ∷ []
 
-abbrev pub send_rest : FloorSeen → ℕ → ℕ → List (Bool × Refusal)
+abbrev pub send_rest : FloorState → ℕ → ℕ → List (Bool × Refusal)
 send_rest v a t = (a == t, ToSelf) ∷ (none_goes v a t, NothingFor) ∷ (none_owned v a t, NotAnOwner) ∷ spent v
 
-abbrev send_desks : FloorSeen → ℕ → ℕ → Bool
+abbrev send_desks : FloorState → ℕ → ℕ → Bool
 send_desks v a t = nat_le (length (listing_of v).desks) a || nat_le (length (listing_of v).desks) t
 
 or_left : (x y : Bool) → x ≡ true → (x || y) ≡ true
@@ -257,15 +257,15 @@ or_left x y e = ap (λ b. b || y) e
 or_none : (x y : Bool) → x ≡ false → y ≡ false → (x || y) ≡ false
 or_none x y e f = ap (λ b. b || y) e ∙ f
 
-abbrev send_first : FloorSeen → ℕ → ℕ → List (Bool × Refusal)
+abbrev send_first : FloorState → ℕ → ℕ → List (Bool × Refusal)
 send_first v a t = (is_none (desk_listing (listing_of v) a).worker, Idle) ∷ send_rest v a t
 
-pub send_held : (v : FloorSeen) (a t : ℕ) (d : DeskState) → IsHeld v a d → t < desk_count v → refusal_seen (listing_of v) (Send a t) ≡ first (send_rest v a t)
+pub send_held : (v : FloorState) (a t : ℕ) (d : DeskState) → IsHeld v a d → t < desk_count v → refusal_seen (listing_of v) (Send a t) ≡ first (send_rest v a t)
 send_held v a t d l m =
     passes (send_desks v a t) NoDesk (send_first v a t) (or_none _ _ (is_desk_seen v a l.0) (is_desk_seen v t m))
     ∙ passes (is_none (desk_listing (listing_of v) a).worker) Idle (send_rest v a t) (ap (λ (x : DeskListing). is_none x.worker) (held_seen v a d l))
 
-cache_any : (v : FloorSeen) (a : ℕ) (d : DeskState) (p : Entry → Bool) → IsHeld v a d
+cache_any : (v : FloorState) (a : ℕ) (d : DeskState) (p : Entry → Bool) → IsHeld v a d
     → list_any p (desk_listing (listing_of v) a).cache ≡ list_any (λ (b : Buffer). p (entry_of b)) d.cached
 cache_any v a d p l = ap (λ (x : DeskListing). list_any p x.cache) (held_seen v a d l) ∙ any-map entry_of p d.cached
 
@@ -288,7 +288,7 @@ and_false true y f = f refl
 and_false false y f = refl
 
 -- the desk has a batch for t
-pub send_routes : (v : FloorSeen) (a t : ℕ) (d : DeskState) → Routes v a t d None → refusal_seen (listing_of v) (Send a t) ≡ first (spent v)
+pub send_routes : (v : FloorState) (a t : ℕ) (d : DeskState) → Routes v a t d None → refusal_seen (listing_of v) (Send a t) ≡ first (spent v)
 send_routes v a t d h =
     send_held v a t d h.0 h.1
     ∙ (passes (a == t) ToSelf ((none_goes v a t, NothingFor) ∷ (none_owned v a t, NotAnOwner) ∷ spent v) (isnt_eqb a t (λ e. h.2.0 (sym e)))
@@ -297,10 +297,10 @@ send_routes v a t d h =
     ∙ passes (none_owned v a t) NotAnOwner (spent v)
     (ap not (cache_any v a d (λ (e : Entry). goes_by v.digits a t e.owner && (e.owner == t)) h.0 ∙ any_of (λ (b : Buffer). IsInBucket v.digits a t b × (b.owner ≡ t)) (λ (b : Buffer). goes_by v.digits a t b.owner && (b.owner == t)) d.cached (λ b p. and_true _ _ (goes_seen v.digits a t b p.0) (is_eqb b.owner t p.1)) h.2.1))))
 
-pub send_accepted : (v : FloorSeen) (a t : ℕ) (d : DeskState) → Routes v a t d None → v.next ≤ last_number → refusal_seen (listing_of v) (Send a t) ≡ None
+pub send_accepted : (v : FloorState) (a t : ℕ) (d : DeskState) → Routes v a t d None → v.next ≤ last_number → refusal_seen (listing_of v) (Send a t) ≡ None
 send_accepted v a t d h l = send_routes v a t d h ∙ passes (nat_le (2 ^ 32) v.next) Spent [] (leb_past (2 ^ 32) v.next (omega (arith, l)))
 
-pub send_refused : (v : FloorSeen) (a t : ℕ) (r : Refusal) → Refuses v (Send a t) r
+pub send_refused : (v : FloorState) (a t : ℕ) (r : Refusal) → Refuses v (Send a t) r
     → (Says v (Send a t) r) ⊎ ((refusal_seen (listing_of v) (Send a t) ≡ None) × (r ≡ NoMemory))
 send_refused v a t NoDesk (inl h) = inl (hits (send_desks v a t) NoDesk (send_first v a t) (or_left _ _ (no_desk_seen v a h)))
 send_refused v a t NoDesk (inr h) = inl (hits (send_desks v a t) NoDesk (send_first v a t) (or_right _ _ (no_desk_seen v t h)))
@@ -329,23 +329,23 @@ send_refused v a t _ h = elim h [ ]
 
 -- ---- Link
 
-pub link_refused : (v : FloorSeen) (n : ℕ) (r : Refusal) → Refuses v (Link n) r → Says v (Link n) r
-link_refused v n NoBatch h = hits (not (any_posted (is_half n) (listing_of v).inboxes)) NoBatch [] (ap not (half_none v n h))
+pub link_refused : (v : FloorState) (n : ℕ) (r : Refusal) → Refuses v (Link n) r → Says v (Link n) r
+link_refused v n NoBatch h = hits (not (any_queued (is_half n) (listing_of v).inboxes)) NoBatch [] (ap not (half_none v n h))
 link_refused v n _ h = elim h [ ]
 
-pub link_accepted : (v : FloorSeen) (n : ℕ) → SomePosted (IsHalf n) v.inboxes → refusal_seen (listing_of v) (Link n) ≡ None
-link_accepted v n h = passes (not (any_posted (is_half n) (listing_of v).inboxes)) NoBatch [] (ap not (half_some v n h))
+pub link_accepted : (v : FloorState) (n : ℕ) → SomeQueued (IsHalf n) v.inboxes → refusal_seen (listing_of v) (Link n) ≡ None
+link_accepted v n h = passes (not (any_queued (is_half n) (listing_of v).inboxes)) NoBatch [] (ap not (half_some v n h))
 
 -- ---- Take
 
-abbrev pub no_front : FloorSeen → ℕ → Bool
+abbrev pub no_front : FloorState → ℕ → Bool
 no_front v b = not (front_ready (map as_waiting (inbox_listing (listing_of v) b)))
 
-no_front_seen : (ps : List BatchSeen) → HasNoFront ps → not (front_ready (map as_waiting (map batch_of ps))) ≡ true
+no_front_seen : (ps : List QueuedState) → HasNoFront ps → not (front_ready (map as_waiting (map batch_of ps))) ≡ true
 no_front_seen [] h = refl
 no_front_seen (p ∷ ps) h = ap not h
 
-pub take_refused : (v : FloorSeen) (b : ℕ) (r : Refusal) → Refuses v (Take b) r → Says v (Take b) r
+pub take_refused : (v : FloorState) (b : ℕ) (r : Refusal) → Refuses v (Take b) r → Says v (Take b) r
 take_refused v b NoDesk h = no_desk_first v b ((no_front v b, Nothing) ∷ []) h
 take_refused v b Idle h = idle_first v b ((no_front v b, Nothing) ∷ []) h.0 h.1
 take_refused v b Nothing h =
@@ -353,7 +353,7 @@ take_refused v b Nothing h =
     ∙ hits (no_front v b) Nothing [] (ap (λ ws. not (front_ready (map as_waiting ws))) (inbox_seen v b) ∙ no_front_seen (inbox_at v.inboxes b) h.1)
 take_refused v b _ h = elim h [ ]
 
-pub take_accepted : (v : FloorSeen) (b : ℕ) (d : DeskState) (p : BatchSeen) (rest : List BatchSeen) → IsHeld v b d → inbox_at v.inboxes b ≡ p ∷ rest → p.linked ≡ true
+pub take_accepted : (v : FloorState) (b : ℕ) (d : DeskState) (p : QueuedState) (rest : List QueuedState) → IsHeld v b d → inbox_at v.inboxes b ≡ p ∷ rest → p.linked ≡ true
     → refusal_seen (listing_of v) (Take b) ≡ None
 take_accepted v b d p rest l e t =
     held_first v b ((no_front v b, Nothing) ∷ []) d l

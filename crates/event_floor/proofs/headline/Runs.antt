@@ -3,7 +3,7 @@ use Rattle.std.proofs.Common.{ℕ, List, [], ◌∷◌, ◌++◌, ◌^◌, ◌�
 use Rattle.digit_route.specs.Digits.{Scheme, IsScheme}
 use Rattle.pool_machine.specs.declared.request.Request.{Request}
 use Rattle.region_cut.specs.declared.part.Part.{Part}
-use Rattle.event_floor.specs.Floors.{FloorSeen, opening}
+use Rattle.event_floor.specs.Floors.{FloorState, opening}
 use Rattle.event_floor.specs.Steps.{Answers}
 use Rattle.pool_machine.specs.Steps.{Answer}
 use Rattle.pool_machine.specs.Headline.{AppliesAll as ListingAppliesAll}
@@ -16,27 +16,27 @@ use Rattle.event_floor.proofs.headline.Serves.{serves}
 use Rattle.event_floor.proofs.headline.Wholes.{shows_opening}
 
 -- a list of requests is a run of the machine
-unfoldable pub AppliesAll : FloorSeen → List Request → List Answer → FloorSeen → Type 0
+unfoldable pub AppliesAll : FloorState → List Request → List Answer → FloorState → Type 0
 AppliesAll old requests answers new = ListingAppliesAll (listing_of old) requests answers (listing_of new)
 
-pub step_applies : (v w : FloorSeen) (q : Request) (y : Answer) → IsWhole v → Answers v q y w → Applies v q y w
+pub step_applies : (v w : FloorState) (q : Request) (y : Answer) → IsWhole v → Answers v q y w → Applies v q y w
 unfolding Applies
 step_applies v w q y f h = applies (listing_of v) (listing_of w) q y (serves v w q y f h)
 
-pub step_shows : (v w : FloorSeen) (q : Request) (y : Answer) → Applies v q y w → Shows v → Shows w
+pub step_shows : (v w : FloorState) (q : Request) (y : Answer) → Applies v q y w → Shows v → Shows w
 unfolding Applies Shows
 step_shows v w q y f s = shows_next (listing_of v) (listing_of w) q y f s
 
-pub run_none : (v : FloorSeen) → AppliesAll v [] [] v
+pub run_none : (v : FloorState) → AppliesAll v [] [] v
 unfolding AppliesAll
 run_none v = applies_none (listing_of v)
 
-pub run_push : (u v w : FloorSeen) (qs : List Request) (ys : List Answer) (q : Request) (y : Answer) → AppliesAll u qs ys v → Applies v q y w
+pub run_push : (u v w : FloorState) (qs : List Request) (ys : List Answer) (q : Request) (y : Answer) → AppliesAll u qs ys v → Applies v q y w
     → AppliesAll u (qs ++ q ∷ []) (ys ++ y ∷ []) w
 unfolding AppliesAll Applies
 run_push u v w qs ys q y more one = applies_push (listing_of u) (listing_of v) (listing_of w) qs ys q y more one
 
-pub run_headline : (u v : FloorSeen) (qs : List Request) (ys : List Answer) → AppliesAll u qs ys v → Headline u qs ys v
+pub run_headline : (u v : FloorState) (qs : List Request) (ys : List Answer) → AppliesAll u qs ys v → Headline u qs ys v
 unfolding AppliesAll Headline
 run_headline u v qs ys f = headline (listing_of u) qs ys (listing_of v) f
 

@@ -20,9 +20,9 @@ use Rattle.pool_desk.specs.Desks.{DeskState}
 use Rattle.pool_machine.specs.declared.chunk.DrawnChunk.{DrawnChunk}
 use Rattle.event_floor.specs.declared.any_desk.AnyDesk.{AnyDesk}
 use Rattle.event_floor.specs.declared.any_desk.AnyDesk.TheVariants.{Held}
-use Rattle.event_floor.specs.Posted.{BatchSeen, inbox_at}
-use Rattle.event_floor.specs.Seats.{home_of, cached_of}
-use Rattle.event_floor.specs.Floors.{FloorSeen, desk_at, no_desk}
+use Rattle.event_floor.specs.Inboxes.{QueuedState, inbox_at}
+use Rattle.event_floor.specs.Desks.{home_of, cached_of}
+use Rattle.event_floor.specs.Floors.{FloorState, desk_at, no_desk}
 use Rattle.event_floor.specs.Steps.{DrawsChunk}
 use Rattle.pool_machine.specs.Slots.{one_if}
 use Rattle.event_floor.specs.headline.Names.{HasName, IsNamedHome, IsNamedChunk, IsNamedDesk, AreNames, chunks_of, drew, is_drawn_for}
@@ -111,7 +111,7 @@ slots_fit c = div-mul-le_self CHUNK (size_of c)
 
 -- ---- Claim
 
-module _ (names : List Carved) (v w : FloorSeen) (a class k : ℕ) (n : AreNames names v) (s : DrawsChunk v a class k w) where
+module _ (names : List Carved) (v w : FloorState) (a class k : ℕ) (n : AreNames names v) (s : DrawsChunk v a class k w) where
   abbrev new_chunk : Carved
   new_chunk = s.claims.drawn.drawn
 
@@ -255,6 +255,6 @@ module _ (names : List Carved) (v w : FloorSeen) (a class k : ℕ) (n : AreNames
     chunks = claimed_chunks;
     desks = each_claimed;
     lent = λ i. some_to (HasName names) (HasName new_names) (get_or v.lent i None) kept_name (n.lent i);
-    posted = λ b. All-to (λ (p : BatchSeen). All (HasName names) p.buffers) (λ (p : BatchSeen). All (HasName new_names) p.buffers) (inbox_at v.inboxes b)
-        (λ p h. All-to (HasName names) (HasName new_names) p.buffers kept_name h) (n.posted b);
+    queued = λ b. All-to (λ (p : QueuedState). All (HasName names) p.buffers) (λ (p : QueuedState). All (HasName new_names) p.buffers) (inbox_at v.inboxes b)
+        (λ p h. All-to (HasName names) (HasName new_names) p.buffers kept_name h) (n.queued b);
   })

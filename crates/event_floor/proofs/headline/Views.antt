@@ -10,11 +10,11 @@ use Rattle.pool_desk.specs.Homes.AtHome.{Kept, Fresh}
 use Rattle.pool_desk.specs.HomesState.{HasClass, LacksClass}
 use Rattle.pool_desk.specs.Desks.{IdleState, DeskState}
 use Rattle.event_floor.specs.declared.any_desk.AnyDesk.{AnyDesk}
-use Rattle.event_floor.specs.declared.any_desk.AnyDesk.TheVariants.{Idle as IdleSeat, Held as HeldSeat}
+use Rattle.event_floor.specs.declared.any_desk.AnyDesk.TheVariants.{Idle as IdleDesk, Held as HeldDesk}
 use Rattle.pool_machine.specs.declared.refusal.Refusal.{Refusal}
 use Rattle.pool_machine.specs.declared.refusal.Refusal.TheVariants.{NoDesk, Idle}
-use Rattle.event_floor.specs.Posted.{inbox_at}
-use Rattle.event_floor.specs.Floors.{FloorSeen, desk_at, desk_count, no_desk, IsIdle, IsHeld, with_seat}
+use Rattle.event_floor.specs.Inboxes.{inbox_at}
+use Rattle.event_floor.specs.Floors.{FloorState, desk_at, desk_count, no_desk, IsIdle, IsHeld, with_any_desk}
 use Rattle.pool_machine.specs.Refusals.{first}
 use Rattle.pool_machine.specs.Listing.{Entry, DeskListing, desk_listing, inbox_listing}
 use Rattle.event_floor.specs.headline.Listing.{entry_at, desk_of, batch_of, listing_of}
@@ -53,44 +53,44 @@ passes true r cs e = absurd (true≢false e)
 
 -- ---- desks
 
-pub desk_seen : (v : FloorSeen) (a : ℕ) → desk_listing (listing_of v) a ≡ desk_of (desk_at v a)
+pub desk_seen : (v : FloorState) (a : ℕ) → desk_listing (listing_of v) a ≡ desk_of (desk_at v a)
 desk_seen v a = get_or-map_default desk_of v.desks a no_desk
 
-pub desks_seen : (v : FloorSeen) → length (listing_of v).desks ≡ desk_count v
+pub desks_seen : (v : FloorState) → length (listing_of v).desks ≡ desk_count v
 desks_seen v = length-map v.desks desk_of
 
-pub held_seen : (v : FloorSeen) (a : ℕ) (d : DeskState) → IsHeld v a d → desk_listing (listing_of v) a ≡ desk_of (HeldSeat d)
+pub held_seen : (v : FloorState) (a : ℕ) (d : DeskState) → IsHeld v a d → desk_listing (listing_of v) a ≡ desk_of (HeldDesk d)
 held_seen v a d h = desk_seen v a ∙ ap desk_of h.1
 
-pub idle_seen : (v : FloorSeen) (a : ℕ) (d : IdleState) → IsIdle v a d → desk_listing (listing_of v) a ≡ desk_of (IdleSeat d)
+pub idle_seen : (v : FloorState) (a : ℕ) (d : IdleState) → IsIdle v a d → desk_listing (listing_of v) a ≡ desk_of (IdleDesk d)
 idle_seen v a d h = desk_seen v a ∙ ap desk_of h.1
 
 -- there is no such desk, and there is one
-pub no_desk_seen : (v : FloorSeen) (a : ℕ) → desk_count v ≤ a → nat_le (length (listing_of v).desks) a ≡ true
+pub no_desk_seen : (v : FloorState) (a : ℕ) → desk_count v ≤ a → nat_le (length (listing_of v).desks) a ≡ true
 no_desk_seen v a l = ap (λ n. nat_le n a) (desks_seen v) ∙ le-leb (desk_count v) a l
 
-pub is_desk_seen : (v : FloorSeen) (a : ℕ) → a < desk_count v → nat_le (length (listing_of v).desks) a ≡ false
+pub is_desk_seen : (v : FloorState) (a : ℕ) → a < desk_count v → nat_le (length (listing_of v).desks) a ≡ false
 is_desk_seen v a l = ap (λ n. nat_le n a) (desks_seen v) ∙ leb_past (desk_count v) a l
 
-abbrev pub desk_first : FloorSeen → ℕ → List (Bool × Refusal) → Option Refusal
+abbrev pub desk_first : FloorState → ℕ → List (Bool × Refusal) → Option Refusal
 desk_first v a cs = first ((nat_le (length (listing_of v).desks) a, NoDesk) ∷ (is_none (desk_listing (listing_of v) a).worker, Idle) ∷ cs)
 
-pub no_desk_first : (v : FloorSeen) (a : ℕ) (cs : List (Bool × Refusal)) → desk_count v ≤ a → desk_first v a cs ≡ Some NoDesk
+pub no_desk_first : (v : FloorState) (a : ℕ) (cs : List (Bool × Refusal)) → desk_count v ≤ a → desk_first v a cs ≡ Some NoDesk
 no_desk_first v a cs l = hits (nat_le (length (listing_of v).desks) a) NoDesk ((is_none (desk_listing (listing_of v) a).worker, Idle) ∷ cs) (no_desk_seen v a l)
 
-pub idle_first : (v : FloorSeen) (a : ℕ) (cs : List (Bool × Refusal)) (d : IdleState) → IsIdle v a d → desk_first v a cs ≡ Some Idle
+pub idle_first : (v : FloorState) (a : ℕ) (cs : List (Bool × Refusal)) (d : IdleState) → IsIdle v a d → desk_first v a cs ≡ Some Idle
 idle_first v a cs d h =
     passes (nat_le (length (listing_of v).desks) a) NoDesk ((is_none (desk_listing (listing_of v) a).worker, Idle) ∷ cs) (is_desk_seen v a h.0)
     ∙ hits (is_none (desk_listing (listing_of v) a).worker) Idle cs (ap (λ (x : DeskListing). is_none x.worker) (idle_seen v a d h))
 
-pub held_first : (v : FloorSeen) (a : ℕ) (cs : List (Bool × Refusal)) (d : DeskState) → IsHeld v a d → desk_first v a cs ≡ first cs
+pub held_first : (v : FloorState) (a : ℕ) (cs : List (Bool × Refusal)) (d : DeskState) → IsHeld v a d → desk_first v a cs ≡ first cs
 held_first v a cs d h =
     passes (nat_le (length (listing_of v).desks) a) NoDesk ((is_none (desk_listing (listing_of v) a).worker, Idle) ∷ cs) (is_desk_seen v a h.0)
     ∙ passes (is_none (desk_listing (listing_of v) a).worker) Idle cs (ap (λ (x : DeskListing). is_none x.worker) (held_seen v a d h))
 
 -- another desk a
-pub with_seat_seen : (v : FloorSeen) (a : ℕ) (s : AnyDesk) → (listing_of (with_seat v a s)).desks ≡ set (listing_of v).desks a (desk_of s)
-with_seat_seen v a s = set-map desk_of v.desks a s
+pub with_any_desk_seen : (v : FloorState) (a : ℕ) (s : AnyDesk) → (listing_of (with_any_desk v a s)).desks ≡ set (listing_of v).desks a (desk_of s)
+with_any_desk_seen v a s = set-map desk_of v.desks a s
 
 -- ---- slots at home
 
@@ -120,5 +120,5 @@ lacks_class_seen n c home h =
 
 -- ---- inboxes
 
-pub inbox_seen : (v : FloorSeen) (b : ℕ) → inbox_listing (listing_of v) b ≡ map batch_of (inbox_at v.inboxes b)
+pub inbox_seen : (v : FloorState) (b : ℕ) → inbox_listing (listing_of v) b ≡ map batch_of (inbox_at v.inboxes b)
 inbox_seen v b = get_or-map_default (map batch_of) v.inboxes b []

@@ -13,11 +13,11 @@ use Rattle.pool_machine.specs.declared.request.Request.TheVariants.{Adopt, Retir
 use Rattle.pool_machine.specs.declared.reply.Reply.{Reply}
 use Rattle.pool_machine.specs.declared.reply.Reply.TheVariants.{Done, Chunk, Slot as Lent, Home, Cached, Due, Batch, Counts}
 use Rattle.event_floor.specs.Lent.{place_of, AreInPlace}
-use Rattle.event_floor.specs.Seats.{new_desks}
+use Rattle.event_floor.specs.Desks.{new_desks}
 use Rattle.region_cut.specs.declared.TheConstants.{CHUNK}
 use Rattle.region_cut.specs.Parts.{name_of, bytes_of}
 use Rattle.region_cut.specs.declared.part.Part.{Part}
-use Rattle.event_floor.specs.Floors.{FloorSeen, IsFloor, opening}
+use Rattle.event_floor.specs.Floors.{FloorState, IsFloor, opening}
 use Rattle.event_floor.specs.Steps.{Does, DrawsChunk, LendsSlot, TakesBack}
 use Rattle.event_floor.specs.Steps.{Answers}
 use Rattle.pool_machine.specs.Steps.{Answer}
@@ -48,49 +48,49 @@ gone P (x ∷ xs) (suc p) (suc j) k = gone P xs p j k
 gone_in_place : (lent : List (Option Buffer)) (p : ℕ) → AreInPlace lent → AreInPlace (set lent p None)
 gone_in_place lent p h i = gone (λ (b : Buffer). (place_of b.slot ≡ i) × (b.slot.index < 256)) lent p i (h i)
 
-lent_stays : (v w : FloorSeen) → w.lent ≡ v.lent → AreInPlace v.lent → AreInPlace w.lent
+lent_stays : (v w : FloorState) → w.lent ≡ v.lent → AreInPlace v.lent → AreInPlace w.lent
 lent_stays v w e h = subst AreInPlace (sym e) h
 
-lends_in_place : (v w : FloorSeen) (a n : ℕ) (slot : Slot) → IsWhole v → LendsSlot v a n slot w → AreInPlace w.lent
+lends_in_place : (v w : FloorState) (a n : ℕ) (slot : Slot) → IsWhole v → LendsSlot v a n slot w → AreInPlace w.lent
 lends_in_place v w a n slot f s =
-    subst AreInPlace (sym (ap (λ (x : FloorSeen). x.lent) s.same))
+    subst AreInPlace (sym (ap (λ (x : FloorState). x.lent) s.same))
     (put_in_place v.lent (place_of slot) s.buffer f.in_place (subst (λ z. place_of z < length v.lent) s.is_slot (in_table v w a n slot f s)) (ap place_of s.is_slot) (placed_slot v w a n slot f s).1)
 
-takes_in_place : (v w : FloorSeen) (a k i : ℕ) (r : Freed) → IsWhole v → TakesBack v a k i r w → AreInPlace w.lent
-takes_in_place v w a k i r f s = subst AreInPlace (sym (ap (λ (x : FloorSeen). x.lent) s.same)) (gone_in_place v.lent (place_of s.buffer.slot) f.in_place)
+takes_in_place : (v w : FloorState) (a k i : ℕ) (r : Freed) → IsWhole v → TakesBack v a k i r w → AreInPlace w.lent
+takes_in_place v w a k i r f s = subst AreInPlace (sym (ap (λ (x : FloorState). x.lent) s.same)) (gone_in_place v.lent (place_of s.buffer.slot) f.in_place)
 
 -- what each accepted request keeps
-keeps : (v w : FloorSeen) (q : Request) (r : Reply) → IsWhole v → Does v q r w → AreInPlace w.lent × (w.chunks ≡ v.chunks) × (w.parts ≡ v.parts)
-keeps v w (Adopt a x) Done f h = (lent_stays v w (ap (λ (x : FloorSeen). x.lent) h.2) f.in_place, ap (λ (x : FloorSeen). x.chunks) h.2, ap (λ (x : FloorSeen). x.parts) h.2)
+keeps : (v w : FloorState) (q : Request) (r : Reply) → IsWhole v → Does v q r w → AreInPlace w.lent × (w.chunks ≡ v.chunks) × (w.parts ≡ v.parts)
+keeps v w (Adopt a x) Done f h = (lent_stays v w (ap (λ (x : FloorState). x.lent) h.2) f.in_place, ap (λ (x : FloorState). x.chunks) h.2, ap (λ (x : FloorState). x.parts) h.2)
 keeps v w (Adopt a x) _ f h = elim h [ ]
-keeps v w (Retire a) Done f h = (lent_stays v w (ap (λ (x : FloorSeen). x.lent) h.4) f.in_place, ap (λ (x : FloorSeen). x.chunks) h.4, ap (λ (x : FloorSeen). x.parts) h.4)
+keeps v w (Retire a) Done f h = (lent_stays v w (ap (λ (x : FloorState). x.lent) h.4) f.in_place, ap (λ (x : FloorState). x.chunks) h.4, ap (λ (x : FloorState). x.parts) h.4)
 keeps v w (Retire a) _ f h = elim h [ ]
-keeps v w (Claim a c) (Chunk k) f h = (lent_stays v w (ap (λ (x : FloorSeen). x.lent) h.same) f.in_place, ap (λ (x : FloorSeen). x.chunks) h.same, ap (λ (x : FloorSeen). x.parts) h.same)
+keeps v w (Claim a c) (Chunk k) f h = (lent_stays v w (ap (λ (x : FloorState). x.lent) h.same) f.in_place, ap (λ (x : FloorState). x.chunks) h.same, ap (λ (x : FloorState). x.parts) h.same)
 keeps v w (Claim a c) _ f h = elim h [ ]
-keeps v w (Alloc a n) (Lent slot) f h = (lends_in_place v w a n slot f h, ap (λ (x : FloorSeen). x.chunks) h.same, ap (λ (x : FloorSeen). x.parts) h.same)
+keeps v w (Alloc a n) (Lent slot) f h = (lends_in_place v w a n slot f h, ap (λ (x : FloorState). x.chunks) h.same, ap (λ (x : FloorState). x.parts) h.same)
 keeps v w (Alloc a n) _ f h = elim h [ ]
-keeps v w (Free a pair) Home f h = (takes_in_place v w a pair.0 pair.1 _ f h, ap (λ (x : FloorSeen). x.chunks) h.same, ap (λ (x : FloorSeen). x.parts) h.same)
-keeps v w (Free a pair) Cached f h = (takes_in_place v w a pair.0 pair.1 _ f h, ap (λ (x : FloorSeen). x.chunks) h.same, ap (λ (x : FloorSeen). x.parts) h.same)
-keeps v w (Free a pair) Due f h = (takes_in_place v w a pair.0 pair.1 _ f h, ap (λ (x : FloorSeen). x.chunks) h.same, ap (λ (x : FloorSeen). x.parts) h.same)
+keeps v w (Free a pair) Home f h = (takes_in_place v w a pair.0 pair.1 _ f h, ap (λ (x : FloorState). x.chunks) h.same, ap (λ (x : FloorState). x.parts) h.same)
+keeps v w (Free a pair) Cached f h = (takes_in_place v w a pair.0 pair.1 _ f h, ap (λ (x : FloorState). x.chunks) h.same, ap (λ (x : FloorState). x.parts) h.same)
+keeps v w (Free a pair) Due f h = (takes_in_place v w a pair.0 pair.1 _ f h, ap (λ (x : FloorState). x.chunks) h.same, ap (λ (x : FloorState). x.parts) h.same)
 keeps v w (Free a pair) _ f h = elim h [ ]
-keeps v w (Send a t) (Batch number count) f h = (lent_stays v w (ap (λ (x : FloorSeen). x.lent) h.same) f.in_place, ap (λ (x : FloorSeen). x.chunks) h.same, ap (λ (x : FloorSeen). x.parts) h.same)
+keeps v w (Send a t) (Batch number count) f h = (lent_stays v w (ap (λ (x : FloorState). x.lent) h.same) f.in_place, ap (λ (x : FloorState). x.chunks) h.same, ap (λ (x : FloorState). x.parts) h.same)
 keeps v w (Send a t) _ f h = elim h [ ]
-keeps v w (Link n) Done f h = (lent_stays v w (ap (λ (x : FloorSeen). x.lent) h.same) f.in_place, ap (λ (x : FloorSeen). x.chunks) h.same, ap (λ (x : FloorSeen). x.parts) h.same)
+keeps v w (Link n) Done f h = (lent_stays v w (ap (λ (x : FloorState). x.lent) h.same) f.in_place, ap (λ (x : FloorState). x.chunks) h.same, ap (λ (x : FloorState). x.parts) h.same)
 keeps v w (Link n) _ f h = elim h [ ]
-keeps v w (Take b) (Counts home on) f h = (lent_stays v w (ap (λ (x : FloorSeen). x.lent) h.same) f.in_place, ap (λ (x : FloorSeen). x.chunks) h.same, ap (λ (x : FloorSeen). x.parts) h.same)
+keeps v w (Take b) (Counts home on) f h = (lent_stays v w (ap (λ (x : FloorState). x.lent) h.same) f.in_place, ap (λ (x : FloorState). x.chunks) h.same, ap (λ (x : FloorState). x.parts) h.same)
 keeps v w (Take b) _ f h = elim h [ ]
 
 -- a part that is drawn leaves those that aren't
-draws_stocked : (v w : FloorSeen) (a c k : ℕ) → IsStocked v → DrawsChunk v a c k w → IsStocked w
+draws_stocked : (v w : FloorState) (a c k : ℕ) → IsStocked v → DrawsChunk v a c k w → IsStocked w
 draws_stocked v w a c k f h =
     let all = subst (λ bs. All (λ (b : List ℕ). length b ≡ CHUNK) bs) h.first f.1 in
     let count : length v.undrawn ≡ suc (length w.undrawn) = ap length h.first in
     let all_of = f.0 in
-    let parts : length w.parts ≡ length v.parts = ap (λ (x : FloorSeen). length x.parts) h.same in
-    let drawn : length w.drawn ≡ length v.drawn + 1 = ap (λ (x : FloorSeen). length x.drawn) h.same ∙ length_push v.drawn _ in
+    let parts : length w.parts ≡ length v.parts = ap (λ (x : FloorState). length x.parts) h.same in
+    let drawn : length w.drawn ≡ length v.drawn + 1 = ap (λ (x : FloorState). length x.drawn) h.same ∙ length_push v.drawn _ in
     (omega (arith, all_of, count, parts, drawn), All-tail (λ (b : List ℕ). length b ≡ CHUNK) (bytes_of h.part) w.undrawn all)
 
-does_stocked : (v w : FloorSeen) (q : Request) (r : Reply) → IsStocked v → Does v q r w → IsStocked w
+does_stocked : (v w : FloorState) (q : Request) (r : Reply) → IsStocked v → Does v q r w → IsStocked w
 does_stocked v w (Adopt a x) Done f h = subst IsStocked (sym h.2) f
 does_stocked v w (Adopt a x) _ f h = elim h [ ]
 does_stocked v w (Retire a) Done f h = subst IsStocked (sym h.4) f
@@ -110,16 +110,16 @@ does_stocked v w (Link n) _ f h = elim h [ ]
 does_stocked v w (Take b) (Counts home on) f h = subst IsStocked (sym h.same) f
 does_stocked v w (Take b) _ f h = elim h [ ]
 
-pub stays_whole : (v w : FloorSeen) (q : Request) (y : Answer) → IsWhole v → Answers v q y w
+pub stays_whole : (v w : FloorState) (q : Request) (y : Answer) → IsWhole v → Answers v q y w
     → IsFloor w.digits w.limit w.chunks w.desks w.lent w.inboxes w.next → IsWhole w
 stays_whole v w q (Ok r) f h g =
     let k = keeps v w q r f h in
     record { floor = g; in_place = k.0; few_chunks = subst (λ n. n ≤ 1024) (sym k.1) f.few_chunks; stocked = does_stocked v w q r f.stocked h }
 stays_whole v w q (Err r) f h g = subst IsWhole (sym h.1) f
 
-pub stays_over : (v w : FloorSeen) (q : Request) (y : Answer) → IsWhole v → Answers v q y w → w.parts ≡ v.parts
+pub stays_over : (v w : FloorState) (q : Request) (y : Answer) → IsWhole v → Answers v q y w → w.parts ≡ v.parts
 stays_over v w q (Ok r) f h = (keeps v w q r f h).2
-stays_over v w q (Err r) f h = ap (λ (x : FloorSeen). x.parts) h.1
+stays_over v w q (Err r) f h = ap (λ (x : FloorState). x.parts) h.1
 
 -- ---- a new floor
 

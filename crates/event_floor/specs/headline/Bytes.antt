@@ -9,8 +9,8 @@ use Rattle.region_cut.specs.Laws.{StandsAt}
 use Rattle.region_cut.specs.Ranges.{start_of}
 use Rattle.slot_chain.specs.Buffer.{Buffer}
 use Rattle.pool_desk.specs.Homes.{Unused}
-use Rattle.event_floor.specs.Floors.{FloorSeen}
-use Rattle.event_floor.specs.headline.Known.{buffers_of, fresh_of}
+use Rattle.event_floor.specs.Floors.{FloorState}
+use Rattle.event_floor.specs.headline.EndsKnown.{buffers_of, fresh_of}
 use Rattle.event_floor.specs.headline.Names.{chunks_of}
 
 -- the region has these bytes at the range of the slot of the class
@@ -23,7 +23,7 @@ RestLies region c = StandsAt c.rest (CHUNK * c.chunk + length c.taken * size_of 
 
 -- The floor holds the bytes of this region, each slot those of its range: each buffer, and each slot that was never
 -- handed out. What is left of a drawn chunk, and the chunks that aren't drawn, are the region's too.
-pub record Holds (v : FloorSeen) (region : List ℕ) : Type 0 where
+pub record Holds (v : FloorState) (region : List ℕ) : Type 0 where
   pub buffers : All (λ (b : Buffer). LieAt region b.slot b.class b.bytes.now) (buffers_of v)
   pub fresh : All (λ (u : Unused). LieAt region u.slot u.class u.bytes) (fresh_of v)
   pub rests : All (RestLies region) (flat_map chunks_of v.desks)
@@ -39,10 +39,10 @@ IsKept olds b = Any (IsSameSlice b) olds ⊎ All (λ (c : Buffer). c.slot ≢ b.
 
 -- No byte is changed: each buffer is one of the old ones, or that of a slot that was never handed out, and the floor
 -- still holds the bytes of whatever region it held.
-pub record KeepsBytes (old new : FloorSeen) : Type 0 where
+pub record KeepsBytes (old new : FloorState) : Type 0 where
   pub buffers : All (IsKept (buffers_of old)) (buffers_of new)
   pub region : (region : List ℕ) → Holds old region → Holds new region
 
 -- Once the floor is ended, its parts, joined in order, are the beginning of whatever region it held.
-abbrev pub EndsAsHeld : FloorSeen → List Ended → Type 0
+abbrev pub EndsAsHeld : FloorState → List Ended → Type 0
 EndsAsHeld v known = (region : List ℕ) → Holds v region → StandsAt (flat_map (end_in known) v.parts) 0 region

@@ -11,9 +11,9 @@ use Rattle.pool_desk.specs.Homes.{AtHome, Unused, kept_in}
 use Rattle.pool_desk.specs.Homes.AtHome.{Kept, Fresh}
 use Rattle.event_floor.specs.declared.any_desk.AnyDesk.{AnyDesk}
 use Rattle.event_floor.specs.Lent.{buffers_lent}
-use Rattle.event_floor.specs.Posted.{buffers_in}
-use Rattle.event_floor.specs.Seats.{home_of, cached_of}
-use Rattle.event_floor.specs.Floors.{FloorSeen}
+use Rattle.event_floor.specs.Inboxes.{buffers_in}
+use Rattle.event_floor.specs.Desks.{home_of, cached_of}
+use Rattle.event_floor.specs.Floors.{FloorState}
 use Rattle.event_floor.specs.headline.Names.{chunks_of}
 
 -- the buffers at home with a desk, and those in its cache
@@ -21,7 +21,7 @@ abbrev pub buffers_with : AnyDesk → List Buffer
 buffers_with s = kept_in (home_of s) ++ cached_of s
 
 -- all buffers of a floor: with its desks, lent, and in batches
-abbrev pub buffers_of : FloorSeen → List Buffer
+abbrev pub buffers_of : FloorState → List Buffer
 buffers_of v = flat_map buffers_with v.desks ++ (buffers_lent v.lent ++ flat_map buffers_in v.inboxes)
 
 -- those of the slots at home that were never handed out, and all such slots of a floor
@@ -30,11 +30,11 @@ fresh_in [] = []
 fresh_in (Kept b ∷ hs) = fresh_in hs
 fresh_in (Fresh u ∷ hs) = u ∷ fresh_in hs
 
-abbrev pub fresh_of : FloorSeen → List Unused
+abbrev pub fresh_of : FloorState → List Unused
 fresh_of v = flat_map (λ s. fresh_in (home_of s)) v.desks
 
 -- the names of the parts that aren't drawn
-abbrev pub undrawn_parts : FloorSeen → List GName
+abbrev pub undrawn_parts : FloorState → List GName
 undrawn_parts v = drop (length v.drawn) v.parts
 
 -- a drawn chunk ends as the slots that were ever handed out of it, in order, and behind them as what was left of it,
@@ -46,7 +46,7 @@ EndsAsDrawn known c = end_in known c.whole ≡ flat_map (end_in known) c.taken +
 -- order, each buffer of the floor stands at the range of its slot of the region, with the bytes that it has now, and so
 -- does each slot that was never handed out: each slot of each drawn chunk. What was left of a drawn chunk ends as it
 -- is, and so does a part that isn't drawn.
-pub record EndsKnown (v : FloorSeen) (known : List Ended) : Type 0 where
+pub record EndsKnown (v : FloorState) (known : List Ended) : Type 0 where
   pub parts : All (IsKnown known) v.parts
   pub whole : All (λ x. length (end_in known x) ≡ CHUNK) v.parts
   pub buffers : (tail : List ℕ) → All (λ (b : Buffer). StandsAt b.bytes.now (start_of b.slot b.class)

@@ -6,8 +6,8 @@ use Rattle.pool_desk.specs.Homes.AtHome.{Kept, Fresh}
 use Rattle.event_floor.specs.declared.any_desk.AnyDesk.{AnyDesk}
 use Rattle.event_floor.specs.declared.any_desk.AnyDesk.TheVariants.{Idle, Held}
 use Rattle.event_floor.specs.Lent.{buffers_lent}
-use Rattle.event_floor.specs.Posted.{BatchSeen}
-use Rattle.event_floor.specs.Floors.{FloorSeen}
+use Rattle.event_floor.specs.Inboxes.{QueuedState}
+use Rattle.event_floor.specs.Floors.{FloorState}
 use Rattle.pool_machine.specs.Listing.{Entry, DeskListing, BatchListing, Listing}
 
 -- a buffer without its bytes
@@ -27,7 +27,7 @@ desk_of (Held d) = record {
   cache = map entry_of d.cached;
 }
 
-abbrev pub batch_of : BatchSeen → BatchListing
+abbrev pub batch_of : QueuedState → BatchListing
 batch_of p = record {
   number = p.number;
   sender = p.sender;
@@ -36,7 +36,7 @@ batch_of p = record {
   buffers = map entry_of p.buffers;
 }
 
-abbrev pub listing_of : FloorSeen → Listing
+abbrev pub listing_of : FloorState → Listing
 listing_of v = record {
   digits = v.digits;
   limit = v.limit;

@@ -13,9 +13,9 @@ use Rattle.pool_machine.specs.declared.chunk.DrawnChunk.{DrawnChunk}
 use Rattle.event_floor.specs.declared.any_desk.AnyDesk.{AnyDesk}
 use Rattle.event_floor.specs.declared.any_desk.AnyDesk.TheVariants.{Idle, Held}
 use Rattle.event_floor.specs.Chunks.{class_drawn}
-use Rattle.event_floor.specs.Posted.{BatchSeen, inbox_at}
-use Rattle.event_floor.specs.Seats.{home_of, cached_of}
-use Rattle.event_floor.specs.Floors.{FloorSeen, desk_at, desk_count}
+use Rattle.event_floor.specs.Inboxes.{QueuedState, inbox_at}
+use Rattle.event_floor.specs.Desks.{home_of, cached_of}
+use Rattle.event_floor.specs.Floors.{FloorState, desk_at, desk_count}
 use Rattle.pool_machine.specs.Slots.{one_if}
 
 -- the buffer of place i of a chunk has the i-th name that was taken of the chunk, the chunk's class, and as many bytes
@@ -74,13 +74,13 @@ pub record IsNamedChunk (parts : List GName) (drawn : List DrawnChunk) (k : ℕ)
 
 -- these are the drawn chunks of the floor in order, each with its part and the names taken of it, and all buffers have
 -- their names
-pub record AreNames (names : List Carved) (v : FloorSeen) : Type 0 where
+pub record AreNames (names : List Carved) (v : FloorState) : Type 0 where
   pub count : length names ≡ length v.drawn
   pub chunks : (k : ℕ) (c : Carved) → slice_get names k ≡ Some c → IsNamedChunk v.parts v.drawn k c
   pub desks : (a : ℕ) → a < desk_count v → IsNamedDesk names v.drawn a (desk_at v a)
   pub lent : (i : ℕ) → IfSome (slice_index_or v.lent i None) (HasName names)
-  pub posted : (b : ℕ) → All (λ (p : BatchSeen). All (HasName names) p.buffers) (inbox_at v.inboxes b)
+  pub queued : (b : ℕ) → All (λ (p : QueuedState). All (HasName names) p.buffers) (inbox_at v.inboxes b)
 
 -- no two buffers have one name of a chunk: each has that of its place
-unfoldable pub IsNamed : FloorSeen → Type 0
+unfoldable pub IsNamed : FloorState → Type 0
 IsNamed v = (names : List Carved) × AreNames names v

@@ -3,16 +3,16 @@ use Rattle.std.specs.Prelude.{ℕ, ◌≡◌, ◌≤◌, length, count_by, is_so
 use Rattle.region_cut.specs.Limits.{chunk_limit}
 use Rattle.region_cut.specs.declared.slot.Slot.{Slot}
 use Rattle.slot_chain.specs.Counts.{capped}
-use Rattle.event_floor.specs.Floors.{FloorSeen, desk_at}
-use Rattle.event_floor.specs.Posted.{buffers_in, inbox_at}
-use Rattle.event_floor.specs.Seats.{home_of, cached_of}
+use Rattle.event_floor.specs.Floors.{FloorState, desk_at}
+use Rattle.event_floor.specs.Inboxes.{buffers_in, inbox_at}
+use Rattle.event_floor.specs.Desks.{home_of, cached_of}
 use Rattle.pool_machine.specs.State.{State}
 use Rattle.pool_machine.specs.Listing.{Shown}
-use Rattle.pool_machine.specs.Told.{home_slots, cached_slots, queued_slots, lent_slots, drawn_count}
+use Rattle.pool_machine.specs.SlotLists.{home_slots, cached_slots, queued_slots, lent_slots, drawn_count}
 use Rattle.event_floor.specs.headline.Listing.{listing_of}
 
 -- the answers of `Floor::counts`, `lent_count` and `drawn_count` are the state's
-pub record TellsCounts (v : FloorSeen) (st : State) : Type 0 where
+pub record TellsCounts (v : FloorState) (st : State) : Type 0 where
   pub home : (a : ℕ) → capped (length (home_of (desk_at v a))) ≡ length (home_slots st a)
   pub cached : (a : ℕ) → capped (length (cached_of (desk_at v a))) ≡ length (cached_slots st a)
   pub queued : (a : ℕ) → capped (length (buffers_in (inbox_at v.inboxes a))) ≡ length (queued_slots st a)
@@ -21,5 +21,5 @@ pub record TellsCounts (v : FloorSeen) (st : State) : Type 0 where
 
 -- so it is of each state that a floor shows
 abbrev pub FloorsTellCounts : Type 0
-FloorsTellCounts = (v : FloorSeen) (st : State) (count : Slot → ℕ) → v.chunks ≤ chunk_limit
+FloorsTellCounts = (v : FloorState) (st : State) (count : Slot → ℕ) → v.chunks ≤ chunk_limit
     → Shown (listing_of v) st count → TellsCounts v st

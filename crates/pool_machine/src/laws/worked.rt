@@ -2,9 +2,14 @@
 //!
 //! Each is a theorem of the definitions alone, computed by the checker. The answers were worked out by hand.
 ghost use Rattle.std.specs.Prelude.{List, [], ◌∷◌, Ok, Err};
-ghost use Rattle.pool_machine.specs.declared.request.Request.TheVariants.{Adopt, Retire, Claim, Alloc, Free, Send, Link, Take};
-ghost use Rattle.pool_machine.specs.declared.reply.Reply.TheVariants.{Done, Chunk, Slot as Lent, Home, Cached, Due, Batch, Counts};
-ghost use Rattle.pool_machine.specs.declared.refusal.Refusal.TheVariants.{NoDesk, Idle, TooLarge, NeedChunk, NotNeeded, NoChunk, NotLent, NothingFor, NotAnOwner, ToSelf, NoBatch, Nothing, Unsettled, Held, BadClass};
+ghost use Rattle.pool_machine.specs.declared.request.Request.TheVariants.{Adopt, Retire, Claim, Alloc, Free, Send};
+ghost use Rattle.pool_machine.specs.declared.request.Request.TheVariants.{Link, Take};
+ghost use Rattle.pool_machine.specs.declared.reply.Reply.TheVariants.{Done, Chunk, Slot as Lent, Home, Cached, Due};
+ghost use Rattle.pool_machine.specs.declared.reply.Reply.TheVariants.{Batch, Counts};
+ghost use Rattle.pool_machine.specs.declared.refusal.Refusal.TheVariants.{NoDesk, Idle, TooLarge, NeedChunk, NotNeeded};
+ghost use Rattle.pool_machine.specs.declared.refusal.Refusal.TheVariants.{NoChunk, NotLent, NothingFor, NotAnOwner};
+ghost use Rattle.pool_machine.specs.declared.refusal.Refusal.TheVariants.{ToSelf, NoBatch, Nothing, Unsettled, Held};
+ghost use Rattle.pool_machine.specs.declared.refusal.Refusal.TheVariants.{BadClass};
 ghost use Rattle.pool_machine.specs.Refusals.{slot_at};
 ghost use Rattle.pool_machine.specs.Worked.{pool, pool2, Allows, Forbids};
 
@@ -22,7 +27,8 @@ pub fn lending()
 pub fn classes()
     ensures answers { Allows (pool 1 2 2) (
         (Adopt 0 0, Ok Done) ∷ (Alloc 0 0, Err NeedChunk) ∷ (Claim 0 0, Ok (Chunk 0)) ∷ (Claim 0 15, Ok (Chunk 1)) ∷
-        (Alloc 0 0, Ok (Lent (slot_at (0, 0)))) ∷ (Alloc 0 512, Ok (Lent (slot_at (1, 0)))) ∷ (Alloc 0 513, Err TooLarge) ∷ []) }
+        (Alloc 0 0, Ok (Lent (slot_at (0, 0)))) ∷ (Alloc 0 512, Ok (Lent (slot_at (1, 0)))) ∷
+        (Alloc 0 513, Err TooLarge) ∷ []) }
     ensures never { Forbids (pool 1 2 2) (
         (Adopt 0 0, Ok Done) ∷ (Alloc 0 0, Err NeedChunk) ∷ (Claim 0 0, Ok (Chunk 0)) ∷ (Claim 0 15, Ok (Chunk 1)) ∷
         (Alloc 0 0, Ok (Lent (slot_at (1, 0)))) ∷ []) }
@@ -78,14 +84,15 @@ pub fn one_digit()
 pub fn two_digits()
     ensures answers { Allows (pool 64 8 4) (
         (Adopt 0 0, Ok Done) ∷ (Adopt 17 1, Ok Done) ∷ (Adopt 33 2, Ok Done) ∷ (Claim 17 0, Ok (Chunk 0)) ∷
-        (Claim 33 0, Ok (Chunk 1)) ∷ (Alloc 17 1, Ok (Lent (slot_at (0, 0)))) ∷ (Alloc 33 1, Ok (Lent (slot_at (1, 0)))) ∷
-        (Free 0 (0, 0), Ok Cached) ∷ (Free 0 (1, 0), Ok Cached) ∷ (Send 0 17, Ok (Batch 1 2)) ∷ (Link 1, Ok Done) ∷
-        (Take 17, Ok (Counts 1 1)) ∷ (Send 17 33, Ok (Batch 2 1)) ∷ (Link 2, Ok Done) ∷ (Take 33, Ok (Counts 1 0)) ∷ []) }
+        (Claim 33 0, Ok (Chunk 1)) ∷ (Alloc 17 1, Ok (Lent (slot_at (0, 0)))) ∷
+        (Alloc 33 1, Ok (Lent (slot_at (1, 0)))) ∷ (Free 0 (0, 0), Ok Cached) ∷ (Free 0 (1, 0), Ok Cached) ∷
+        (Send 0 17, Ok (Batch 1 2)) ∷ (Link 1, Ok Done) ∷ (Take 17, Ok (Counts 1 1)) ∷ (Send 17 33, Ok (Batch 2 1)) ∷
+        (Link 2, Ok Done) ∷ (Take 33, Ok (Counts 1 0)) ∷ []) }
     ensures never { Forbids (pool 64 8 4) (
         (Adopt 0 0, Ok Done) ∷ (Adopt 17 1, Ok Done) ∷ (Adopt 33 2, Ok Done) ∷ (Claim 17 0, Ok (Chunk 0)) ∷
-        (Claim 33 0, Ok (Chunk 1)) ∷ (Alloc 17 1, Ok (Lent (slot_at (0, 0)))) ∷ (Alloc 33 1, Ok (Lent (slot_at (1, 0)))) ∷
-        (Free 0 (0, 0), Ok Cached) ∷ (Free 0 (1, 0), Ok Cached) ∷ (Send 0 17, Ok (Batch 1 2)) ∷ (Link 1, Ok Done) ∷
-        (Take 17, Ok (Counts 2 0)) ∷ []) }
+        (Claim 33 0, Ok (Chunk 1)) ∷ (Alloc 17 1, Ok (Lent (slot_at (0, 0)))) ∷
+        (Alloc 33 1, Ok (Lent (slot_at (1, 0)))) ∷ (Free 0 (0, 0), Ok Cached) ∷ (Free 0 (1, 0), Ok Cached) ∷
+        (Send 0 17, Ok (Batch 1 2)) ∷ (Link 1, Ok Done) ∷ (Take 17, Ok (Counts 2 0)) ∷ []) }
 {}
 
 /// What stands against a send.
@@ -103,72 +110,81 @@ pub fn sends()
 pub fn links()
     ensures answers { Allows (pool 3 1 2) (
         (Adopt 0 0, Ok Done) ∷ (Adopt 1 1, Ok Done) ∷ (Adopt 2 2, Ok Done) ∷ (Claim 2 15, Ok (Chunk 0)) ∷
-        (Alloc 2 512, Ok (Lent (slot_at (0, 0)))) ∷ (Alloc 2 512, Ok (Lent (slot_at (0, 1)))) ∷ (Free 0 (0, 0), Ok Cached) ∷
-        (Free 1 (0, 1), Ok Cached) ∷ (Send 0 2, Ok (Batch 1 1)) ∷ (Send 1 2, Ok (Batch 2 1)) ∷ (Link 2, Ok Done) ∷
-        (Take 2, Err Nothing) ∷ (Link 1, Ok Done) ∷ (Link 1, Err NoBatch) ∷ (Link 9, Err NoBatch) ∷ (Take 2, Ok (Counts 1 0)) ∷
-        (Take 2, Ok (Counts 1 0)) ∷ (Take 2, Err Nothing) ∷ (Alloc 2 512, Ok (Lent (slot_at (0, 1)))) ∷ []) }
+        (Alloc 2 512, Ok (Lent (slot_at (0, 0)))) ∷ (Alloc 2 512, Ok (Lent (slot_at (0, 1)))) ∷
+        (Free 0 (0, 0), Ok Cached) ∷ (Free 1 (0, 1), Ok Cached) ∷ (Send 0 2, Ok (Batch 1 1)) ∷
+        (Send 1 2, Ok (Batch 2 1)) ∷ (Link 2, Ok Done) ∷ (Take 2, Err Nothing) ∷ (Link 1, Ok Done) ∷
+        (Link 1, Err NoBatch) ∷ (Link 9, Err NoBatch) ∷ (Take 2, Ok (Counts 1 0)) ∷ (Take 2, Ok (Counts 1 0)) ∷
+        (Take 2, Err Nothing) ∷ (Alloc 2 512, Ok (Lent (slot_at (0, 1)))) ∷ []) }
     ensures never { Forbids (pool 3 1 2) (
         (Adopt 0 0, Ok Done) ∷ (Adopt 1 1, Ok Done) ∷ (Adopt 2 2, Ok Done) ∷ (Claim 2 15, Ok (Chunk 0)) ∷
-        (Alloc 2 512, Ok (Lent (slot_at (0, 0)))) ∷ (Alloc 2 512, Ok (Lent (slot_at (0, 1)))) ∷ (Free 0 (0, 0), Ok Cached) ∷
-        (Free 1 (0, 1), Ok Cached) ∷ (Send 0 2, Ok (Batch 1 1)) ∷ (Send 1 2, Ok (Batch 2 1)) ∷ (Link 2, Ok Done) ∷
-        (Take 2, Ok (Counts 1 0)) ∷ []) }
+        (Alloc 2 512, Ok (Lent (slot_at (0, 0)))) ∷ (Alloc 2 512, Ok (Lent (slot_at (0, 1)))) ∷
+        (Free 0 (0, 0), Ok Cached) ∷ (Free 1 (0, 1), Ok Cached) ∷ (Send 0 2, Ok (Batch 1 1)) ∷
+        (Send 1 2, Ok (Batch 2 1)) ∷ (Link 2, Ok Done) ∷ (Take 2, Ok (Counts 1 0)) ∷ []) }
 {}
 
 /// A desk is not retired while its cache has a slot or a batch of it has to be linked.
 pub fn retiring()
     ensures answers { Allows (pool 2 1 2) (
-        (Adopt 0 0, Ok Done) ∷ (Adopt 1 7, Ok Done) ∷ (Claim 1 15, Ok (Chunk 0)) ∷ (Alloc 1 512, Ok (Lent (slot_at (0, 0)))) ∷
-        (Free 0 (0, 0), Ok Cached) ∷ (Retire 0, Err Unsettled) ∷ (Send 0 1, Ok (Batch 1 1)) ∷ (Retire 0, Err Unsettled) ∷
-        (Link 1, Ok Done) ∷ (Retire 0, Ok Done) ∷ (Retire 1, Ok Done) ∷ (Take 1, Err Idle) ∷ (Adopt 1 8, Ok Done) ∷
-        (Take 1, Ok (Counts 1 0)) ∷ (Alloc 1 512, Ok (Lent (slot_at (0, 0)))) ∷ (Adopt 1 9, Err Held) ∷ (Retire 0, Err Idle) ∷ []) }
+        (Adopt 0 0, Ok Done) ∷ (Adopt 1 7, Ok Done) ∷ (Claim 1 15, Ok (Chunk 0)) ∷
+        (Alloc 1 512, Ok (Lent (slot_at (0, 0)))) ∷ (Free 0 (0, 0), Ok Cached) ∷ (Retire 0, Err Unsettled) ∷
+        (Send 0 1, Ok (Batch 1 1)) ∷ (Retire 0, Err Unsettled) ∷ (Link 1, Ok Done) ∷ (Retire 0, Ok Done) ∷
+        (Retire 1, Ok Done) ∷ (Take 1, Err Idle) ∷ (Adopt 1 8, Ok Done) ∷ (Take 1, Ok (Counts 1 0)) ∷
+        (Alloc 1 512, Ok (Lent (slot_at (0, 0)))) ∷ (Adopt 1 9, Err Held) ∷ (Retire 0, Err Idle) ∷ []) }
     ensures never { Forbids (pool 2 1 2) (
-        (Adopt 0 0, Ok Done) ∷ (Adopt 1 7, Ok Done) ∷ (Claim 1 15, Ok (Chunk 0)) ∷ (Alloc 1 512, Ok (Lent (slot_at (0, 0)))) ∷
-        (Free 0 (0, 0), Ok Cached) ∷ (Retire 0, Err Unsettled) ∷ (Send 0 1, Ok (Batch 1 1)) ∷ (Retire 0, Ok Done) ∷ []) }
+        (Adopt 0 0, Ok Done) ∷ (Adopt 1 7, Ok Done) ∷ (Claim 1 15, Ok (Chunk 0)) ∷
+        (Alloc 1 512, Ok (Lent (slot_at (0, 0)))) ∷ (Free 0 (0, 0), Ok Cached) ∷ (Retire 0, Err Unsettled) ∷
+        (Send 0 1, Ok (Batch 1 1)) ∷ (Retire 0, Ok Done) ∷ []) }
 {}
 
 /// Only a lent slot is freed.
 pub fn frees()
     ensures answers { Allows (pool 2 1 2) (
-        (Adopt 0 0, Ok Done) ∷ (Adopt 1 1, Ok Done) ∷ (Claim 1 15, Ok (Chunk 0)) ∷ (Alloc 1 512, Ok (Lent (slot_at (0, 0)))) ∷
-        (Free 1 (0, 1), Err NotLent) ∷ (Free 0 (0, 0), Ok Cached) ∷ (Free 0 (0, 0), Err NotLent) ∷
-        (Free 1 (0, 0), Err NotLent) ∷ (Send 0 1, Ok (Batch 1 1)) ∷ (Free 1 (0, 0), Err NotLent) ∷
-        (Free 1 (0, 8), Err NotLent) ∷ (Free 1 (3, 0), Err NotLent) ∷ []) }
+        (Adopt 0 0, Ok Done) ∷ (Adopt 1 1, Ok Done) ∷ (Claim 1 15, Ok (Chunk 0)) ∷
+        (Alloc 1 512, Ok (Lent (slot_at (0, 0)))) ∷ (Free 1 (0, 1), Err NotLent) ∷ (Free 0 (0, 0), Ok Cached) ∷
+        (Free 0 (0, 0), Err NotLent) ∷ (Free 1 (0, 0), Err NotLent) ∷ (Send 0 1, Ok (Batch 1 1)) ∷
+        (Free 1 (0, 0), Err NotLent) ∷ (Free 1 (0, 8), Err NotLent) ∷ (Free 1 (3, 0), Err NotLent) ∷ []) }
     ensures never { Forbids (pool 2 1 2) (
-        (Adopt 0 0, Ok Done) ∷ (Adopt 1 1, Ok Done) ∷ (Claim 1 15, Ok (Chunk 0)) ∷ (Alloc 1 512, Ok (Lent (slot_at (0, 0)))) ∷
-        (Free 1 (0, 1), Err NotLent) ∷ (Free 0 (0, 0), Ok Cached) ∷ (Free 0 (0, 0), Ok Home) ∷ []) }
+        (Adopt 0 0, Ok Done) ∷ (Adopt 1 1, Ok Done) ∷ (Claim 1 15, Ok (Chunk 0)) ∷
+        (Alloc 1 512, Ok (Lent (slot_at (0, 0)))) ∷ (Free 1 (0, 1), Err NotLent) ∷ (Free 0 (0, 0), Ok Cached) ∷
+        (Free 0 (0, 0), Ok Home) ∷ []) }
 {}
 
 /// An inbox waits while its desk is idle, and its adopter takes what is there.
 pub fn adopting()
     ensures answers { Allows (pool 2 1 2) (
-        (Adopt 0 0, Ok Done) ∷ (Adopt 1 1, Ok Done) ∷ (Claim 1 15, Ok (Chunk 0)) ∷ (Alloc 1 512, Ok (Lent (slot_at (0, 0)))) ∷
-        (Free 0 (0, 0), Ok Cached) ∷ (Send 0 1, Ok (Batch 1 1)) ∷ (Retire 1, Ok Done) ∷ (Link 1, Ok Done) ∷
-        (Retire 0, Ok Done) ∷ (Adopt 1 2, Ok Done) ∷ (Take 1, Ok (Counts 1 0)) ∷ []) }
+        (Adopt 0 0, Ok Done) ∷ (Adopt 1 1, Ok Done) ∷ (Claim 1 15, Ok (Chunk 0)) ∷
+        (Alloc 1 512, Ok (Lent (slot_at (0, 0)))) ∷ (Free 0 (0, 0), Ok Cached) ∷ (Send 0 1, Ok (Batch 1 1)) ∷
+        (Retire 1, Ok Done) ∷ (Link 1, Ok Done) ∷ (Retire 0, Ok Done) ∷ (Adopt 1 2, Ok Done) ∷
+        (Take 1, Ok (Counts 1 0)) ∷ []) }
     ensures never { Forbids (pool 2 1 2) (
-        (Adopt 0 0, Ok Done) ∷ (Adopt 1 1, Ok Done) ∷ (Claim 1 15, Ok (Chunk 0)) ∷ (Alloc 1 512, Ok (Lent (slot_at (0, 0)))) ∷
-        (Free 0 (0, 0), Ok Cached) ∷ (Send 0 1, Ok (Batch 1 1)) ∷ (Retire 1, Ok Done) ∷ (Link 1, Ok Done) ∷
-        (Retire 0, Ok Done) ∷ (Adopt 1 2, Ok Done) ∷ (Take 1, Err Nothing) ∷ []) }
+        (Adopt 0 0, Ok Done) ∷ (Adopt 1 1, Ok Done) ∷ (Claim 1 15, Ok (Chunk 0)) ∷
+        (Alloc 1 512, Ok (Lent (slot_at (0, 0)))) ∷ (Free 0 (0, 0), Ok Cached) ∷ (Send 0 1, Ok (Batch 1 1)) ∷
+        (Retire 1, Ok Done) ∷ (Link 1, Ok Done) ∷ (Retire 0, Ok Done) ∷ (Adopt 1 2, Ok Done) ∷ (Take 1, Err Nothing) ∷
+        []) }
 {}
 
 /// Eight slots of 512 bytes fill a cache of 4,096 bytes, and the ninth makes it due.
 pub fn a_due_cache()
     ensures answers { Allows (pool 2 2 2) (
-        (Adopt 0 0, Ok Done) ∷ (Adopt 1 1, Ok Done) ∷ (Claim 1 15, Ok (Chunk 0)) ∷ (Alloc 1 512, Ok (Lent (slot_at (0, 0)))) ∷
-        (Alloc 1 512, Ok (Lent (slot_at (0, 1)))) ∷ (Alloc 1 512, Ok (Lent (slot_at (0, 2)))) ∷
-        (Alloc 1 512, Ok (Lent (slot_at (0, 3)))) ∷ (Alloc 1 512, Ok (Lent (slot_at (0, 4)))) ∷
-        (Alloc 1 512, Ok (Lent (slot_at (0, 5)))) ∷ (Alloc 1 512, Ok (Lent (slot_at (0, 6)))) ∷
-        (Alloc 1 512, Ok (Lent (slot_at (0, 7)))) ∷ (Claim 1 15, Ok (Chunk 1)) ∷ (Alloc 1 512, Ok (Lent (slot_at (1, 0)))) ∷
-        (Free 0 (0, 0), Ok Cached) ∷ (Free 0 (0, 1), Ok Cached) ∷ (Free 0 (0, 2), Ok Cached) ∷ (Free 0 (0, 3), Ok Cached) ∷
-        (Free 0 (0, 4), Ok Cached) ∷ (Free 0 (0, 5), Ok Cached) ∷ (Free 0 (0, 6), Ok Cached) ∷ (Free 0 (0, 7), Ok Cached) ∷
-        (Free 0 (1, 0), Ok Due) ∷ []) }
+        (Adopt 0 0, Ok Done) ∷ (Adopt 1 1, Ok Done) ∷ (Claim 1 15, Ok (Chunk 0)) ∷
+        (Alloc 1 512, Ok (Lent (slot_at (0, 0)))) ∷ (Alloc 1 512, Ok (Lent (slot_at (0, 1)))) ∷
+        (Alloc 1 512, Ok (Lent (slot_at (0, 2)))) ∷ (Alloc 1 512, Ok (Lent (slot_at (0, 3)))) ∷
+        (Alloc 1 512, Ok (Lent (slot_at (0, 4)))) ∷ (Alloc 1 512, Ok (Lent (slot_at (0, 5)))) ∷
+        (Alloc 1 512, Ok (Lent (slot_at (0, 6)))) ∷ (Alloc 1 512, Ok (Lent (slot_at (0, 7)))) ∷
+        (Claim 1 15, Ok (Chunk 1)) ∷ (Alloc 1 512, Ok (Lent (slot_at (1, 0)))) ∷ (Free 0 (0, 0), Ok Cached) ∷
+        (Free 0 (0, 1), Ok Cached) ∷ (Free 0 (0, 2), Ok Cached) ∷ (Free 0 (0, 3), Ok Cached) ∷
+        (Free 0 (0, 4), Ok Cached) ∷ (Free 0 (0, 5), Ok Cached) ∷ (Free 0 (0, 6), Ok Cached) ∷
+        (Free 0 (0, 7), Ok Cached) ∷ (Free 0 (1, 0), Ok Due) ∷ []) }
     ensures never { Forbids (pool 2 2 2) (
-        (Adopt 0 0, Ok Done) ∷ (Adopt 1 1, Ok Done) ∷ (Claim 1 15, Ok (Chunk 0)) ∷ (Alloc 1 512, Ok (Lent (slot_at (0, 0)))) ∷
-        (Alloc 1 512, Ok (Lent (slot_at (0, 1)))) ∷ (Alloc 1 512, Ok (Lent (slot_at (0, 2)))) ∷
-        (Alloc 1 512, Ok (Lent (slot_at (0, 3)))) ∷ (Alloc 1 512, Ok (Lent (slot_at (0, 4)))) ∷
-        (Alloc 1 512, Ok (Lent (slot_at (0, 5)))) ∷ (Alloc 1 512, Ok (Lent (slot_at (0, 6)))) ∷
-        (Alloc 1 512, Ok (Lent (slot_at (0, 7)))) ∷ (Claim 1 15, Ok (Chunk 1)) ∷ (Alloc 1 512, Ok (Lent (slot_at (1, 0)))) ∷
-        (Free 0 (0, 0), Ok Cached) ∷ (Free 0 (0, 1), Ok Cached) ∷ (Free 0 (0, 2), Ok Cached) ∷ (Free 0 (0, 3), Ok Cached) ∷
-        (Free 0 (0, 4), Ok Cached) ∷ (Free 0 (0, 5), Ok Cached) ∷ (Free 0 (0, 6), Ok Cached) ∷ (Free 0 (0, 7), Ok Due) ∷ []) }
+        (Adopt 0 0, Ok Done) ∷ (Adopt 1 1, Ok Done) ∷ (Claim 1 15, Ok (Chunk 0)) ∷
+        (Alloc 1 512, Ok (Lent (slot_at (0, 0)))) ∷ (Alloc 1 512, Ok (Lent (slot_at (0, 1)))) ∷
+        (Alloc 1 512, Ok (Lent (slot_at (0, 2)))) ∷ (Alloc 1 512, Ok (Lent (slot_at (0, 3)))) ∷
+        (Alloc 1 512, Ok (Lent (slot_at (0, 4)))) ∷ (Alloc 1 512, Ok (Lent (slot_at (0, 5)))) ∷
+        (Alloc 1 512, Ok (Lent (slot_at (0, 6)))) ∷ (Alloc 1 512, Ok (Lent (slot_at (0, 7)))) ∷
+        (Claim 1 15, Ok (Chunk 1)) ∷ (Alloc 1 512, Ok (Lent (slot_at (1, 0)))) ∷ (Free 0 (0, 0), Ok Cached) ∷
+        (Free 0 (0, 1), Ok Cached) ∷ (Free 0 (0, 2), Ok Cached) ∷ (Free 0 (0, 3), Ok Cached) ∷
+        (Free 0 (0, 4), Ok Cached) ∷ (Free 0 (0, 5), Ok Cached) ∷ (Free 0 (0, 6), Ok Cached) ∷
+        (Free 0 (0, 7), Ok Due) ∷ []) }
 {}
 
 /// Numbers of 12 bits in two digits: 65 and 129 share the first.

@@ -1,7 +1,7 @@
 //! The audit of a floor.
 ghost use Rattle.std.specs.Prelude.{◌<◌, IfOk, IfErr, IsPermutation};
 ghost use Rattle.event_floor.specs.Floors.{desk_count};
-ghost use Rattle.event_floor.specs.headline.Slots.{slots_on, slots_with};
+ghost use Rattle.event_floor.specs.headline.ListsSlots.{slots_on, slots_with};
 ghost use Rattle.trace_audit.specs.FloorSlots.{HasEachOnce, IsFaultOn, TellsDrawn};
 
 use super::{Drawn, Fault, audit};

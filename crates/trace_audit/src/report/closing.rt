@@ -12,13 +12,13 @@ use event_floor::Floor;
 
 /// How many slots are at home, in a cache and in an inbox.
 #[derive(Clone, Copy, Debug, Default, PartialEq, Eq, Drop)]
-pub(crate) struct Counts {
+pub(crate) struct DeskCounts {
     pub home: u64,
     pub cached: u64,
     pub queued: u64,
 }
 
-impl Counts {
+impl DeskCounts {
     ghost use Rattle.trace_audit.specs.Report.{are_zero, plus};
 
     /// Whether each of the three is 0.
@@ -29,10 +29,10 @@ impl Counts {
     }
 
     /// Each of the three, added. A sum stops at the greatest u64.
-    fn plus(self, other: Counts) -> Counts
+    fn plus(self, other: DeskCounts) -> DeskCounts
         ensures { result ≡ plus self other }
     {
-        Counts {
+        DeskCounts {
             home: self.home.saturating_add(other.home),
             cached: self.cached.saturating_add(other.cached),
             queued: self.queued.saturating_add(other.queued),
@@ -41,12 +41,12 @@ impl Counts {
 }
 
 /// What one desk has.
-fn counts_of(floor: &Floor<'_>, desk: u32) -> Counts
+fn counts_of(floor: &Floor<'_>, desk: u32) -> DeskCounts
     requires { desk < desk_count floor.now }
     ensures { result ≡ counts_at floor.now desk }
 {
     let (home, cached, queued) = floor.counts(desk);
-    Counts {
+    DeskCounts {
         home,
         cached,
         queued,
@@ -54,11 +54,11 @@ fn counts_of(floor: &Floor<'_>, desk: u32) -> Counts
 }
 
 /// The sum over all desks.
-fn total(floor: &Floor<'_>) -> Counts
+fn total(floor: &Floor<'_>) -> DeskCounts
     ensures { result ≡ total (told floor.now).desks }
 {
     let desks = floor.desk_count();
-    let mut sum = Counts::default();
+    let mut sum = DeskCounts::default();
     for desk in 0..desks {
         sum = sum.plus(counts_of(floor, desk));
     }
@@ -66,7 +66,7 @@ fn total(floor: &Floor<'_>) -> Counts
 }
 
 /// The line of a desk; nothing where each of its counts is 0.
-fn line_of_desk(desk: u32, counts: Counts) -> Line
+fn line_of_desk(desk: u32, counts: DeskCounts) -> Line
     ensures { result.items ≡ desk_line desk counts }
 {
     let mut line = Line::new();
@@ -92,7 +92,7 @@ fn line_of_end(floor: &Floor<'_>) -> Line
 }
 
 /// Adds the three counts, with their names, and ends the line.
-fn push_counts(line: &mut Line, counts: Counts)
+fn push_counts(line: &mut Line, counts: DeskCounts)
     requires { array_vec_len line.old ≤ 60 }
     ensures { line.new.items ≡ line.old.items ++ counts_text counts }
 {

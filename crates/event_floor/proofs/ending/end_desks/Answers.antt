@@ -1,5 +1,5 @@
 use Rattle.std.proofs.Common.{◌++◌, flat_map, sym, ap, ◌∙◌}
-use Rattle.event_floor.specs.headline.Known.{buffers_with}
+use Rattle.event_floor.specs.headline.EndsKnown.{buffers_with}
 use Rattle.event_floor.specs.headline.Names.{chunks_of}
 use Rattle.event_floor.proofs.EndLaws.{last_joined, last_ends_somehow}
 use Rattle.event_floor.proofs.ending.end_desks.Goals as goal

@@ -1,6 +1,6 @@
 use Rattle.std.proofs.Common.{◌≡◌, ◌++◌, length, map, flat_map, IsPermutation}
 use Rattle.slot_chain.specs.Buffer.{ended_of}
-use Rattle.event_floor.specs.headline.Known.{buffers_with}
+use Rattle.event_floor.specs.headline.EndsKnown.{buffers_with}
 use Rattle.event_floor.specs.headline.Names.{chunks_of}
 use Rattle.event_floor.proofs.ending.end_desks.Given as goal
 

@@ -1,5 +1,5 @@
 use Rattle.std.proofs.Common.{◌≡◌, length}
-use Rattle.event_floor.specs.Posted.{buffers_in}
+use Rattle.event_floor.specs.Inboxes.{buffers_in}
 use Rattle.event_floor.proofs.EndLaws.{let_go}
 use Rattle.event_floor.proofs.inboxes.end_inboxes.Given as goal
 

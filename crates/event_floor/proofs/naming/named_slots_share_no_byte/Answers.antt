@@ -5,13 +5,13 @@ use Rattle.region_cut.specs.Carved.{Carved}
 use Rattle.region_cut.specs.Classes.{slots_of}
 use Rattle.pool_desk.specs.Homes.{AtHome, slot_at, class_at}
 use Rattle.pool_desk.specs.Homes.AtHome.{Kept, Fresh}
-use Rattle.event_floor.specs.Floors.{FloorSeen}
+use Rattle.event_floor.specs.Floors.{FloorState}
 use Rattle.event_floor.specs.headline.Names.{IsNamedHome, AreNames}
 use Rattle.event_floor.proofs.headline.Taken.{some_is}
 use Rattle.event_floor.proofs.naming.named_slots_share_no_byte.Goals as goal
 
 -- its index is one of its chunk's
-low : (v : FloorSeen) (names : List Carved) → AreNames names v → (x : AtHome) → IsNamedHome names x → (slot_at x).index < slots_of (class_at x)
+low : (v : FloorState) (names : List Carved) → AreNames names v → (x : AtHome) → IsNamedHome names x → (slot_at x).index < slots_of (class_at x)
 low v names are (Kept b) h =
     let within = slice_get_within h.chunk.taken b.slot.index b.bytes.ghost_name h.name in
     let few : length h.chunk.taken ≤ slots_of b.class = subst (λ c. length h.chunk.taken ≤ slots_of c) h.class (are.chunks b.slot.chunk h.chunk h.is_chunk).few in

@@ -1,7 +1,7 @@
 use Rattle.std.proofs.Common.{◌≡◌, ◌+◌, ◌∷◌, ◌++◌, [], length, map, reverse, sym, ap, ◌∙◌, subst, arith}
 use Rattle.std.proofs.lemmas.List.{length_push}
 use Rattle.region_cut.specs.Parts.{bytes_of}
-use Rattle.event_floor.specs.Chunks.{ChunksSeen, AreUndrawn}
+use Rattle.event_floor.specs.Chunks.{ChunksState, AreUndrawn}
 use Rattle.event_floor.proofs.ChunkLaws.{drawn_next, drawn_number, drawn_name, drawn_below, last_bytes}
 use Rattle.event_floor.proofs.chunks.Chunks.draw.Goals as goal
 
@@ -30,5 +30,5 @@ returns c =
       drawn_name (length before) names rest p h,
       drawn_below (length before) names rest p h,
       ap (λ xs. reverse (map bytes_of xs)) c.in_ok-part.ensures.items ∙ last_bytes rest p,
-      ap (λ xs. let r : ChunksSeen = record { parts = names; drawn = xs; undrawn = reverse (map bytes_of rest) } in r) c.push_reserved.ensures.items,
+      ap (λ xs. let r : ChunksState = record { parts = names; drawn = xs; undrawn = reverse (map bytes_of rest) } in r) c.push_reserved.ensures.items,
     )

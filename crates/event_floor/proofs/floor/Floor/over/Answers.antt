@@ -1,6 +1,6 @@
 use Rattle.std.proofs.Common.{◌≡◌, ◌≤◌, ◌++◌, length, flat_map, sym, subst}
 use Rattle.region_cut.specs.Parts.{bytes_of}
-use Rattle.event_floor.specs.Floors.{FloorSeen, IsFloor, opening}
+use Rattle.event_floor.specs.Floors.{FloorState, IsFloor, opening}
 use Rattle.event_floor.specs.headline.Bytes.{Holds}
 use Rattle.event_floor.specs.headline.Headline.{Shows}
 use Rattle.event_floor.specs.headline.Listing.{listing_of}
@@ -20,9 +20,9 @@ invariant_of-result c =
     let parts = c.args.parts.items in
     let e : c.in_ok-lists.lists ≡ opening c.args.desks parts c.args.digits c.args.limit = c.in_ok-lists.ensures.opening in
     let few : length parts ≤ 1024 = numbered_few parts c.requires.parts in
-    subst (λ (v : FloorSeen). IsWhole v × Shows v × IsNamed v) (sym e) (
+    subst (λ (v : FloorState). IsWhole v × Shows v × IsNamed v) (sym e) (
       opening_whole c.args.desks parts c.args.digits c.args.limit few
-          (subst (λ (v : FloorSeen). IsFloor v.digits v.limit v.chunks v.desks v.lent v.inboxes v.next) e c.keeps.ensures),
+          (subst (λ (v : FloorState). IsFloor v.digits v.limit v.chunks v.desks v.lent v.inboxes v.next) e c.keeps.ensures),
       opening_shows c.args.desks parts c.args.digits c.args.limit c.profile-profile.ensures.scheme c.requires.few,
       opening_named c.args.desks parts c.args.digits c.args.limit,
     )

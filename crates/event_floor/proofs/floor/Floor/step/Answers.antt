@@ -1,5 +1,5 @@
 use Rattle.std.proofs.Common.{◌≡◌, subst}
-use Rattle.event_floor.specs.Floors.{FloorSeen}
+use Rattle.event_floor.specs.Floors.{FloorState}
 use Rattle.event_floor.specs.Steps.{Answers}
 use Rattle.event_floor.specs.headline.Headline.{Applies}
 use Rattle.event_floor.proofs.StepLaws.{answers_of}
@@ -37,7 +37,7 @@ returns-clause-parts c =
     let y = c.apply-answer.result in
     let e = c.apply-answer.ensures in
     let m = answers_of v w c.args.request y e.does e.refuses e.unchanged in
-    subst (λ (u : FloorSeen). w.parts ≡ u.parts) c.self.view_is (stays_over v w c.args.request y c.self.invariant.0 m)
+    subst (λ (u : FloorState). w.parts ≡ u.parts) c.self.view_is (stays_over v w c.args.request y c.self.invariant.0 m)
 
 pub returns-clause-answers : goal.returns-clause-answers
 returns-clause-answers c =

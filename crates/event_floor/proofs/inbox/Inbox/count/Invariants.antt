@@ -1,5 +1,5 @@
 use Rattle.std.proofs.Common.{◌≡◌, ◌-◌, ◌^◌, min, take, length}
-use Rattle.event_floor.specs.Posted.{buffers_in}
+use Rattle.event_floor.specs.Inboxes.{buffers_in}
 use Rattle.event_floor.proofs.inbox.Inbox.count.Given as goal
 
 abbrev pub invariant-loop-i : goal.invariant-loop-i

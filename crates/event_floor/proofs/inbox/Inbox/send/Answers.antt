@@ -1,5 +1,5 @@
 use Rattle.std.proofs.Common.{◌≡◌, ◌<◌, ◌∙◌, ◌++◌, ◌∷◌, [], All, ap, sym, subst}
-use Rattle.event_floor.specs.Posted.{BatchSeen, NumbersRise, sent_as}
+use Rattle.event_floor.specs.Inboxes.{QueuedState, NumbersRise, sent_as}
 use Rattle.event_floor.proofs.HeldLaws.{on_err}
 use Rattle.event_floor.proofs.RiseLaws.{rises_sent}
 use Rattle.event_floor.proofs.inbox.Inbox.send.Goals as goal
@@ -13,10 +13,10 @@ returns-in_err-try_reserve-clause-refused c = on_err c.from_residual.result (c.i
 pub invariant_of-self-in-Ok : goal.invariant_of-self-in-Ok
 invariant_of-self-in-Ok c =
     let p = sent_as c.args.number c.in-Ok.batch in
-    let posted : c.push_back_reserved.new.self.items ≡ c.self.inside.batches.items ++ p ∷ [] =
-    c.push_back_reserved.ensures.items ∙ (ap (λ z. z ++ c.new.result ∷ []) c.in_ok-try_reserve.ensures.items ∙ ap (λ (z : BatchSeen). c.self.inside.batches.items ++ z ∷ []) c.new.ensures) in
-    subst (λ z. NumbersRise z) (sym posted)
-    (rises_sent c.self.inside.batches.items p c.self.invariant (subst (λ z. All (λ (q : BatchSeen). q.number < c.args.number) z) (sym c.self.view_is) c.requires.later))
+    let queued : c.push_back_reserved.new.self.items ≡ c.self.inside.batches.items ++ p ∷ [] =
+    c.push_back_reserved.ensures.items ∙ (ap (λ z. z ++ c.new.result ∷ []) c.in_ok-try_reserve.ensures.items ∙ ap (λ (z : QueuedState). c.self.inside.batches.items ++ z ∷ []) c.new.ensures) in
+    subst (λ z. NumbersRise z) (sym queued)
+    (rises_sent c.self.inside.batches.items p c.self.invariant (subst (λ z. All (λ (q : QueuedState). q.number < c.args.number) z) (sym c.self.view_is) c.requires.later))
 
 pub returns-clause-sends : goal.returns-clause-sends
 returns-clause-sends c =
@@ -27,6 +27,6 @@ returns-clause-sends c =
       gives = batch.value.2;
       same_desk = batch.same;
       counted = c.len-count.ensures;
-      posted = c.push_back_reserved.ensures.items
-          ∙ (ap (λ z. z ++ c.new.result ∷ []) (c.in_ok-try_reserve.ensures.items ∙ c.self.view_is) ∙ ap (λ (z : BatchSeen). c.args.self.now ++ z ∷ []) c.new.ensures);
+      queued = c.push_back_reserved.ensures.items
+          ∙ (ap (λ z. z ++ c.new.result ∷ []) (c.in_ok-try_reserve.ensures.items ∙ c.self.view_is) ∙ ap (λ (z : QueuedState). c.args.self.now ++ z ∷ []) c.new.ensures);
     }

@@ -1,6 +1,6 @@
 use Rattle.std.proofs.Common.{◌≡◌, ◌<◌, sym, subst, refl, length, get_or, set, List}
 use Rattle.std.specs.Prelude.{None}
-use Rattle.event_floor.specs.Posted.{BatchSeen, inbox_at, IsHalf, NumbersRise, no_batch}
+use Rattle.event_floor.specs.Inboxes.{QueuedState, inbox_at, IsHalf, NumbersRise, no_batch}
 use Rattle.event_floor.specs.Unlinked.{half_of, IsIndexOf}
 use Rattle.event_floor.proofs.FloorLaws.{inbox_read}
 use Rattle.event_floor.proofs.IndexLaws.{index_without, index_linked, none_waits, linked_at}
@@ -22,7 +22,7 @@ invariant_of-self-2 c =
     let same : inbox_at c.self.inside.inboxes.items c.in-Some.half.inbox ≡ c.index_mut-inbox.result.now = inbox_read _ _ _ there c.index_mut-inbox.ensures.value in
     let found = c.in-Some-find_half.ensures.found in
     subst (λ z. IsIndexOf (set c.self.inside.inboxes.items c.in-Some.half.inbox z) c.remove.new.self) (sym c.link.ensures)
-    (subst (λ (z : List BatchSeen). IsIndexOf (set c.self.inside.inboxes.items c.in-Some.half.inbox (linked_at z c.in-Some-find_half.place)) c.remove.new.self) same
+    (subst (λ (z : List QueuedState). IsIndexOf (set c.self.inside.inboxes.items c.in-Some.half.inbox (linked_at z c.in-Some-find_half.place)) c.remove.new.self) same
     (index_linked c.self.inside.inboxes.items c.self.inside.unlinked c.remove.new.self c.in-Some.half.inbox c.in-Some-find_half.place c.args.number c.self.invariant
-    (subst (λ z. NumbersRise z) (sym same) c.find_half.ensures.rising) there (subst (λ (z : List BatchSeen). c.in-Some-find_half.place < length z) (sym same) found.0)
-    (subst (λ (z : List BatchSeen). IsHalf c.args.number (get_or z c.in-Some-find_half.place no_batch)) (sym same) found.1) c.remove.ensures.desks c.remove.ensures.removes))
+    (subst (λ z. NumbersRise z) (sym same) c.find_half.ensures.rising) there (subst (λ (z : List QueuedState). c.in-Some-find_half.place < length z) (sym same) found.0)
+    (subst (λ (z : List QueuedState). IsHalf c.args.number (get_or z c.in-Some-find_half.place no_batch)) (sym same) found.1) c.remove.ensures.desks c.remove.ensures.removes))

@@ -3,8 +3,8 @@ use Rattle.std.proofs.lemmas.List.{length-set}
 use Rattle.pool_desk.specs.Desks.{DeskState}
 use Rattle.event_floor.specs.declared.any_desk.AnyDesk.TheVariants.{Held}
 use Rattle.event_floor.specs.Floors.{AreOwned}
-use Rattle.event_floor.proofs.SeatLaws.{alloc_seated, alloc_placed}
-use Rattle.event_floor.proofs.FloorLaws.{floor_settled, floor_seat, floor_lent, owned_set, place_within, seated_at}
+use Rattle.event_floor.proofs.DeskLaws.{alloc_keeps, alloc_placed}
+use Rattle.event_floor.proofs.FloorLaws.{floor_settled, floor_desk, floor_lent, owned_set, place_within, held_desk_of}
 use Rattle.event_floor.proofs.HeldLaws.{HeldThere, held_there, within, too_few, is_idle, floor_kept, view_kept, count_kept}
 use Rattle.event_floor.proofs.StepLaws.{alloc_refused, lends_slot}
 use Rattle.event_floor.proofs.lists.Lists.alloc.Goals as goal
@@ -14,8 +14,8 @@ put-requires-clause-within c =
     let held : HeldThere c.self.inside.desks.items c.args.a c.in-Held.desk =
     held_there _ _ _ _ _ _ c.if-place-len.false c.len.ensures c.self.inside.desks.ok.0 c.index_mut.ensures.value c.in-Held.is in
     let f = c.self.invariant in
-    let seat = seated_at c.args.a c.in-Held.desk f held.0 held.1 in
-    let at = alloc_placed _ _ _ _ _ _ _ _ c.in-Ok.buf seat c.in-Ok.ensures in
+    let own_desk = held_desk_of c.args.a c.in-Held.desk f held.0 held.1 in
+    let at = alloc_placed _ _ _ _ _ _ _ _ c.in-Ok.buf own_desk c.in-Ok.ensures in
     place_within _ _ _ _ at.0 at.1 f.table
 
 pub put-requires-clause-index : goal.put-requires-clause-index
@@ -23,20 +23,20 @@ put-requires-clause-index c =
     let held : HeldThere c.self.inside.desks.items c.args.a c.in-Held.desk =
     held_there _ _ _ _ _ _ c.if-place-len.false c.len.ensures c.self.inside.desks.ok.0 c.index_mut.ensures.value c.in-Held.is in
     let f = c.self.invariant in
-    let seat = seated_at c.args.a c.in-Held.desk f held.0 held.1 in
-    (alloc_placed _ _ _ _ _ _ _ _ c.in-Ok.buf seat c.in-Ok.ensures).1
+    let own_desk = held_desk_of c.args.a c.in-Held.desk f held.0 held.1 in
+    (alloc_placed _ _ _ _ _ _ _ _ c.in-Ok.buf own_desk c.in-Ok.ensures).1
 
 pub invariant_of-self-in-Ok : goal.invariant_of-self-in-Ok
 invariant_of-self-in-Ok c =
     let held : HeldThere c.self.inside.desks.items c.args.a c.in-Held.desk =
     held_there _ _ _ _ _ _ c.if-place-len.false c.len.ensures c.self.inside.desks.ok.0 c.index_mut.ensures.value c.in-Held.is in
     let f = c.self.invariant in
-    let seat = seated_at c.args.a c.in-Held.desk f held.0 held.1 in
-    let at = alloc_placed _ _ _ _ _ _ _ _ c.in-Ok.buf seat c.in-Ok.ensures in
-    let own = owned_set _ _ _ _ f.owned (place_within _ _ _ _ at.0 at.1 f.table) (rw (c.in-Ok.ensures.1.owner_is ∙ seat.numbered.0) held.0) in
-    floor_settled (floor_seat c.args.a _
+    let own_desk = held_desk_of c.args.a c.in-Held.desk f held.0 held.1 in
+    let at = alloc_placed _ _ _ _ _ _ _ _ c.in-Ok.buf own_desk c.in-Ok.ensures in
+    let own = owned_set _ _ _ _ f.owned (place_within _ _ _ _ at.0 at.1 f.table) (rw (c.in-Ok.ensures.1.owner_is ∙ own_desk.numbered.0) held.0) in
+    floor_settled (floor_desk c.args.a _
     (floor_lent _ f (ap length c.put.ensures ∙ length-set _ _ _) (subst (λ z. AreOwned (length c.self.inside.desks.items) z) (sym c.put.ensures) own)) held.0
-    (alloc_seated _ _ _ _ _ _ _ _ _ seat c.in-Ok.ensures))
+    (alloc_keeps _ _ _ _ _ _ _ _ _ own_desk c.in-Ok.ensures))
 
 pub returns-then-place-len-clause-refuses : goal.returns-then-place-len-clause-refuses
 returns-then-place-len-clause-refuses c =
@@ -72,8 +72,8 @@ pub returns-in-Err-clause-refuses : goal.returns-in-Err-clause-refuses
 returns-in-Err-clause-refuses c =
     let held : HeldThere c.self.inside.desks.items c.args.a c.in-Held.desk =
     held_there _ _ _ _ _ _ c.if-place-len.false c.len.ensures c.self.inside.desks.ok.0 c.index_mut.ensures.value c.in-Held.is in
-    let seat = seated_at c.args.a c.in-Held.desk c.self.invariant held.0 held.1 in
-    alloc_refused _ _ c.args.a c.args.size c.in-Held.desk _ c.refusal_by_desk.result c.self.view_is held seat.numbered c.in-Err.ensures.0 c.refusal_by_desk.ensures
+    let own_desk = held_desk_of c.args.a c.in-Held.desk c.self.invariant held.0 held.1 in
+    alloc_refused _ _ c.args.a c.args.size c.in-Held.desk _ c.refusal_by_desk.result c.self.view_is held own_desk.numbered c.in-Err.ensures.0 c.refusal_by_desk.ensures
 
 pub returns-in-Err-clause-unchanged : goal.returns-in-Err-clause-unchanged
 returns-in-Err-clause-unchanged c =

@@ -2,11 +2,11 @@ use Rattle.std.proofs.Common.{◌<◌, refl, ap, sym, subst}
 use Rattle.pool_machine.specs.declared.refusal.Refusal.TheVariants.{BadClass, NotNeeded, NoChunk}
 use Rattle.pool_machine.specs.declared.request.Request.TheVariants.{Claim}
 use Rattle.event_floor.specs.declared.any_desk.AnyDesk.TheVariants.{Held}
-use Rattle.event_floor.specs.Floors.{FloorSeen}
-use Rattle.event_floor.specs.Chunks.{ChunksSeen}
+use Rattle.event_floor.specs.Floors.{FloorState}
+use Rattle.event_floor.specs.Chunks.{ChunksState}
 use Rattle.event_floor.specs.Steps.{Refuses, HasHome}
-use Rattle.event_floor.proofs.SeatLaws.{claim_seated}
-use Rattle.event_floor.proofs.FloorLaws.{floor_settled, floor_seat, seated_at, uses_class, few_classes}
+use Rattle.event_floor.proofs.DeskLaws.{claim_keeps}
+use Rattle.event_floor.proofs.FloorLaws.{floor_settled, floor_desk, held_desk_of, uses_class, few_classes}
 use Rattle.event_floor.proofs.HeldLaws.{HeldThere, held_there, within, too_few, is_idle, floor_kept, view_kept, count_kept, not_so}
 use Rattle.event_floor.proofs.StepLaws.{draws_chunk}
 use Rattle.event_floor.proofs.lists.Lists.claim.Goals as goal
@@ -16,19 +16,19 @@ invariant_of-self-2 c =
     let held : HeldThere c.self.inside.desks.items c.args.a c.in-Held.desk =
     held_there _ _ _ _ _ _ c.if-place-len.false c.len.ensures c.self.inside.desks.ok.0 c.index_mut.ensures.value c.in-Held.is in
     let f = c.self.invariant in
-    let seat = seated_at c.args.a c.in-Held.desk f held.0 held.1 in
+    let own_desk = held_desk_of c.args.a c.in-Held.desk f held.0 held.1 in
     let few = c.in-Some.ensures in
     let drew = c.in-Some-draw.ensures in
-    rw (ap (λ (z : ChunksSeen). z.parts) drew.4)
-    (floor_settled (floor_seat c.args.a _ f held.0
-    (claim_seated _ _ _ _ _ _ _ _ _ seat (few_classes c.self.inside.digits _ (rw (sym few.0) at few.1)) (rw (sym drew.0) at drew.2) c.in-Ok.ensures)))
+    rw (ap (λ (z : ChunksState). z.parts) drew.4)
+    (floor_settled (floor_desk c.args.a _ f held.0
+    (claim_keeps _ _ _ _ _ _ _ _ _ own_desk (few_classes c.self.inside.digits _ (rw (sym few.0) at few.1)) (rw (sym drew.0) at drew.2) c.in-Ok.ensures)))
 
 pub returns-clause-does : goal.returns-clause-does
 returns-clause-does c =
     let held : HeldThere c.self.inside.desks.items c.args.a c.in-Held.desk =
     held_there _ _ _ _ _ _ c.if-place-len.false c.len.ensures c.self.inside.desks.ok.0 c.index_mut.ensures.value c.in-Held.is in
     let f = c.self.invariant in
-    let seat = seated_at c.args.a c.in-Held.desk f held.0 held.1 in
+    let own_desk = held_desk_of c.args.a c.in-Held.desk f held.0 held.1 in
     let few = c.in-Some.ensures in
     let drew = c.in-Some-draw.ensures in
     draws_chunk _ _ _ _ _ _ _ _ _ c.self.inside.chunks c.draw.new.self c.self.view_is held few.0 few.1
@@ -39,9 +39,9 @@ claim-requires c =
     let held : HeldThere c.self.inside.desks.items c.args.a c.in-Held.desk =
     held_there _ _ _ _ _ _ c.if-place-len.false c.len.ensures c.self.inside.desks.ok.0 c.index_mut.ensures.value c.in-Held.is in
     let f = c.self.invariant in
-    let seat = seated_at c.args.a c.in-Held.desk f held.0 held.1 in
+    let own_desk = held_desk_of c.args.a c.in-Held.desk f held.0 held.1 in
     let few = c.in-Some.ensures in
-    uses_class c.in-Held.desk _ seat (rw (sym few.0) at few.1)
+    uses_class c.in-Held.desk _ own_desk (rw (sym few.0) at few.1)
 
 pub returns-then-place-len-clause-refuses : goal.returns-then-place-len-clause-refuses
 returns-then-place-len-clause-refuses c =
@@ -84,7 +84,7 @@ pub returns-in_default-class_of-clause-refuses : goal.returns-in_default-class_o
 returns-in_default-class_of-clause-refuses c =
     let held : HeldThere c.self.inside.desks.items c.args.a c.in-Held.desk =
     held_there _ _ _ _ _ _ c.if-place-len.false c.len.ensures c.self.inside.desks.ok.0 c.index_mut.ensures.value c.in-Held.is in
-    subst (λ (v : FloorSeen). Refuses v (Claim c.args.a c.args.class) BadClass) c.self.view_is
+    subst (λ (v : FloorState). Refuses v (Claim c.args.a c.args.class) BadClass) c.self.view_is
     ((c.in-Held.desk, held), c.in_default-class_of.ensures)
 
 pub invariant_of-self-then-has_home : goal.invariant_of-self-then-has_home
@@ -104,7 +104,7 @@ returns-then-has_home-clause-refuses c =
     let held : HeldThere c.self.inside.desks.items c.args.a c.in-Held.desk =
     held_there _ _ _ _ _ _ c.if-place-len.false c.len.ensures c.self.inside.desks.ok.0 c.index_mut.ensures.value c.in-Held.is in
     let few = c.in-Some.ensures in
-    subst (λ (v : FloorSeen). Refuses v (Claim c.args.a c.args.class) NotNeeded) c.self.view_is
+    subst (λ (v : FloorState). Refuses v (Claim c.args.a c.args.class) NotNeeded) c.self.view_is
     (c.in-Held.desk, held, few.1, subst (λ z. HasHome c.in-Held.desk z) few.0 (c.has_home.ensures.0 c.if-has_home.true))
 
 pub invariant_of-self-in_default-draw : goal.invariant_of-self-in_default-draw
@@ -124,7 +124,7 @@ returns-in_default-draw-clause-refuses c =
     let held : HeldThere c.self.inside.desks.items c.args.a c.in-Held.desk =
     held_there _ _ _ _ _ _ c.if-place-len.false c.len.ensures c.self.inside.desks.ok.0 c.index_mut.ensures.value c.in-Held.is in
     let few = c.in-Some.ensures in
-    subst (λ (v : FloorSeen). Refuses v (Claim c.args.a c.args.class) NoChunk) c.self.view_is
+    subst (λ (v : FloorState). Refuses v (Claim c.args.a c.args.class) NoChunk) c.self.view_is
     (c.in-Held.desk, held, few.1, subst (λ z. HasHome c.in-Held.desk z → ⊥) few.0 (not_so _ c.has_home.ensures.1 c.if-has_home.false), c.in_default-draw.ensures.0)
 
 pub unreachable-requires : goal.unreachable-requires

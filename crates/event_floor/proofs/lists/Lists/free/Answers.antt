@@ -4,10 +4,10 @@ use Rattle.region_cut.specs.declared.slot.Slot.{Slot}
 use Rattle.pool_machine.specs.declared.refusal.Refusal.TheVariants.{NotLent}
 use Rattle.pool_machine.specs.declared.request.Request.TheVariants.{Free}
 use Rattle.event_floor.specs.declared.any_desk.AnyDesk.TheVariants.{Held}
-use Rattle.event_floor.specs.Floors.{FloorSeen, AreOwned, IsKnown}
+use Rattle.event_floor.specs.Floors.{FloorState, AreOwned, IsKnown}
 use Rattle.event_floor.specs.Steps.{Refuses}
-use Rattle.event_floor.proofs.SeatLaws.{free_seated}
-use Rattle.event_floor.proofs.FloorLaws.{floor_settled, floor_seat, floor_lent, owned_set, lent_owned, takes_owner, chunk_within, seated_at}
+use Rattle.event_floor.proofs.DeskLaws.{free_keeps}
+use Rattle.event_floor.proofs.FloorLaws.{floor_settled, floor_desk, floor_lent, owned_set, lent_owned, takes_owner, chunk_within, held_desk_of}
 use Rattle.event_floor.proofs.HeldLaws.{HeldThere, held_there, within, too_few, is_idle, floor_kept, view_kept, count_kept}
 use Rattle.event_floor.proofs.StepLaws.{takes_back}
 use Rattle.event_floor.proofs.lists.Lists.free.Goals as goal
@@ -17,22 +17,22 @@ invariant_of-self-2 c =
     let held : HeldThere c.self.inside.desks.items c.args.a c.in-Held.desk =
     held_there _ _ _ _ _ _ c.if-place-len.false c.len.ensures c.self.inside.desks.ok.0 c.index_mut.ensures.value c.in-Held.is in
     let f = c.self.invariant in
-    let seat = seated_at c.args.a c.in-Held.desk f held.0 held.1 in
+    let own_desk = held_desk_of c.args.a c.in-Held.desk f held.0 held.1 in
     let took = c.in-Some.ensures in
     let index : c.in-Some.buf.slot.index < 256 = subst (λ (z : Slot). z.index < 256) (sym took.1) took.2 in
     let known : IsKnown (length c.self.inside.desks.items) (length c.self.inside.chunks.parts) c.in-Some.buf =
     record { owner = lent_owned _ _ _ _ c.in-Some.buf f.owned took.0; chunk = chunk_within _ _ _ _ took.3 f.table; index = index } in
-    floor_settled (floor_seat c.args.a _
+    floor_settled (floor_desk c.args.a _
     (floor_lent _ f (ap length took.4 ∙ length-set _ _ _) (subst (λ z. AreOwned (length c.self.inside.desks.items) z) (sym took.4) (owned_set _ _ _ _ f.owned took.3 tt))) held.0
-    (free_seated _ _ _ _ _ _ _ c.in-Some.buf _ seat known c.free.ensures))
+    (free_keeps _ _ _ _ _ _ _ c.in-Some.buf _ own_desk known c.free.ensures))
 
 pub free-requires : goal.free-requires
 free-requires c =
     let held : HeldThere c.self.inside.desks.items c.args.a c.in-Held.desk =
     held_there _ _ _ _ _ _ c.if-place-len.false c.len.ensures c.self.inside.desks.ok.0 c.index_mut.ensures.value c.in-Held.is in
     let f = c.self.invariant in
-    let seat = seated_at c.args.a c.in-Held.desk f held.0 held.1 in
-    takes_owner c.args.a c.in-Held.desk _ f seat (lent_owned _ _ _ _ c.in-Some.buf f.owned c.in-Some.ensures.0)
+    let own_desk = held_desk_of c.args.a c.in-Held.desk f held.0 held.1 in
+    takes_owner c.args.a c.in-Held.desk _ f own_desk (lent_owned _ _ _ _ c.in-Some.buf f.owned c.in-Some.ensures.0)
 
 pub returns-then-place-len-clause-refuses : goal.returns-then-place-len-clause-refuses
 returns-then-place-len-clause-refuses c =
@@ -67,7 +67,7 @@ pub returns-in_default-take-clause-refuses : goal.returns-in_default-take-clause
 returns-in_default-take-clause-refuses c =
     let held : HeldThere c.self.inside.desks.items c.args.a c.in-Held.desk =
     held_there _ _ _ _ _ _ c.if-place-len.false c.len.ensures c.self.inside.desks.ok.0 c.index_mut.ensures.value c.in-Held.is in
-    subst (λ (v : FloorSeen). Refuses v (Free c.args.a (c.args.chunk, c.args.index)) NotLent) c.self.view_is
+    subst (λ (v : FloorState). Refuses v (Free c.args.a (c.args.chunk, c.args.index)) NotLent) c.self.view_is
     ((c.in-Held.desk, held), c.in_default-take.ensures.0)
 
 pub returns-in_default-take-clause-unchanged : goal.returns-in_default-take-clause-unchanged

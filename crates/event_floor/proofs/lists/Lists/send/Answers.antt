@@ -2,12 +2,12 @@ use Rattle.std.proofs.Common.{◌≡◌, ◌<◌, ◌≤◌, ◌∙◌, refl, le
 use Rattle.std.specs.Prelude.{Some, None}
 use Rattle.pool_desk.specs.Desks.{DeskState}
 use Rattle.event_floor.specs.declared.any_desk.AnyDesk.TheVariants.{Held}
-use Rattle.event_floor.specs.Floors.{FloorSeen, desk_count, last_number}
+use Rattle.event_floor.specs.Floors.{FloorState, desk_count, last_number}
 use Rattle.event_floor.specs.Steps.{MeetsFault}
-use Rattle.event_floor.proofs.SeatLaws.{send_seated}
-use Rattle.event_floor.proofs.FloorLaws.{floor_settled, floor_seat, floor_inbox, floor_next, seated_at}
+use Rattle.event_floor.proofs.DeskLaws.{send_keeps}
+use Rattle.event_floor.proofs.FloorLaws.{floor_settled, floor_desk, floor_inbox, floor_next, held_desk_of}
 use Rattle.event_floor.proofs.HeldLaws.{HeldThere, held_there, within, is_idle, floor_kept, view_kept, count_kept}
-use Rattle.event_floor.proofs.PostLaws.{sent_posted}
+use Rattle.event_floor.proofs.InboxLaws.{sent_queued}
 use Rattle.event_floor.proofs.StepLaws.{fault_at, send_refused, sends_batch}
 use Rattle.event_floor.proofs.lists.Lists.send.Goals as goal
 
@@ -22,7 +22,7 @@ returns-in_default-clause-refuses c =
     let there = within _ _ _ _ c.if-a-len.false c.len.ensures c.self.inside.desks.ok.0 in
     let there_too = within _ _ _ _ c.if-t-len.false c.len-else-a-len.ensures c.self.inside.desks.ok.0 in (
       (c.in_default.field-0, is_idle _ _ c.args.a _ _ c.self.view_is there c.index_mut.ensures.value c.in_default.is),
-      subst (λ (v : FloorSeen). c.args.t < desk_count v) c.self.view_is there_too,
+      subst (λ (v : FloorState). c.args.t < desk_count v) c.self.view_is there_too,
     )
 
 pub returns-in_default-clause-unchanged : goal.returns-in_default-clause-unchanged
@@ -42,9 +42,9 @@ returns-in-Some-clause-refuses c =
     let there_too = within _ _ _ _ c.if-t-len.false c.len-else-a-len.ensures c.self.inside.desks.ok.0 in
     let held : HeldThere c.self.inside.desks.items c.args.a c.in-Held.desk =
     held_there _ _ _ _ _ _ c.if-a-len.false c.len.ensures c.self.inside.desks.ok.0 c.index_mut.ensures.value c.in-Held.is in
-    let seat = seated_at c.args.a c.in-Held.desk c.self.invariant held.0 held.1 in
+    let own_desk = held_desk_of c.args.a c.in-Held.desk c.self.invariant held.0 held.1 in
     send_refused _ _ c.args.a c.args.t c.in-Held.desk c.in-Some.fault _ c.self.view_is
-    (held, there_too, fault_at _ _ _ c.in-Held.desk c.args.t (Some c.in-Some.fault) seat.numbered c.in-Some.ensures) c.refusal_by_route.ensures
+    (held, there_too, fault_at _ _ _ c.in-Held.desk c.args.t (Some c.in-Some.fault) own_desk.numbered c.in-Some.ensures) c.refusal_by_route.ensures
 
 pub returns-in-Some-clause-unchanged : goal.returns-in-Some-clause-unchanged
 returns-in-Some-clause-unchanged c =
@@ -63,9 +63,9 @@ returns-then-self-gt-LAST_NUMBER-clause-refuses c =
     let there_too = within _ _ _ _ c.if-t-len.false c.len-else-a-len.ensures c.self.inside.desks.ok.0 in
     let held : HeldThere c.self.inside.desks.items c.args.a c.in-Held.desk =
     held_there _ _ _ _ _ _ c.if-a-len.false c.len.ensures c.self.inside.desks.ok.0 c.index_mut.ensures.value c.in-Held.is in
-    let seat = seated_at c.args.a c.in-Held.desk c.self.invariant held.0 held.1 in
-    subst (λ (v : FloorSeen). MeetsFault v c.args.a c.args.t None × (last_number < v.next)) c.self.view_is
-    ((c.in-Held.desk, (held, there_too, fault_at _ _ _ c.in-Held.desk c.args.t None seat.numbered c.in-None.ensures)), c.if-self-gt-LAST_NUMBER.true)
+    let own_desk = held_desk_of c.args.a c.in-Held.desk c.self.invariant held.0 held.1 in
+    subst (λ (v : FloorState). MeetsFault v c.args.a c.args.t None × (last_number < v.next)) c.self.view_is
+    ((c.in-Held.desk, (held, there_too, fault_at _ _ _ c.in-Held.desk c.args.t None own_desk.numbered c.in-None.ensures)), c.if-self-gt-LAST_NUMBER.true)
 
 pub returns-then-self-gt-LAST_NUMBER-clause-unchanged : goal.returns-then-self-gt-LAST_NUMBER-clause-unchanged
 returns-then-self-gt-LAST_NUMBER-clause-unchanged c =
@@ -83,39 +83,39 @@ pub send-requires-clause-sender : goal.send-requires-clause-sender
 send-requires-clause-sender c =
     let held : HeldThere c.self.inside.desks.items c.args.a c.in-Held.desk =
     held_there _ _ _ _ _ _ c.if-a-len.false c.len.ensures c.self.inside.desks.ok.0 c.index_mut.ensures.value c.in-Held.is in
-    let seat = seated_at c.args.a c.in-Held.desk c.self.invariant held.0 held.1 in
-    subst (λ z. z < length c.self.inside.inboxes) (sym seat.numbered.0) (subst (λ z. c.args.a < z) (sym c.self.invariant.boxes) held.0)
+    let own_desk = held_desk_of c.args.a c.in-Held.desk c.self.invariant held.0 held.1 in
+    subst (λ z. z < length c.self.inside.inboxes) (sym own_desk.numbered.0) (subst (λ z. c.args.a < z) (sym c.self.invariant.inbox_count) held.0)
 
 pub send-requires-clause-there : goal.send-requires-clause-there
 send-requires-clause-there c =
     let there_too = within _ _ _ _ c.if-t-len.false c.len-else-a-len.ensures c.self.inside.desks.ok.0 in
-    subst (λ z. c.args.t < z) (sym c.self.invariant.boxes) there_too
+    subst (λ z. c.args.t < z) (sym c.self.invariant.inbox_count) there_too
 
 pub send-requires-clause-later : goal.send-requires-clause-later
 send-requires-clause-later c =
-    λ b l k d m. (c.self.invariant.posted b (subst (λ z. b < z) c.self.invariant.boxes l) k d m).numbered
+    λ b l k d m. (c.self.invariant.queued b (subst (λ z. b < z) c.self.invariant.inbox_count l) k d m).numbered
 
 pub invariant_of-self-in-Ok : goal.invariant_of-self-in-Ok
 invariant_of-self-in-Ok c =
     let there_too = within _ _ _ _ c.if-t-len.false c.len-else-a-len.ensures c.self.inside.desks.ok.0 in
     let held : HeldThere c.self.inside.desks.items c.args.a c.in-Held.desk =
     held_there _ _ _ _ _ _ c.if-a-len.false c.len.ensures c.self.inside.desks.ok.0 c.index_mut.ensures.value c.in-Held.is in
-    let seat = seated_at c.args.a c.in-Held.desk c.self.invariant held.0 held.1 in
+    let own_desk = held_desk_of c.args.a c.in-Held.desk c.self.invariant held.0 held.1 in
     let s = c.in-Ok.ensures.sends in
     let g = floor_next c.self.invariant c.if-self-gt-LAST_NUMBER.false in
     rw s.same
     (floor_settled (floor_inbox c.args.t _
-    (floor_seat c.args.a _ g held.0 (send_seated _ _ _ _ _ _ _ _ _ s.sends.batch seat s.sends.same_desk s.sends.gives)) there_too
-    (sent_posted _ _ _ _ _ c.args.a _ _ _ _ _ _ _ (g.posted c.args.t there_too) seat held.0 (omega arith) s.sends)))
+    (floor_desk c.args.a _ g held.0 (send_keeps _ _ _ _ _ _ _ _ _ s.sends.batch own_desk s.sends.same_desk s.sends.gives)) there_too
+    (sent_queued _ _ _ _ _ c.args.a _ _ _ _ _ _ _ (g.queued c.args.t there_too) own_desk held.0 (omega arith) s.sends)))
 
 pub returns-in-Ok-clause-does : goal.returns-in-Ok-clause-does
 returns-in-Ok-clause-does c =
     let there_too = within _ _ _ _ c.if-t-len.false c.len-else-a-len.ensures c.self.inside.desks.ok.0 in
     let held : HeldThere c.self.inside.desks.items c.args.a c.in-Held.desk =
     held_there _ _ _ _ _ _ c.if-a-len.false c.len.ensures c.self.inside.desks.ok.0 c.index_mut.ensures.value c.in-Held.is in
-    let seat = seated_at c.args.a c.in-Held.desk c.self.invariant held.0 held.1 in
+    let own_desk = held_desk_of c.args.a c.in-Held.desk c.self.invariant held.0 held.1 in
     sends_batch _ _ c.args.a c.args.t c.in-Ok.count c.in-Held.desk c.send.new.desk _ c.self.view_is
-    (held, there_too, fault_at _ _ _ c.in-Held.desk c.args.t None seat.numbered c.in-None.ensures) c.if-self-gt-LAST_NUMBER.false seat.numbered c.in-Ok.ensures.sends
+    (held, there_too, fault_at _ _ _ c.in-Held.desk c.args.t None own_desk.numbered c.in-None.ensures) c.if-self-gt-LAST_NUMBER.false own_desk.numbered c.in-Ok.ensures.sends
 
 pub returns-in-Ok-clause-desks : goal.returns-in-Ok-clause-desks
 returns-in-Ok-clause-desks c =
@@ -131,9 +131,9 @@ returns-in-Err-clause-refuses c =
     let there_too = within _ _ _ _ c.if-t-len.false c.len-else-a-len.ensures c.self.inside.desks.ok.0 in
     let held : HeldThere c.self.inside.desks.items c.args.a c.in-Held.desk =
     held_there _ _ _ _ _ _ c.if-a-len.false c.len.ensures c.self.inside.desks.ok.0 c.index_mut.ensures.value c.in-Held.is in
-    let seat = seated_at c.args.a c.in-Held.desk c.self.invariant held.0 held.1 in
-    subst (λ (v : FloorSeen). MeetsFault v c.args.a c.args.t None × (v.next ≤ last_number)) c.self.view_is
-    ((c.in-Held.desk, (held, there_too, fault_at _ _ _ c.in-Held.desk c.args.t None seat.numbered c.in-None.ensures)), c.if-self-gt-LAST_NUMBER.false)
+    let own_desk = held_desk_of c.args.a c.in-Held.desk c.self.invariant held.0 held.1 in
+    subst (λ (v : FloorState). MeetsFault v c.args.a c.args.t None × (v.next ≤ last_number)) c.self.view_is
+    ((c.in-Held.desk, (held, there_too, fault_at _ _ _ c.in-Held.desk c.args.t None own_desk.numbered c.in-None.ensures)), c.if-self-gt-LAST_NUMBER.false)
 
 pub returns-in-Err-clause-unchanged : goal.returns-in-Err-clause-unchanged
 returns-in-Err-clause-unchanged c =

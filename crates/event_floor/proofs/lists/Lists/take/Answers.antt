@@ -2,12 +2,12 @@ use Rattle.std.proofs.Common.{◌<◌, refl, sym, subst}
 use Rattle.pool_machine.specs.declared.refusal.Refusal.TheVariants.{Nothing}
 use Rattle.pool_machine.specs.declared.request.Request.TheVariants.{Take}
 use Rattle.event_floor.specs.declared.any_desk.AnyDesk.TheVariants.{Held}
-use Rattle.event_floor.specs.Floors.{FloorSeen}
+use Rattle.event_floor.specs.Floors.{FloorState}
 use Rattle.event_floor.specs.Steps.{Refuses}
-use Rattle.event_floor.proofs.SeatLaws.{handle_seated}
-use Rattle.event_floor.proofs.FloorLaws.{floor_settled, floor_seat, floor_inbox, seated_at}
+use Rattle.event_floor.proofs.DeskLaws.{handle_keeps}
+use Rattle.event_floor.proofs.FloorLaws.{floor_settled, floor_desk, floor_inbox, held_desk_of}
 use Rattle.event_floor.proofs.HeldLaws.{HeldThere, held_there, within, too_few, is_idle, floor_kept, view_kept, count_kept}
-use Rattle.event_floor.proofs.PostLaws.{rest_posted, taken_address, taken_digits, taken_known}
+use Rattle.event_floor.proofs.InboxLaws.{rest_queued, taken_address, taken_digits, taken_known}
 use Rattle.event_floor.proofs.StepLaws.{takes_front}
 use Rattle.event_floor.proofs.lists.Lists.take.Goals as goal
 
@@ -16,29 +16,29 @@ handle-counts-requires-clause-address c =
     let held : HeldThere c.self.inside.desks.items c.args.b c.in-Held.desk =
     held_there _ _ _ _ _ _ c.if-place-len.false c.len.ensures c.self.inside.desks.ok.0 c.index_mut.ensures.value c.in-Held.is in
     let f = c.self.invariant in
-    let seat = seated_at c.args.b c.in-Held.desk f held.0 held.1 in
-    taken_address _ _ _ _ _ _ _ _ _ _ seat c.in-Some.ensures.leaves (f.posted c.args.b held.0)
+    let own_desk = held_desk_of c.args.b c.in-Held.desk f held.0 held.1 in
+    taken_address _ _ _ _ _ _ _ _ _ _ own_desk c.in-Some.ensures.leaves (f.queued c.args.b held.0)
 
 pub handle-counts-requires-clause-digits : goal.handle-counts-requires-clause-digits
 handle-counts-requires-clause-digits c =
     let held : HeldThere c.self.inside.desks.items c.args.b c.in-Held.desk =
     held_there _ _ _ _ _ _ c.if-place-len.false c.len.ensures c.self.inside.desks.ok.0 c.index_mut.ensures.value c.in-Held.is in
     let f = c.self.invariant in
-    let seat = seated_at c.args.b c.in-Held.desk f held.0 held.1 in
-    taken_digits _ _ _ _ _ _ _ _ _ _ seat c.in-Some.ensures.leaves (f.posted c.args.b held.0)
+    let own_desk = held_desk_of c.args.b c.in-Held.desk f held.0 held.1 in
+    taken_digits _ _ _ _ _ _ _ _ _ _ own_desk c.in-Some.ensures.leaves (f.queued c.args.b held.0)
 
 pub invariant_of-self-2 : goal.invariant_of-self-2
 invariant_of-self-2 c =
     let held : HeldThere c.self.inside.desks.items c.args.b c.in-Held.desk =
     held_there _ _ _ _ _ _ c.if-place-len.false c.len.ensures c.self.inside.desks.ok.0 c.index_mut.ensures.value c.in-Held.is in
     let f = c.self.invariant in
-    let seat = seated_at c.args.b c.in-Held.desk f held.0 held.1 in
-    let posted = f.posted c.args.b held.0 in
+    let own_desk = held_desk_of c.args.b c.in-Held.desk f held.0 held.1 in
+    let queued = f.queued c.args.b held.0 in
     let took = c.in-Some.ensures in
     rw took.same
     (floor_settled (floor_inbox c.args.b _
-    (floor_seat c.args.b _ f held.0 (handle_seated _ _ _ _ _ _ _ _ seat (taken_known _ _ _ _ _ _ _ _ took.leaves posted) c.handle-counts.ensures.parts)) held.0
-    (rest_posted _ _ _ _ _ _ _ _ took.leaves posted)))
+    (floor_desk c.args.b _ f held.0 (handle_keeps _ _ _ _ _ _ _ _ own_desk (taken_known _ _ _ _ _ _ _ _ took.leaves queued) c.handle-counts.ensures.parts)) held.0
+    (rest_queued _ _ _ _ _ _ _ _ took.leaves queued)))
 
 pub returns-clause-does : goal.returns-clause-does
 returns-clause-does c =
@@ -79,7 +79,7 @@ pub returns-in_default-take-clause-refuses : goal.returns-in_default-take-clause
 returns-in_default-take-clause-refuses c =
     let held : HeldThere c.self.inside.desks.items c.args.b c.in-Held.desk =
     held_there _ _ _ _ _ _ c.if-place-len.false c.len.ensures c.self.inside.desks.ok.0 c.index_mut.ensures.value c.in-Held.is in
-    subst (λ (v : FloorSeen). Refuses v (Take c.args.b) Nothing) c.self.view_is
+    subst (λ (v : FloorState). Refuses v (Take c.args.b) Nothing) c.self.view_is
     ((c.in-Held.desk, held), c.in_default-take.ensures.0)
 
 pub returns-in_default-take-clause-unchanged : goal.returns-in_default-take-clause-unchanged
@@ -93,7 +93,7 @@ returns-in_default-take-clause-desks c =
 pub take-requires : goal.take-requires
 take-requires c =
     let there = within _ _ _ _ c.if-place-len.false c.len.ensures c.self.inside.desks.ok.0 in
-    subst (λ z. c.args.b < z) (sym c.self.invariant.boxes) there
+    subst (λ z. c.args.b < z) (sym c.self.invariant.inbox_count) there
 
 pub returns-clause-desks : goal.returns-clause-desks
 returns-clause-desks c =

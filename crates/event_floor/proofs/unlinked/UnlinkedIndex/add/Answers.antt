@@ -3,13 +3,13 @@ use Rattle.std.specs.Prelude.{Option, None, nat_eq}
 use Rattle.std.specs.HashMap.{PutsEntry}
 use Rattle.std.specs.Map.{lookup}
 use Rattle.event_floor.specs.declared.unlinked.Unlinked.{Unlinked}
-use Rattle.event_floor.specs.Unlinked.{UnlinkedSeen, half_of}
+use Rattle.event_floor.specs.Unlinked.{UnlinkedState, half_of}
 use Rattle.event_floor.proofs.UnlinkedLaws.{sent_within, counted_read, added_counted}
 use Rattle.event_floor.proofs.unlinked.UnlinkedIndex.add.Goals as goal
 
 pub overflow_add-index_mut : goal.overflow_add-index_mut
 overflow_add-index_mut c =
-    let there : c.args.half.sender < length c.self.inside.by_sender.items = subst (λ (z : UnlinkedSeen). c.args.half.sender < z.desks) (sym c.self.view_is) c.requires.sender in
+    let there : c.args.half.sender < length c.self.inside.by_sender.items = subst (λ (z : UnlinkedState). c.args.half.sender < z.desks) (sym c.self.view_is) c.requires.sender in
     let is = counted_read c.self.inside.by_sender.items c.self.inside.by_number.entries c.args.half.sender c.index_mut.result.now c.self.invariant there c.index_mut.ensures.value in
     let few = sent_within c.args.half.sender c.self.inside.by_number.entries in
     let len = c.len-count.ensures.len in
@@ -18,8 +18,8 @@ overflow_add-index_mut c =
 
 pub invariant_of-self-2 : goal.invariant_of-self-2
 invariant_of-self-2 c =
-    let there : c.args.half.sender < length c.self.inside.by_sender.items = subst (λ (z : UnlinkedSeen). c.args.half.sender < z.desks) (sym c.self.view_is) c.requires.sender in
-    let absent : lookup (nat_eq c.args.number) c.self.inside.by_number.entries ≡ None = subst (λ (z : UnlinkedSeen). half_of z c.args.number ≡ None) (sym c.self.view_is) c.requires.absent in
+    let there : c.args.half.sender < length c.self.inside.by_sender.items = subst (λ (z : UnlinkedState). c.args.half.sender < z.desks) (sym c.self.view_is) c.requires.sender in
+    let absent : lookup (nat_eq c.args.number) c.self.inside.by_number.entries ≡ None = subst (λ (z : UnlinkedState). half_of z c.args.number ≡ None) (sym c.self.view_is) c.requires.absent in
     let puts : IsPermutation ((c.args.number, c.args.half) ∷ c.self.inside.by_number.entries) c.insert.new.self.entries =
     subst (λ (z : Option Unlinked). PutsEntry nat_eq c.self.inside.by_number c.insert.new.self c.args.number c.args.half z)
     (c.in_ok-insert.ensures.old ∙ absent) c.in_ok-insert.ensures.entries in

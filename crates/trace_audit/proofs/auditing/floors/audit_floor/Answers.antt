@@ -1,7 +1,7 @@
 use Rattle.std.proofs.Common.{IsPermutation, sym, subst}
 use Rattle.std.proofs.lemmas.Result.{IfErr-weaker, IfOk-weaker}
 use Rattle.std.proofs.lemmas.List.Sorted.{IsPermutation-refl}
-use Rattle.event_floor.specs.headline.Slots.{slots_on}
+use Rattle.event_floor.specs.headline.ListsSlots.{slots_on}
 use Rattle.trace_audit.proofs.OnceOnFloors.{each_once}
 use Rattle.trace_audit.proofs.auditing.floors.audit_floor.Goals as goal
 

@@ -2,7 +2,7 @@ use Rattle.std.proofs.Common.{◌+◌, ◌++◌, map, flat_map, IsPermutation, s
 use Rattle.std.specs.List.{range_with_len}
 use Rattle.slot_chain.specs.Slots.{slot_of}
 use Rattle.event_floor.specs.Lent.{buffers_lent}
-use Rattle.event_floor.specs.headline.Slots.{slots_with}
+use Rattle.event_floor.specs.headline.ListsSlots.{slots_with}
 use Rattle.trace_audit.proofs.OnceOnFloors.{desk_more}
 use Rattle.trace_audit.proofs.auditing.floors.slots_on.Goals as goal
 

@@ -1,5 +1,5 @@
 use Rattle.std.proofs.Common.{◌++◌, IsPermutation, sym, ap, ap₂, ◌∙◌, subst}
-use Rattle.event_floor.specs.headline.Slots.{slots_with}
+use Rattle.event_floor.specs.headline.ListsSlots.{slots_with}
 use Rattle.trace_audit.proofs.OnceOnFloors.{three_lists}
 use Rattle.trace_audit.proofs.auditing.floors.slots_with.Goals as goal
 
