@@ -6,40 +6,28 @@ use Rattle.pool_machine.specs.declared.refusal.Refusal.TheVariants.{NoChunk, Not
 use Rattle.pool_machine.specs.declared.refusal.Refusal.TheVariants.{NoBatch, Nothing, Unsettled, Held, NoMemory}
 use Rattle.pool_machine.specs.declared.refusal.Refusal.TheVariants.{BadClass, Spent}
 
+-- the number of a refusal, and its name
+abbrev pub refusal_row : Refusal → ℕ × List ℕ
+refusal_row NoDesk = (1, codes "NoDesk")
+refusal_row Idle = (2, codes "Idle")
+refusal_row TooLarge = (3, codes "TooLarge")
+refusal_row NeedChunk = (4, codes "NeedChunk")
+refusal_row NotNeeded = (5, codes "NotNeeded")
+refusal_row NoChunk = (6, codes "NoChunk")
+refusal_row NotLent = (7, codes "NotLent")
+refusal_row NothingFor = (8, codes "NothingFor")
+refusal_row NotAnOwner = (9, codes "NotAnOwner")
+refusal_row ToSelf = (10, codes "ToSelf")
+refusal_row NoBatch = (11, codes "NoBatch")
+refusal_row Nothing = (12, codes "Nothing")
+refusal_row Unsettled = (13, codes "Unsettled")
+refusal_row Held = (14, codes "Held")
+refusal_row NoMemory = (15, codes "NoMemory")
+refusal_row BadClass = (16, codes "BadClass")
+refusal_row Spent = (18, codes "Spent")
+
 abbrev pub refusal_number : Refusal → ℕ
-refusal_number NoDesk = 1
-refusal_number Idle = 2
-refusal_number TooLarge = 3
-refusal_number NeedChunk = 4
-refusal_number NotNeeded = 5
-refusal_number NoChunk = 6
-refusal_number NotLent = 7
-refusal_number NothingFor = 8
-refusal_number NotAnOwner = 9
-refusal_number ToSelf = 10
-refusal_number NoBatch = 11
-refusal_number Nothing = 12
-refusal_number Unsettled = 13
-refusal_number Held = 14
-refusal_number NoMemory = 15
-refusal_number BadClass = 16
-refusal_number Spent = 18
+refusal_number r = (refusal_row r).0
 
 abbrev pub refusal_name : Refusal → List ℕ
-refusal_name NoDesk = codes "NoDesk"
-refusal_name Idle = codes "Idle"
-refusal_name TooLarge = codes "TooLarge"
-refusal_name NeedChunk = codes "NeedChunk"
-refusal_name NotNeeded = codes "NotNeeded"
-refusal_name NoChunk = codes "NoChunk"
-refusal_name NotLent = codes "NotLent"
-refusal_name NothingFor = codes "NothingFor"
-refusal_name NotAnOwner = codes "NotAnOwner"
-refusal_name ToSelf = codes "ToSelf"
-refusal_name NoBatch = codes "NoBatch"
-refusal_name Nothing = codes "Nothing"
-refusal_name Unsettled = codes "Unsettled"
-refusal_name Held = codes "Held"
-refusal_name NoMemory = codes "NoMemory"
-refusal_name BadClass = codes "BadClass"
-refusal_name Spent = codes "Spent"
+refusal_name r = (refusal_row r).1

@@ -11,7 +11,7 @@ use Rattle.event_floor.specs.Floors.{FloorState, desk_count}
 use Rattle.std.specs.Io.KnownBytes.{Appends}
 use Rattle.std.proofs.KnownBytes.{Appends-trans}
 use Rattle.trace_audit.specs.Machine.{Tally, counts_at, told}
-use Rattle.trace_audit.specs.Replay.{tail_text}
+use Rattle.trace_audit.specs.Steps.{tail_text}
 use Rattle.trace_audit.specs.Report.{bad_line, closing, desk_line, desk_lines, end_line, plus, total}
 use Rattle.trace_audit.specs.Wire.{Begins, Writes}
 use Rattle.trace_audit.specs.declared.replaying.ending.End.{End}

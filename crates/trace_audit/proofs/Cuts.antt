@@ -1,6 +1,7 @@
-use Rattle.std.proofs.Common.{length, ◌≤◌, ◌≡◌, ℕ, zero, suc, ◌<◌, ◌==◌, List, [], ◌∷◌, ◌++◌, Option, Some, None, IfSome, IfNone, refl, sym, ◌∙◌, ap, ap₂, arith, Bool, true, false, cond, decimal}
+use Rattle.std.proofs.Common.{length, ◌≤◌, ◌≡◌, ◌^◌, ℕ, zero, suc, ◌<◌, ◌==◌, List, [], ◌∷◌, ◌++◌, Option, Some, None, IfSome, IfNone, refl, sym, ◌∙◌, ap, ap₂, arith, Bool, true, false, cond, decimal}
 use Rattle.std.proofs.lemmas.Bool.Decides.{nat_tests}
-use Rattle.trace_audit.specs.Grammar.{IsWord, Lacks, pair, verb_text, verb_of, words_of, spelling, IsRequest, profile_text, header_text, header_words, AreWords, IsHeader, desks_of}
+use Rattle.trace_audit.specs.Grammar.{IsWord, Lacks, pair, verb_text, verb_of, words_of, spelling, IsRequest, profile_text, header_text, header_words, AreWords, IsHeader}
+use Rattle.region_cut.specs.Classes.{bits_of}
 use Rattle.region_cut.specs.declared.profile.Profile.{Profile}
 use Rattle.region_cut.specs.declared.profile.Profile.TheVariants.{Pool, Pool2}
 use Rattle.trace_audit.specs.declared.grammar.header.Header.{Header}
@@ -123,7 +124,7 @@ same_header h k fh fk e =
       decimal_injective h.width k.width (omega (arith, fh.2)) (omega (arith, fk.2)) inner.1,
     )
 
-few_desks : (p : Profile) (n : ℕ) → n ≤ desks_of p → IsWord n
+few_desks : (p : Profile) (n : ℕ) → n ≤ 2 ^ bits_of p → IsWord n
 few_desks Pool n h = omega (arith, h)
 few_desks Pool2 n h = omega (arith, h)
 

@@ -5,9 +5,8 @@ use Rattle.pool_machine.specs.Laws.{RunsKeepNumbers}
 use Rattle.trace_audit.specs.FloorSlots.{ShowsPool}
 use Rattle.trace_audit.specs.Grammar.{IsHeader}
 use Rattle.trace_audit.specs.Machine.{Opens, opening_of, told}
-use Rattle.trace_audit.specs.Replay.{tail_text}
 use Rattle.trace_audit.specs.Report.{Verdict}
-use Rattle.trace_audit.specs.Steps.{Driven, EndsSo, Finishes, IsAsked, IsTold, audit_lines}
+use Rattle.trace_audit.specs.Steps.{tail_text, Driven, EndsSo, Finishes, IsAsked, IsTold, audit_lines}
 use Rattle.trace_audit.specs.Wire.{Begins}
 use Rattle.trace_audit.specs.declared.grammar.header.Header.{Header}
 use Rattle.trace_audit.specs.declared.replaying.ending.End.{End}

@@ -10,7 +10,7 @@ use Rattle.trace_audit.specs.Grammar.{IsRequest}
 use Rattle.event_floor.specs.headline.Headline.{Applies}
 use Rattle.pool_machine.specs.State.{State}
 use Rattle.pool_machine.specs.Steps.{Answers, Run, after}
-use Rattle.trace_audit.specs.Machine.{Answer}
+use Rattle.pool_machine.specs.Steps.{Answer}
 use Rattle.trace_audit.specs.Report.{answer_line}
 use Rattle.trace_audit.specs.Trace.{request_line}
 use Rattle.trace_audit.specs.Steps.{EndsSo, Follows, Played, Broke, Driven, Stopped}

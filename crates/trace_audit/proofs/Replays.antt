@@ -11,8 +11,8 @@ use Rattle.trace_audit.specs.Grammar.{IsHeader}
 use Rattle.trace_audit.specs.Machine.{Opens, Tally, opening_of, told, told_of}
 use Rattle.trace_audit.specs.Report.{Verdict, answer_line, audit_line}
 use Rattle.trace_audit.specs.Trace.{EndsTrace, header_line, request_line}
-use Rattle.trace_audit.specs.Replay.{AnswersLines, Failures, FailsBehind, HoldsOfAll, IsAudited, ReportsLines, ReportsTrace, tail_text, with_audit}
-use Rattle.trace_audit.specs.Steps.{BeginsReport, Driven, EndsSo, Finishes, IsAsked, Played, Replayed, Stopped, WritesOnly, audit_lines}
+use Rattle.trace_audit.specs.Replay.{AnswersLines, Failures, FailsBehind, HoldsOfAll, IsAudited, ReportsTrace, with_audit}
+use Rattle.trace_audit.specs.Steps.{ReportsLines, tail_text, BeginsReport, Driven, EndsSo, Finishes, IsAsked, Played, Replayed, Stopped, WritesOnly, audit_lines}
 use Rattle.trace_audit.specs.Wire.{Begins}
 use Rattle.trace_audit.specs.declared.grammar.header.Header.{Header}
 use Rattle.trace_audit.specs.declared.replaying.ending.End.{End}

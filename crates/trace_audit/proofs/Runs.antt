@@ -8,7 +8,7 @@ use Rattle.pool_machine.specs.State.{State}
 use Rattle.pool_machine.specs.Steps.{Run, after}
 use Rattle.trace_audit.specs.Grammar.{IsRequest}
 use Rattle.trace_audit.specs.Laws.{TextsAreTraces}
-use Rattle.trace_audit.specs.Machine.{Answer}
+use Rattle.pool_machine.specs.Steps.{Answer}
 use Rattle.trace_audit.specs.Report.{answer_line}
 use Rattle.trace_audit.specs.Trace.{header_line, EndsTrace}
 use Rattle.trace_audit.proofs.Goings.{goes_on}

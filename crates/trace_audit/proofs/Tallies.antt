@@ -9,7 +9,8 @@ use Rattle.event_floor.specs.headline.Listing.{desk_of}
 use Rattle.pool_machine.specs.Laws.{RunsKeepNumbers}
 use Rattle.pool_machine.specs.State.{State}
 use Rattle.trace_audit.specs.Grammar.{IsHeader}
-use Rattle.trace_audit.specs.Machine.{Answer, Opens, opening_of, counts_at, counts_in, told, told_of}
+use Rattle.pool_machine.specs.Steps.{Answer}
+use Rattle.trace_audit.specs.Machine.{Opens, opening_of, counts_at, counts_in, told, told_of}
 use Rattle.trace_audit.specs.Steps.{Follows}
 use Rattle.trace_audit.specs.declared.grammar.header.Header.{Header}
 use Rattle.trace_audit.specs.declared.report.closing.DeskCounts.{DeskCounts}

@@ -5,8 +5,8 @@ use Rattle.std.proofs.KnownBytes.{Consumes-nil, Consumes-trans}
 use Rattle.trace_audit.specs.Grammar.{header_text, IsHeader}
 use Rattle.trace_audit.specs.Trace.{header_line, EndsTrace, BeginsWithRequest, BeginsWithHeader}
 use Rattle.trace_audit.specs.Report.{bad_line, no_memory_line}
-use Rattle.trace_audit.specs.Replay.{HoldsOfAll, ReportsLines, ReportsTrace}
-use Rattle.trace_audit.specs.Steps.{EndsSo, IsBadFront, IsBadHeader}
+use Rattle.trace_audit.specs.Replay.{HoldsOfAll, ReportsTrace}
+use Rattle.trace_audit.specs.Steps.{ReportsLines, EndsSo, IsBadFront, IsBadHeader}
 use Rattle.trace_audit.specs.declared.grammar.header.Header.{Header}
 use Rattle.trace_audit.specs.declared.replaying.ending.End.{End}
 use Rattle.trace_audit.specs.declared.replaying.ending.End.TheVariants.{Whole, BadLine, NoRoom}

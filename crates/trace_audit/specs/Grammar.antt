@@ -74,10 +74,6 @@ abbrev pub profile_text : Profile → List ℕ
 profile_text Pool = codes "pool"
 profile_text Pool2 = codes "pool2"
 
--- how many desks a floor may have: each needs a number
-abbrev pub desks_of : Profile → ℕ
-desks_of p = 2 ^ bits_of p
-
 -- the words of a header's line behind the first
 abbrev pub header_words : Header → List ℕ
 header_words h = decimal h.desks ++ 32 ∷ pair 32 h.chunks h.width
@@ -90,10 +86,10 @@ header_text h = profile_text h.profile ++ 32 ∷ header_words h
 abbrev pub AreWords : Header → Type 0
 AreWords h = IsWord h.desks × IsWord h.chunks × IsWord h.width
 
--- each number of the header is in its range
+-- each number of the header is in its range; each desk needs a number of the profile's bits
 pub record IsHeader (h : Header) : Type 0 where
   pub some_desk : 1 ≤ h.desks
-  pub few_desks : h.desks ≤ desks_of h.profile
+  pub few_desks : h.desks ≤ 2 ^ bits_of h.profile
   pub few_chunks : h.chunks ≤ 1024
   pub some_width : 1 ≤ h.width
   pub small_width : h.width ≤ 6

@@ -1,5 +1,5 @@
 -- The pool that a trace drives: how it opens, and what is told of it at the end.
-use Rattle.std.specs.Prelude.{ℕ, List, length, map, count_by, is_some, Result}
+use Rattle.std.specs.Prelude.{ℕ, List, length, map, count_by, is_some}
 use Rattle.std.specs.List.{range_with_len}
 use Rattle.region_cut.specs.Classes.{bits_of}
 use Rattle.slot_chain.specs.Counts.{capped}
@@ -11,13 +11,8 @@ use Rattle.pool_machine.specs.SlotLists.{home_slots, cached_slots, queued_slots,
 use Rattle.event_floor.specs.headline.Listing.{listing_of}
 use Rattle.event_floor.specs.Inboxes.{buffers_in, inbox_at}
 use Rattle.event_floor.specs.Desks.{home_of, cached_of}
-use Rattle.pool_machine.specs.declared.reply.Reply.{Reply}
-use Rattle.pool_machine.specs.declared.refusal.Refusal.{Refusal}
 use Rattle.trace_audit.specs.declared.grammar.header.Header.{Header}
 use Rattle.trace_audit.specs.declared.report.closing.DeskCounts.{DeskCounts}
-
-abbrev pub Answer : Type 0
-Answer = Result Reply Refusal
 
 -- the numbers of desks have the profile's bits, and digits of the header's width
 abbrev pub digits_of : Header → Scheme

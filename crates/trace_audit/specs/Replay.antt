@@ -4,10 +4,10 @@ use Rattle.std.specs.Prelude.{true, false, ⊤}
 use Rattle.std.specs.List.{flat_map}
 use Rattle.std.specs.Io.KnownBytes.{Consumes, IsAtEnd}
 use Rattle.pool_machine.specs.State.{State}
-use Rattle.pool_machine.specs.Steps.{Run}
+use Rattle.pool_machine.specs.Steps.{Answer, Run}
 use Rattle.pool_machine.specs.declared.request.Request.{Request}
 use Rattle.trace_audit.specs.Grammar.{Lacks}
-use Rattle.trace_audit.specs.Machine.{Answer, Tally, opening_of, told_of}
+use Rattle.trace_audit.specs.Machine.{opening_of, told_of}
 use Rattle.trace_audit.specs.Trace.{BeginsWithHeader, IsTrace}
 use Rattle.trace_audit.specs.Report.{answer_line, bad_line, closing, no_memory_line, Verdict, audit_line}
 use Rattle.trace_audit.specs.Wire.{Begins}
@@ -20,12 +20,6 @@ use Rattle.trace_audit.specs.declared.replaying.ending.ReplayError.TheVariants.{
 
 -- ---- the report of a trace
 
--- the lines behind the answers
-abbrev pub tail_text : Tally → End → List ℕ
-tail_text tally Whole = closing tally
-tail_text tally (BadLine k) = bad_line k ++ closing tally
-tail_text tally NoRoom = []
-
 -- the bytes are a trace with this end, and P holds of its requests, of the lines of the pool's answers and of the pool
 -- afterwards
 pub record Answered (bytes : List ℕ) (end : End) (P : List Request → List ℕ → State → Type 0) : Type 0 where
@@ -37,16 +31,13 @@ pub record Answered (bytes : List ℕ) (end : End) (P : List Request → List �
   pub run : Run (opening_of header) requests answers now
   pub holds : P requests (flat_map answer_line answers) now
 
--- P holds of the lines of the answers, that of a bad line and the closing lines
-abbrev pub ReportsLines : List ℕ → (List ℕ → Type 0) → End → Type 0
-ReportsLines bytes P end = Answered bytes end (λ requests lines now. P (lines ++ tail_text (told_of now) end))
-
--- The bytes have this end, and P holds of their report and of nothing else: of these lines, or of one line alone where
--- no good header line stands first, or where there is no room.
+-- The bytes have this end, and P holds of their report and of nothing else: of the lines of the answers, that of a bad
+-- line and the closing lines; or of one line alone where no good header line stands first, or where there is no room.
 abbrev pub ReportsTrace : List ℕ → (List ℕ → Type 0) → End → Type 0
-ReportsTrace bytes P Whole = ReportsLines bytes P Whole
+ReportsTrace bytes P Whole = Answered bytes Whole (λ requests lines now. P (lines ++ closing (told_of now)))
 ReportsTrace bytes P (BadLine k) =
-    ReportsLines bytes P (BadLine k) ⊎ ((k ≡ 1) × (BeginsWithHeader bytes → ⊥) × P (bad_line 1))
+    Answered bytes (BadLine k) (λ requests lines now. P (lines ++ (bad_line k ++ closing (told_of now))))
+    ⊎ ((k ≡ 1) × (BeginsWithHeader bytes → ⊥) × P (bad_line 1))
 ReportsTrace bytes P NoRoom = BeginsWithHeader bytes × P no_memory_line
 
 -- ---- a replay

@@ -7,11 +7,12 @@ use Rattle.pool_machine.specs.declared.reply.Reply.{Reply}
 use Rattle.pool_machine.specs.declared.reply.Reply.TheVariants.{Done, Chunk, Slot, Home, Cached, Due, Batch}
 use Rattle.pool_machine.specs.declared.reply.Reply.TheVariants.{Counts as Handled}
 use Rattle.pool_machine.specs.declared.refusal.Refusal.{Refusal}
+use Rattle.pool_machine.specs.Steps.{Answer}
 use Rattle.pool_machine.specs.RefusalNames.{refusal_number, refusal_name}
 use Rattle.trace_audit.specs.declared.auditing.fault.Fault.{Fault}
 use Rattle.trace_audit.specs.declared.auditing.fault.Fault.TheVariants.{Stranger, Doubled, Missing, NoMemory}
 use Rattle.trace_audit.specs.declared.report.closing.DeskCounts.{DeskCounts}
-use Rattle.trace_audit.specs.Machine.{Answer, Tally}
+use Rattle.trace_audit.specs.Machine.{Tally}
 
 abbrev pub reply_text : Reply → List ℕ
 reply_text Done = codes "ok"

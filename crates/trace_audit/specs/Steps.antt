@@ -9,14 +9,14 @@ use Rattle.trace_audit.specs.Grammar.{Lacks, IsRequest}
 use Rattle.event_floor.specs.headline.Headline.{Applies}
 use Rattle.event_floor.specs.headline.Listing.{listing_of}
 use Rattle.pool_machine.specs.State.{State}
-use Rattle.pool_machine.specs.Steps.{Run}
+use Rattle.pool_machine.specs.Steps.{Answer, Run}
 use Rattle.pool_machine.specs.Listing.{Shown}
 use Rattle.region_cut.specs.declared.slot.Slot.{Slot}
-use Rattle.trace_audit.specs.Machine.{Answer, told}
-use Rattle.trace_audit.specs.Report.{answer_line, audit_line, Verdict}
+use Rattle.trace_audit.specs.Machine.{Tally, told, told_of}
+use Rattle.trace_audit.specs.Report.{answer_line, audit_line, bad_line, closing, Verdict}
 use Rattle.trace_audit.specs.Trace.{request_line, BeginsWithHeader, BeginsWithRequest}
 use Rattle.trace_audit.specs.Replay.{BeginsAudited, Failures, FailsBehind, FindsNothing, HoldsOfAll, IsAudited}
-use Rattle.trace_audit.specs.Replay.{IsPartial, ReportsTrace, tail_text, with_audit}
+use Rattle.trace_audit.specs.Replay.{Answered, IsPartial, ReportsTrace, with_audit}
 use Rattle.trace_audit.specs.Wire.{Begins}
 use Rattle.trace_audit.specs.declared.lines.Next.{Next}
 use Rattle.trace_audit.specs.declared.lines.Next.TheVariants.{Text, Over, Bad}
@@ -26,6 +26,16 @@ use Rattle.trace_audit.specs.declared.replaying.ending.End.{End}
 use Rattle.trace_audit.specs.declared.replaying.ending.End.TheVariants.{Whole, BadLine, NoRoom}
 use Rattle.trace_audit.specs.declared.replaying.ending.ReplayError.{ReplayError}
 use Rattle.trace_audit.specs.declared.replaying.ending.ReplayError.TheVariants.{Read, Write}
+
+-- the lines behind the answers
+abbrev pub tail_text : Tally → End → List ℕ
+tail_text tally Whole = closing tally
+tail_text tally (BadLine k) = bad_line k ++ closing tally
+tail_text tally NoRoom = []
+
+-- P holds of the lines of the answers and of those behind them
+abbrev pub ReportsLines : List ℕ → (List ℕ → Type 0) → End → Type 0
+ReportsLines bytes P end = Answered bytes end (λ requests lines now. P (lines ++ tail_text (told_of now) end))
 
 -- what the next line is: bytes is what was held and what was read, held is what is left of it
 abbrev pub Took : List ℕ → List ℕ → Type 0 → Next → Type 0

@@ -141,8 +141,6 @@ pub(crate) fn is_over<R: Source>(held: &mut Held, reader: &mut R) -> Result<bool
     if !held.is_empty() {
         return Ok(false);
     }
-    match refill(held, reader) {
-        Ok(more) => Ok(!more),
-        Err(failed) => Err(failed),
-    }
+    let more = refill(held, reader)?;
+    Ok(!more)
 }

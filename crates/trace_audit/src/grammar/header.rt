@@ -1,8 +1,9 @@
 //! The header line.
-ghost use Rattle.std.specs.Prelude.{◌≡◌, ◌↔◌, IsTrue, IfSome, IfNone};
+ghost use Rattle.std.specs.Prelude.{◌≡◌, ◌^◌, ◌↔◌, IsTrue, IfSome, IfNone};
+ghost use Rattle.region_cut.specs.Classes.{bits_of};
 ghost use Rattle.region_cut.specs.declared.profile.Profile.{Profile};
 ghost use Rattle.trace_audit.specs.declared.grammar.header.Header.{Header};
-ghost use Rattle.trace_audit.specs.Grammar.{profile_text, desks_of, header_text, header_words, AreWords, IsHeader};
+ghost use Rattle.trace_audit.specs.Grammar.{profile_text, header_text, header_words, AreWords, IsHeader};
 
 use super::words::{cut_at, number, two};
 use region_cut::{MAX_CHUNKS, Profile};
@@ -42,7 +43,7 @@ const MAX_WIDTH: u32 = 6;
 
 /// How many desks a floor may have.
 fn most_desks(profile: Profile) -> u32
-    ensures { result ≡ desks_of profile }
+    ensures { result ≡ 2 ^ bits_of profile }
 {
     match profile {
         Profile::Pool => POOL_DESKS,

@@ -2,8 +2,8 @@
 ghost use Rattle.std.specs.Prelude.{◌≡◌, false};
 ghost use Rattle.trace_audit.specs.FloorSlots.{ShowsPool};
 ghost use Rattle.trace_audit.specs.Machine.{told};
-ghost use Rattle.trace_audit.specs.Replay.{error_number, tail_text};
-ghost use Rattle.trace_audit.specs.Steps.{Finishes, TellsAudit, WritesOnly};
+ghost use Rattle.trace_audit.specs.Replay.{error_number};
+ghost use Rattle.trace_audit.specs.Steps.{tail_text, Finishes, TellsAudit, WritesOnly};
 ghost use Rattle.trace_audit.specs.Wire.{Writes};
 
 use crate::Fault;
@@ -60,10 +60,8 @@ fn close_behind<W: Sink>(floor: &Floor<'_>, writer: &mut W, end: End) -> Result<
         End::Whole => close(floor, writer),
         End::BadLine(number) => {
             let line = line_of_bad(number);
-            match write_all(writer, line.as_slice()) {
-                Ok(()) => close(floor, writer),
-                Err(failed) => Err(failed),
-            }
+            write_all(writer, line.as_slice())?;
+            close(floor, writer)
         }
         End::NoRoom => Ok(()),
     }
@@ -86,10 +84,8 @@ fn tell_audit<W: Sink>(
     floors_list_slots();
     sound_states();
     let answer = audit_floor(alloc, floor);
-    match write_audit(answer, writer) {
-        Ok(()) => Ok(Some(answer)),
-        Err(failed) => Err(failed),
-    }
+    write_audit(answer, writer)?;
+    Ok(Some(answer))
 }
 
 /// Writes what stands behind the answers: the closing lines, and the line of an audit where that is asked for.

@@ -92,10 +92,8 @@ fn run<R: Source, W: Sink>(
     floors_tell_counts();
     runs_keep_numbers();
     requests_are_answered();
-    match drive(alloc, floor, held, reader, writer) {
-        Ok(end) => finish(alloc, floor, writer, end, audits),
-        Err(error) => Err(error),
-    }
+    let end = drive(alloc, floor, held, reader, writer)?;
+    finish(alloc, floor, writer, end, audits)
 }
 
 /// Makes a floor over the region, drives it to the end of the trace, and writes what stands behind the answers.
@@ -205,10 +203,8 @@ pub fn replay<R: Source, W: Sink>(
         (λ end. Begins (W.contents writer.old) (W.contents writer.new)) e) }
     ensures up { IfErr result (λ e. Failures (R.has_failed reader.new) (W.has_failed writer.new) e) }
 {
-    match play(alloc, reader, writer, false) {
-        Ok((end, _)) => Ok(end),
-        Err(error) => Err(error),
-    }
+    let (end, _audit) = play(alloc, reader, writer, false)?;
+    Ok(end)
 }
 
 /// Does what [`replay`] does, audits the floor at the end, and writes the line of the audit behind the closing lines.

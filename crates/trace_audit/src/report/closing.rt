@@ -114,10 +114,7 @@ pub(crate) fn close<W: Sink>(floor: &Floor<'_>, writer: &mut W) -> Result<(), Fa
     let desks = floor.desk_count();
     for desk in 0..desks {
         let line = line_of_desk(desk, counts_of(floor, desk));
-        match write_all(writer, line.as_slice()) {
-            Ok(()) => {}
-            Err(failed) => return Err(failed),
-        }
+        write_all(writer, line.as_slice())?;
     }
     let line = line_of_end(floor);
     write_all(writer, line.as_slice())

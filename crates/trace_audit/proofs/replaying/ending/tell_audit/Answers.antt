@@ -1,23 +1,26 @@
 use Rattle.std.proofs.Common.{Some, sym, subst}
+use Rattle.std.proofs.lemmas.Result.{err_from_is_err_and}
 use Rattle.trace_audit.specs.Steps.{IsTold}
 use Rattle.trace_audit.proofs.OnceOnFloors.{finds_nothing}
 use Rattle.trace_audit.proofs.replaying.ending.tell_audit.Goals as goal
 
-pub returns-in-Ok : goal.returns-in-Ok
-returns-in-Ok g c = (
+pub returns : goal.returns
+returns g c = (
   subst (λ b. IsTold b (Some c.audit_floor-answer.result)) (sym c.if-not-audits.false)
       (finds_nothing c.sound_states.ensures.reached c.floors_list_slots.ensures c.args.floor.now c.audit_floor-answer.result c.requires.shows c.audit_floor-answer.ensures.err),
-  c.in-Ok.ensures.0,
-  c.in-Ok.ensures.1,
+  c.in_ok-write_audit.ensures.0,
+  c.in_ok-write_audit.ensures.1,
 )
 
-pub returns-in-Err : goal.returns-in-Err
-returns-in-Err g c = (
-  (
-    Some c.audit_floor-answer.result,
-    subst (λ b. IsTold b (Some c.audit_floor-answer.result)) (sym c.if-not-audits.false)
-        (finds_nothing c.sound_states.ensures.reached c.floors_list_slots.ensures c.args.floor.now c.audit_floor-answer.result c.requires.shows c.audit_floor-answer.ensures.err),
-    c.in-Err.ensures.0,
-  ),
-  c.in-Err.ensures.1,
-)
+pub returns-in_err-write_audit : goal.returns-in_err-write_audit
+returns-in_err-write_audit g c =
+    let p = err_from_is_err_and c.from_residual.result c.from_residual.ensures.1 in
+    rw p.1 (
+      (
+        Some c.audit_floor-answer.result,
+        subst (λ b. IsTold b (Some c.audit_floor-answer.result)) (sym c.if-not-audits.false)
+            (finds_nothing c.sound_states.ensures.reached c.floors_list_slots.ensures c.args.floor.now c.audit_floor-answer.result c.requires.shows c.audit_floor-answer.ensures.err),
+        c.in_err-write_audit.ensures.0,
+      ),
+      c.in_err-write_audit.ensures.1,
+    )
