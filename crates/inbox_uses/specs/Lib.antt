@@ -1,1 +1,3 @@
 pub mod Handled
+pub mod Marked
+pub mod Supplied

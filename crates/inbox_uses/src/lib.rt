@@ -8,7 +8,9 @@ mod crossing;
 mod handling;
 mod posting;
 mod seating;
+mod supply;
 mod taking;
+mod tally;
 #[cfg(test)]
 mod tests;
 mod workers;
@@ -20,5 +22,7 @@ pub use crossing::{
 pub use handling::take_and_handle;
 pub use posting::{Posting, add_sender, deliver, post_all};
 pub use seating::{put_seat, take_last_seat};
-pub use taking::{Taking, Tally, mark, mark_of};
+pub use supply::{OWNER, Supply, region};
+pub use taking::Taking;
+pub use tally::{Tally, mark, mark_of};
 pub use workers::{Worker, run_all, run_beside, run_both};

@@ -1,58 +1,9 @@
 //! What a receiver does with its seat.
-ghost use Rattle.std.specs.Prelude.{◌≡◌};
-
-use crate::Worker;
+use crate::{Tally, Worker};
 use batch_inbox::{Inbox, TakeSeat};
-use digit_route::Batch;
-use slot_chain::Buf;
 use std::sync::Wait;
 use std::sync::atomic::{AtomicU64, Ordering};
 use std::thread;
-
-/// Writes a number to the front of a buffer.
-pub fn mark(buf: &mut Buf<'_>, number: u16) {
-    let [low, high] = number.to_le_bytes();
-    let bytes = buf.bytes_mut();
-    if bytes.len() >= 2 {
-        bytes[0] = low;
-        bytes[1] = high;
-    }
-}
-
-/// The number at the front of the last buffer of a batch.
-pub fn mark_of(batch: Batch<'_>) -> Option<u16> {
-    let mut chain = batch.into_chain();
-    let buf = chain.pop()?;
-    let bytes = buf.bytes();
-    if bytes.len() >= 2 {
-        return Some(u16::from_le_bytes([bytes[0], bytes[1]]));
-    }
-    None
-}
-
-/// What a receiver took: how many batches of each sender, and whether each came in its turn.
-#[derive(Drop)]
-pub struct Tally {
-    pub taken: Vec<u64>,
-    pub in_order: bool,
-}
-
-impl Tally {
-    /// One batch more. It comes in its turn where its mark is how many came of its sender before.
-    pub fn add(&mut self, batch: Batch<'_>) {
-        let sender = batch.sender() as usize;
-        let number = mark_of(batch);
-        if sender >= self.taken.len() {
-            self.in_order = false;
-            return;
-        }
-        let before = self.taken[sender];
-        if number.map(|number| number as u64) != Some(before) {
-            self.in_order = false;
-        }
-        self.taken[sender] = before.saturating_add(1);
-    }
-}
 
 /// A receiver that takes until all senders have finished and nothing is left.
 #[derive(Drop)]

@@ -1,7 +1,6 @@
 //! Inboxes and seats that are dropped, and an inbox that nobody used.
-use super::{OWNER, batch_of, claim, desk, open, parts, post, region};
-use crate::take_last_seat;
-use region_cut::Part;
+use super::{batch_of, open, post};
+use crate::{Supply, region, take_last_seat};
 use std::alloc::Global;
 use std::process::Abort;
 use std::sync::Wait;
@@ -19,21 +18,18 @@ fn a_new_inbox_hands_out_nothing(rt: HostRuntime) {
 }
 
 // A post to an inbox without a receiver is answered Ok, and the inbox goes with its batch.
-fn posts_to_nobody<'r, R: Abort + Wait>(rt: &R, alloc: Global, mut parts: Vec<Part<'r>>) {
-    let mut owner = desk(rt, OWNER);
-    let mut sender = desk(rt, 0);
-    claim(rt, &mut owner, &mut parts);
+fn posts_to_nobody<'r, R: Abort + Wait>(rt: &R, alloc: Global, mut supply: Supply<'r>) {
     let (inbox, take, mut seats) = open(rt, alloc, 1);
     let mut seat = take_last_seat(&inbox, &mut seats).expect(rt, "a seat");
     drop(take);
-    let batch = batch_of(rt, alloc, &mut owner, &mut sender, 0);
+    let batch = batch_of(rt, alloc, &mut supply, 0, 0);
     post(rt, &inbox, &mut seat, batch);
     drop(seat);
 }
 
 #[test]
 fn a_post_succeeds_without_a_receiver(rt: HostRuntime) {
-    let mut region = region(&rt, rt.alloc(), 1);
-    let parts = parts(&rt, rt.alloc(), &mut region);
-    posts_to_nobody(&rt, rt.alloc(), parts);
+    let mut region = region(rt.alloc(), 1).expect(&rt, "memory");
+    let supply = Supply::new(rt.alloc(), &mut region).expect(&rt, "chunks");
+    posts_to_nobody(&rt, rt.alloc(), supply);
 }

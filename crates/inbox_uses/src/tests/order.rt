@@ -2,11 +2,9 @@
 ghost use Rattle.std.specs.Prelude.{◌≡◌, length};
 ghost use Rattle.batch_inbox.specs.States.{AreSeatsOf};
 
-use super::{OWNER, batch_of, claim, desk, open, parts, post, region, takes};
-use crate::{mark_of, put_seat, take_last_seat};
+use super::{batch_of, open, post, takes};
+use crate::{Supply, mark_of, put_seat, region, take_last_seat};
 use batch_inbox::{Inbox, Rest, SendSeat, TakeSeat};
-use pool_desk::Desk;
-use region_cut::Part;
 use std::alloc::Global;
 use std::process::Abort;
 use std::sync::Wait;
@@ -17,15 +15,14 @@ fn post_some<'r, R: Abort + Wait>(
     alloc: Global,
     inbox: &Inbox<'r>,
     seat: &mut SendSeat<'r>,
-    owner: &mut Desk<'r>,
-    sender: &mut Desk<'r>,
+    supply: &mut Supply<'r>,
     count: u16,
 )
     requires { seat.old.inbox ≡ inbox.now }
     ensures { (seat.new.inbox ≡ seat.old.inbox) × (seat.new.sender ≡ seat.old.sender) }
 {
     for number in 0..count {
-        let batch = batch_of(rt, alloc, owner, sender, number);
+        let batch = batch_of(rt, alloc, supply, 0, number);
         post(rt, inbox, seat, batch);
     }
 }
@@ -53,13 +50,10 @@ fn drained<'r, R: Abort + Wait>(
 }
 
 // Three are posted. One is taken, two are left, and then none.
-fn takes_and_drains<'r, R: Abort + Wait>(rt: &R, alloc: Global, mut parts: Vec<Part<'r>>) {
-    let mut owner = desk(rt, OWNER);
-    let mut sender = desk(rt, 0);
-    claim(rt, &mut owner, &mut parts);
+fn takes_and_drains<'r, R: Abort + Wait>(rt: &R, alloc: Global, mut supply: Supply<'r>) {
     let (inbox, mut take, mut seats) = open(rt, alloc, 1);
     let mut seat = take_last_seat(&inbox, &mut seats).expect(rt, "a seat");
-    post_some(rt, alloc, &inbox, &mut seat, &mut owner, &mut sender, 3);
+    post_some(rt, alloc, &inbox, &mut seat, &mut supply, 3);
     takes(rt, &inbox, &mut take, 0, 0);
     let mut rest = drained(rt, inbox, take, seat, seats);
     leaves(rt, &mut rest, 1);
@@ -69,19 +63,16 @@ fn takes_and_drains<'r, R: Abort + Wait>(rt: &R, alloc: Global, mut parts: Vec<P
 
 #[test]
 fn what_is_not_taken_is_drained_in_order(rt: HostRuntime) {
-    let mut region = region(&rt, rt.alloc(), 1);
-    let parts = parts(&rt, rt.alloc(), &mut region);
-    takes_and_drains(&rt, rt.alloc(), parts);
+    let mut region = region(rt.alloc(), 1).expect(&rt, "memory");
+    let supply = Supply::new(rt.alloc(), &mut region).expect(&rt, "chunks");
+    takes_and_drains(&rt, rt.alloc(), supply);
 }
 
 // All of a hundred are taken, and then none.
-fn takes_all<'r, R: Abort + Wait>(rt: &R, alloc: Global, mut parts: Vec<Part<'r>>) {
-    let mut owner = desk(rt, OWNER);
-    let mut sender = desk(rt, 0);
-    claim(rt, &mut owner, &mut parts);
+fn takes_all<'r, R: Abort + Wait>(rt: &R, alloc: Global, mut supply: Supply<'r>) {
     let (inbox, mut take, mut seats) = open(rt, alloc, 1);
     let mut seat = take_last_seat(&inbox, &mut seats).expect(rt, "a seat");
-    post_some(rt, alloc, &inbox, &mut seat, &mut owner, &mut sender, 100);
+    post_some(rt, alloc, &inbox, &mut seat, &mut supply, 100);
     for number in 0..100 {
         takes(rt, &inbox, &mut take, 0, number);
     }
@@ -90,7 +81,7 @@ fn takes_all<'r, R: Abort + Wait>(rt: &R, alloc: Global, mut parts: Vec<Part<'r>
 
 #[test]
 fn what_was_posted_is_taken(rt: HostRuntime) {
-    let mut region = region(&rt, rt.alloc(), 1);
-    let parts = parts(&rt, rt.alloc(), &mut region);
-    takes_all(&rt, rt.alloc(), parts);
+    let mut region = region(rt.alloc(), 1).expect(&rt, "memory");
+    let supply = Supply::new(rt.alloc(), &mut region).expect(&rt, "chunks");
+    takes_all(&rt, rt.alloc(), supply);
 }

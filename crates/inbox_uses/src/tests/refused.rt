@@ -1,4 +1,4 @@
-//! The numbers of refusals, and what they read.
+//! The numbers of all refusals, and what they read.
 use batch_inbox::PostError;
 use std::alloc::{AllocError, Global};
 use std::test::Fail;
@@ -12,8 +12,13 @@ fn text_of(alloc: Global, error: PostError) -> Result<String, AllocError> {
 }
 
 #[test]
-fn no_room_is_refusal_1(rt: HostRuntime) -> Result<(), Fail> {
-    assert_eq!(rt; PostError::NoRoom.number(), 1);
-    assert_eq!(rt; text_of(rt.alloc(), PostError::NoRoom)?.as_str(), "no room");
+fn refusals_have_numbers_and_texts(rt: HostRuntime) -> Result<(), Fail> {
+    for (error, number, text) in [
+        (PostError::NoRoom, 1, "no room"),
+        (PostError::NoNode, 2, "no node"),
+    ] {
+        assert_eq!(rt; error.number(), number);
+        assert_eq!(rt; text_of(rt.alloc(), error)?.as_str(), text);
+    }
     Ok(())
 }

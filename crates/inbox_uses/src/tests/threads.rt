@@ -2,14 +2,13 @@
 ghost use Rattle.std.specs.Prelude.{◌≡◌, All, length};
 ghost use Rattle.batch_inbox.specs.States.{AreSeatsOf};
 
-use super::{OWNER, batch_of, claim, desk, open, parts, region, takes};
+use super::{open, takes};
 use crate::{
-    Posting, Taking, Tally, add_sender, put_seat, run_all, run_beside, run_both, take_last_seat,
+    Posting, Supply, Taking, Tally, add_sender, put_seat, region, run_all, run_beside, run_both,
+    take_last_seat,
 };
 use batch_inbox::{Inbox, Rest, SendSeat, TakeSeat};
 use digit_route::Batch;
-use pool_desk::Desk;
-use region_cut::{Class, Part};
 use std::alloc::Global;
 use std::process::Abort;
 use std::sync::Wait;
@@ -26,28 +25,6 @@ const RUNS: u32 = 10;
 
 // Chunks for all of them.
 const CHUNKS: usize = 313;
-
-// So many batches of this sender to the owner, with the marks from 0 on.
-fn batches<'r>(
-    rt: &impl Abort,
-    alloc: Global,
-    owner: &mut Desk<'r>,
-    parts: &mut Vec<Part<'r>>,
-    sender: u16,
-    count: u16,
-) -> Vec<Batch<'r>> {
-    let mut sender = desk(rt, sender);
-    let class = Class::new(0).unwrap_or(Class::FIRST);
-    let mut batches = Vec::new(alloc);
-    for number in 0..count {
-        if !owner.has_home(class) {
-            claim(rt, owner, parts);
-        }
-        let batch = batch_of(rt, alloc, owner, &mut sender, number);
-        assert!(rt; batches.push(batch).is_ok());
-    }
-    batches
-}
 
 // One sender posts from a thread of its own.
 fn posts_from_a_thread<'r, R: Abort + Wait + Threads + Sync>(
@@ -71,9 +48,8 @@ fn posts_from_a_thread<'r, R: Abort + Wait + Threads + Sync>(
     assert!(rt; run_all(rt, workers).is_ok());
 }
 
-fn joined<'r, R: Abort + Wait + Threads + Sync>(rt: &R, alloc: Global, mut parts: Vec<Part<'r>>) {
-    let mut owner = desk(rt, OWNER);
-    let batches = batches(rt, alloc, &mut owner, &mut parts, 0, 1);
+fn joined<'r, R: Abort + Wait + Threads + Sync>(rt: &R, alloc: Global, mut supply: Supply<'r>) {
+    let batches = supply.batches(alloc, 0, 1).expect(rt, "a batch");
     let (inbox, mut take, mut seats) = open(rt, alloc, 1);
     let seat = take_last_seat(&inbox, &mut seats).expect(rt, "a seat");
     posts_from_a_thread(rt, alloc, &inbox, seat, batches);
@@ -83,9 +59,9 @@ fn joined<'r, R: Abort + Wait + Threads + Sync>(rt: &R, alloc: Global, mut parts
 
 #[test]
 fn what_a_joined_thread_posted_is_taken(rt: HostRuntime) {
-    let mut region = region(&rt, rt.alloc(), 1);
-    let parts = parts(&rt, rt.alloc(), &mut region);
-    joined(&rt, rt.alloc(), parts);
+    let mut region = region(rt.alloc(), 1).expect(&rt, "memory");
+    let supply = Supply::new(rt.alloc(), &mut region).expect(&rt, "chunks");
+    joined(&rt, rt.alloc(), supply);
 }
 
 // Two senders post, each from a thread of its own.
@@ -142,16 +118,6 @@ fn drained<'r, R: Abort + Wait>(
     inbox.drain(rt, take, seats)
 }
 
-fn tally(rt: &impl Abort, alloc: Global, senders: u16) -> Tally {
-    let taken = Vec::from_elem(alloc, 0, senders as usize)
-        .ok()
-        .expect(rt, "memory");
-    Tally {
-        taken,
-        in_order: true,
-    }
-}
-
 // The other two are left, in their order, and nothing else.
 fn ends_with_two<'r, R: Abort + Wait>(rt: &R, mut rest: Rest<'r>, mut tally: Tally) {
     tally.add(rest.next(rt).expect(rt, "two are left"));
@@ -162,11 +128,10 @@ fn ends_with_two<'r, R: Abort + Wait>(rt: &R, mut rest: Rest<'r>, mut tally: Tal
 }
 
 // Seat 0 posts A and then B, seat 2 posts C. One is taken, two are drained, and B never before A.
-fn three<'r, R: Abort + Wait + Threads + Sync>(rt: &R, alloc: Global, mut parts: Vec<Part<'r>>) {
-    let mut owner = desk(rt, OWNER);
-    let a_and_b = batches(rt, alloc, &mut owner, &mut parts, 0, 2);
-    let c = batches(rt, alloc, &mut owner, &mut parts, 2, 1);
-    let mut tally = tally(rt, alloc, 3);
+fn three<'r, R: Abort + Wait + Threads + Sync>(rt: &R, alloc: Global, mut supply: Supply<'r>) {
+    let a_and_b = supply.batches(alloc, 0, 2).expect(rt, "A and B");
+    let c = supply.batches(alloc, 2, 1).expect(rt, "C");
+    let mut tally = Tally::new(alloc, 3).expect(rt, "memory");
     let (inbox, mut take, mut seats) = open(rt, alloc, 3);
     let third = take_last_seat(&inbox, &mut seats).expect(rt, "seat 2");
     let second = take_last_seat(&inbox, &mut seats).expect(rt, "seat 1");
@@ -179,9 +144,9 @@ fn three<'r, R: Abort + Wait + Threads + Sync>(rt: &R, alloc: Global, mut parts:
 
 #[test]
 fn what_three_senders_posted_is_drained_in_order(rt: HostRuntime) {
-    let mut region = region(&rt, rt.alloc(), 1);
-    let parts = parts(&rt, rt.alloc(), &mut region);
-    three(&rt, rt.alloc(), parts);
+    let mut region = region(rt.alloc(), 1).expect(&rt, "memory");
+    let supply = Supply::new(rt.alloc(), &mut region).expect(&rt, "chunks");
+    three(&rt, rt.alloc(), supply);
 }
 
 // A sender for each seat, from the last one on.
@@ -190,18 +155,18 @@ fn senders<'r, 's>(
     alloc: Global,
     inbox: &'s Inbox<'r>,
     mut seats: Vec<SendSeat<'r>>,
-    parts: Vec<Part<'r>>,
+    mut supply: Supply<'r>,
     finished: &'s AtomicU64,
 ) -> Vec<Posting<'r, 's>>
     requires { AreSeatsOf inbox.now seats.items }
     ensures { All (λ p. p.seat.inbox ≡ p.inbox.now) result.items }
 {
-    let mut parts = parts;
-    let mut owner = desk(rt, OWNER);
     let mut senders = Vec::new(alloc);
     for _ in 0..SENDERS {
         let seat = take_last_seat(inbox, &mut seats).expect(rt, "a seat");
-        let batches = batches(rt, alloc, &mut owner, &mut parts, seat.sender(), BATCHES);
+        let batches = supply
+            .batches(alloc, seat.sender(), BATCHES)
+            .expect(rt, "batches");
         let sender = Posting {
             inbox,
             seat,
@@ -214,11 +179,11 @@ fn senders<'r, 's>(
 }
 
 // All batches of eight senders are taken while they post, each once, and each sender's in its order.
-fn storm<'r, R: Abort + Wait + Threads + Sync>(rt: &R, alloc: Global, parts: Vec<Part<'r>>) {
+fn storm<'r, R: Abort + Wait + Threads + Sync>(rt: &R, alloc: Global, supply: Supply<'r>) {
     let finished = AtomicU64::new(0);
-    let tally = tally(rt, alloc, SENDERS);
+    let tally = Tally::new(alloc, SENDERS).expect(rt, "memory");
     let (inbox, seat, seats) = open(rt, alloc, SENDERS);
-    let workers = senders(rt, alloc, &inbox, seats, parts, &finished);
+    let workers = senders(rt, alloc, &inbox, seats, supply, &finished);
     let receiver = Taking {
         inbox: &inbox,
         seat,
@@ -228,15 +193,14 @@ fn storm<'r, R: Abort + Wait + Threads + Sync>(rt: &R, alloc: Global, parts: Vec
     };
     let (posted, (_seat, tally)) = run_both(rt, workers, receiver);
     assert!(rt; posted.is_ok());
-    assert!(rt; tally.in_order);
-    assert!(rt; tally.taken.iter().all(|taken| *taken == BATCHES as u64));
+    assert!(rt; tally.has_all(BATCHES as u64));
 }
 
 #[test]
 fn what_eight_threads_post_is_taken_while_they_post(rt: HostRuntime) {
     for _ in 0..RUNS {
-        let mut region = region(&rt, rt.alloc(), CHUNKS);
-        let parts = parts(&rt, rt.alloc(), &mut region);
-        storm(&rt, rt.alloc(), parts);
+        let mut region = region(rt.alloc(), CHUNKS).expect(&rt, "memory");
+        let supply = Supply::new(rt.alloc(), &mut region).expect(&rt, "chunks");
+        storm(&rt, rt.alloc(), supply);
     }
 }

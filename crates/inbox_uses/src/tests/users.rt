@@ -1,11 +1,10 @@
 //! Generic callers, over the inbox and over a user's own.
 ghost use Rattle.std.specs.Prelude.{◌≡◌};
 
-use super::{OWNER, batch_of, claim, desk, open, parts, region};
-use crate::{Counting, take_last_seat};
+use super::{batch_of, open};
+use crate::{Counting, Supply, region, take_last_seat};
 use batch_inbox::{Inbox, Mail, SendSeat, TakeSeat};
 use digit_route::Batch;
-use region_cut::Part;
 use std::alloc::Global;
 use std::process::Abort;
 use std::sync::Wait;
@@ -31,19 +30,16 @@ fn counted<'r, R: Abort + Wait>(
     assert!(rt; inbox.take(rt, take).is_none());
 }
 
-fn counts<'r, R: Abort + Wait>(rt: &R, alloc: Global, mut parts: Vec<Part<'r>>) {
-    let mut owner = desk(rt, OWNER);
-    let mut sender = desk(rt, 0);
-    claim(rt, &mut owner, &mut parts);
+fn counts<'r, R: Abort + Wait>(rt: &R, alloc: Global, mut supply: Supply<'r>) {
     let (inbox, mut take, mut seats) = open(rt, alloc, 1);
     let mut seat = take_last_seat(&inbox, &mut seats).expect(rt, "a seat");
-    let batch = batch_of(rt, alloc, &mut owner, &mut sender, 0);
+    let batch = batch_of(rt, alloc, &mut supply, 0, 0);
     counted(rt, inbox, &mut take, &mut seat, batch);
 }
 
 #[test]
 fn an_inbox_of_a_users_own_takes_what_was_posted(rt: HostRuntime) {
-    let mut region = region(&rt, rt.alloc(), 1);
-    let parts = parts(&rt, rt.alloc(), &mut region);
-    counts(&rt, rt.alloc(), parts);
+    let mut region = region(rt.alloc(), 1).expect(&rt, "memory");
+    let supply = Supply::new(rt.alloc(), &mut region).expect(&rt, "chunks");
+    counts(&rt, rt.alloc(), supply);
 }
