@@ -1,5 +1,6 @@
 //! Batches for whoever tries an inbox, of a region's buffers.
-ghost use Rattle.std.specs.Prelude.{◌≡◌, All, IfOk, IfSome, length};
+ghost use Rattle.std.specs.Prelude.{◌≡◌, ◌≤◌, ◌*◌, All, IfOk, IfSome, length, replicate};
+ghost use Rattle.region_cut.specs.Limits.{chunk_limit};
 ghost use Rattle.inbox_uses.specs.Supplied.{IsSupplied, supplied_digits};
 
 use crate::mark;
@@ -20,7 +21,9 @@ const SIZE: usize = 16;
 
 /// The region of a [`Supply`] of so many chunks: twice their bytes, for a second try to cut them.
 /// It is zeroed. A refused allocation is tried once more.
-pub fn region(alloc: Global, chunks: usize) -> Result<Vec<u8>, AllocError> {
+pub fn region(alloc: Global, chunks: usize) -> Result<Vec<u8>, AllocError>
+    ensures { chunks ≤ chunk_limit → IfOk result (λ r. r.items ≡ replicate (chunks * 8192) 0) }
+{
     let len = chunks.saturating_mul(2 * CHUNK);
     match Vec::from_elem(alloc, 0, len) {
         Ok(bytes) => Ok(bytes),
@@ -37,7 +40,7 @@ pub struct Supply<'r> {
     owner: Desk<'r>,
     parts: Vec<Part<'r>>,
     ghost numbered: { owner.number ≡ 9 },
-    ghost read: { owner.digits ≡ record { width = 2; bits = 6 } },
+    ghost read: { owner.digits ≡ supplied_digits },
 }
 
 impl<'r> Supply<'r> {

@@ -1,6 +1,7 @@
 //! Marks on buffers, by which a receiver tells in which order batches come.
-ghost use Rattle.std.specs.Prelude.{◌≡◌, ◌≢◌, ◌≤◌, ◌↔◌, ℕ, All, IfOk, IfSome, IsTrue, true, false};
+ghost use Rattle.std.specs.Prelude.{◌≡◌, ◌≢◌, ◌<◌, ◌≤◌, ◌+◌, ◌↔◌, ℕ, All, IfOk, IfSome, IsTrue, true, false};
 ghost use Rattle.std.specs.Prelude.{length, replicate, slice_index_or};
+ghost use Rattle.slot_chain.specs.Counts.{capped};
 ghost use Rattle.inbox_uses.specs.Marked.{HasMark, front_number};
 
 use digit_route::Batch;
@@ -54,6 +55,9 @@ impl Tally {
     /// One batch more. It comes in its turn where its mark is how many came of its sender before.
     pub fn add(&mut self, batch: Batch<'_>)
         ensures senders { length self.new.taken.items ≡ length self.old.taken.items }
+        ensures counted { batch.entry.sender < length self.old.taken.items
+            → slice_index_or self.new.taken.items batch.entry.sender 0
+            ≡ capped (slice_index_or self.old.taken.items batch.entry.sender 0 + 1) }
         ensures others { (k : ℕ) → k ≢ batch.entry.sender
             → slice_index_or self.new.taken.items k 0 ≡ slice_index_or self.old.taken.items k 0 }
         ensures late { self.old.in_order ≡ false → self.new.in_order ≡ false }

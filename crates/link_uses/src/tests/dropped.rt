@@ -1,8 +1,8 @@
 //! Inboxes and seats that are dropped, and an inbox that nobody used.
 use super::nodes::post_some;
-use super::{OWNER, claim, desk, open, parts, region};
+use super::open;
 use crate::take_last_seat;
-use region_cut::Part;
+use inbox_uses::{Supply, region};
 use std::alloc::Global;
 use std::process::Abort;
 
@@ -19,20 +19,17 @@ fn a_new_inbox_hands_out_nothing(rt: HostRuntime) {
 }
 
 // Posts to an inbox without a receiver are answered Ok, and the inbox goes with its batches.
-fn posts_to_nobody<'r>(rt: &impl Abort, alloc: Global, mut parts: Vec<Part<'r>>) {
-    let mut owner = desk(rt, OWNER);
-    let mut sender = desk(rt, 0);
-    claim(rt, &mut owner, &mut parts);
+fn posts_to_nobody<'r>(rt: &impl Abort, alloc: Global, mut supply: Supply<'r>) {
     let (inbox, take, mut seats) = open(rt, alloc, 1);
     let mut seat = take_last_seat(&inbox, &mut seats).expect(rt, "a seat");
     drop(take);
-    post_some(rt, alloc, &inbox, &mut seat, &mut owner, &mut sender, 0, 16);
+    post_some(rt, alloc, &inbox, &mut seat, &mut supply, 0, 16);
     drop(seat);
 }
 
 #[test]
 fn a_post_succeeds_without_a_receiver(rt: HostRuntime) {
-    let mut region = region(&rt, rt.alloc(), 1);
-    let parts = parts(&rt, rt.alloc(), &mut region);
-    posts_to_nobody(&rt, rt.alloc(), parts);
+    let mut region = region(rt.alloc(), 1).expect(&rt, "memory");
+    let supply = Supply::new(rt.alloc(), &mut region).expect(&rt, "chunks");
+    posts_to_nobody(&rt, rt.alloc(), supply);
 }

@@ -1,22 +1,18 @@
 //! Batches that are attached and not linked yet.
-use super::{OWNER, attach, batch_of, claim, desk, open, parts, post, region, takes};
+use super::{attach, batch_of, open, post, takes};
 use crate::{put_seat, take_last_seat};
-use inbox_uses::mark_of;
-use region_cut::Part;
+use inbox_uses::{Supply, mark_of, region};
 use std::alloc::Global;
 use std::process::Abort;
 
 // Seat 0 attaches A. Seat 1 attaches and links B, which can't be reached. Seat 0 links A, and then
 // A is taken, and B.
-fn holds_back<'r>(rt: &impl Abort, alloc: Global, mut parts: Vec<Part<'r>>) {
-    let mut owner = desk(rt, OWNER);
-    let mut desks = (desk(rt, 0), desk(rt, 1));
-    claim(rt, &mut owner, &mut parts);
+fn holds_back<'r>(rt: &impl Abort, alloc: Global, mut supply: Supply<'r>) {
     let (inbox, mut take, mut seats) = open(rt, alloc, 2);
     let mut second = take_last_seat(&inbox, &mut seats).expect(rt, "seat 1");
     let mut first = take_last_seat(&inbox, &mut seats).expect(rt, "seat 0");
-    let a = batch_of(rt, alloc, &mut owner, &mut desks.0, 0);
-    let b = batch_of(rt, alloc, &mut owner, &mut desks.1, 1);
+    let a = batch_of(rt, alloc, &mut supply, 0, 0);
+    let b = batch_of(rt, alloc, &mut supply, 1, 1);
     let attached = attach(rt, &inbox, &mut first, a);
     post(rt, &inbox, &mut second, b);
     assert!(rt; inbox.take(&mut take).is_none());
@@ -30,19 +26,16 @@ fn holds_back<'r>(rt: &impl Abort, alloc: Global, mut parts: Vec<Part<'r>>) {
 
 #[test]
 fn a_half_linked_batch_holds_back_the_next(rt: HostRuntime) {
-    let mut region = region(&rt, rt.alloc(), 1);
-    let parts = parts(&rt, rt.alloc(), &mut region);
-    holds_back(&rt, rt.alloc(), parts);
+    let mut region = region(rt.alloc(), 1).expect(&rt, "memory");
+    let supply = Supply::new(rt.alloc(), &mut region).expect(&rt, "chunks");
+    holds_back(&rt, rt.alloc(), supply);
 }
 
 // Seat 0 attaches A and drops its link. The seat is not at rest, and A is drained.
-fn forgets<'r>(rt: &impl Abort, alloc: Global, mut parts: Vec<Part<'r>>) {
-    let mut owner = desk(rt, OWNER);
-    let mut sender = desk(rt, 0);
-    claim(rt, &mut owner, &mut parts);
+fn forgets<'r>(rt: &impl Abort, alloc: Global, mut supply: Supply<'r>) {
     let (inbox, mut take, mut seats) = open(rt, alloc, 1);
     let mut seat = take_last_seat(&inbox, &mut seats).expect(rt, "a seat");
-    let a = batch_of(rt, alloc, &mut owner, &mut sender, 7);
+    let a = batch_of(rt, alloc, &mut supply, 0, 7);
     drop(attach(rt, &inbox, &mut seat, a));
     assert!(rt; !seat.at_rest());
     assert!(rt; inbox.take(&mut take).is_none());
@@ -55,7 +48,7 @@ fn forgets<'r>(rt: &impl Abort, alloc: Global, mut parts: Vec<Part<'r>>) {
 
 #[test]
 fn a_batch_that_was_never_linked_is_drained(rt: HostRuntime) {
-    let mut region = region(&rt, rt.alloc(), 1);
-    let parts = parts(&rt, rt.alloc(), &mut region);
-    forgets(&rt, rt.alloc(), parts);
+    let mut region = region(rt.alloc(), 1).expect(&rt, "memory");
+    let supply = Supply::new(rt.alloc(), &mut region).expect(&rt, "chunks");
+    forgets(&rt, rt.alloc(), supply);
 }

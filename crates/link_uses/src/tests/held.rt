@@ -1,13 +1,11 @@
 //! A sender that is held between its two steps, in a thread of its own.
 ghost use Rattle.std.specs.Prelude.{◌≡◌, None};
 
-use super::threads::{batches, tally};
-use super::{OWNER, belongs, desk, open, parts, region};
+use super::{belongs, open};
 use crate::{send_all, take_last_seat};
 use digit_route::Batch;
-use inbox_uses::{Tally, Worker, run_beside};
+use inbox_uses::{Supply, Tally, Worker, region, run_beside};
 use link_inbox::{LinkInbox, SendSeat, TakeSeat};
-use region_cut::Part;
 use std::alloc::Global;
 use std::process::Abort;
 use std::sync::Wait;
@@ -131,14 +129,14 @@ fn take_so_many<'r>(inbox: &LinkInbox<'r>, take: &mut TakeSeat<'r>, tally: &mut 
 }
 
 // Seat 0 attaches A and is held. Seat 1 posts three behind it. None is taken before A is linked.
-fn holds<'r, R: Abort + Wait + Threads + Sync>(rt: &R, alloc: Global, mut parts: Vec<Part<'r>>) {
+fn holds<'r, R: Abort + Wait + Threads + Sync>(rt: &R, alloc: Global, mut supply: Supply<'r>) {
     let is_attached = AtomicBool::new(false);
     let may_go_on = AtomicBool::new(false);
-    let mut owner = desk(rt, OWNER);
-    let mut first = batches(rt, alloc, &mut owner, &mut parts, 0, 1);
-    let batch = first.pop().expect(rt, "A");
-    let batches = batches(rt, alloc, &mut owner, &mut parts, 1, BEHIND);
-    let tally = tally(rt, alloc, 2);
+    let batch = supply.batch(alloc, 0, 0).expect(rt, "A");
+    let batches = supply
+        .batches(alloc, 1, BEHIND)
+        .expect(rt, "those behind it");
+    let tally = Tally::new(alloc, 2).expect(rt, "memory");
     let (inbox, take, mut seats) = open(rt, alloc, 2);
     let other = take_last_seat(&inbox, &mut seats).expect(rt, "seat 1");
     let seat = take_last_seat(&inbox, &mut seats).expect(rt, "seat 0");
@@ -166,7 +164,7 @@ fn holds<'r, R: Abort + Wait + Threads + Sync>(rt: &R, alloc: Global, mut parts:
 
 #[test]
 fn a_held_sender_holds_back_those_behind_it(rt: HostRuntime) {
-    let mut region = region(&rt, rt.alloc(), 1);
-    let parts = parts(&rt, rt.alloc(), &mut region);
-    holds(&rt, rt.alloc(), parts);
+    let mut region = region(rt.alloc(), 1).expect(&rt, "memory");
+    let supply = Supply::new(rt.alloc(), &mut region).expect(&rt, "chunks");
+    holds(&rt, rt.alloc(), supply);
 }

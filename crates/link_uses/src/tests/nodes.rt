@@ -1,11 +1,10 @@
 //! A sender has 16 nodes, and uses them in turn.
 ghost use Rattle.std.specs.Prelude.{◌≡◌, None};
 
-use super::{OWNER, batch_of, claim, desk, open, parts, post, post_fails, region, takes};
+use super::{batch_of, open, post, post_fails, takes};
 use crate::take_last_seat;
+use inbox_uses::{Supply, region};
 use link_inbox::{LinkInbox, SendSeat, TakeSeat};
-use pool_desk::Desk;
-use region_cut::Part;
 use std::alloc::Global;
 use std::process::Abort;
 
@@ -15,8 +14,7 @@ pub(crate) fn post_some<'r>(
     alloc: Global,
     inbox: &LinkInbox<'r>,
     seat: &mut SendSeat<'r>,
-    owner: &mut Desk<'r>,
-    sender: &mut Desk<'r>,
+    supply: &mut Supply<'r>,
     from: u16,
     to: u16,
 )
@@ -25,7 +23,7 @@ pub(crate) fn post_some<'r>(
         × (seat.new.half ≡ None) }
 {
     for number in from..to {
-        let batch = batch_of(rt, alloc, owner, sender, number);
+        let batch = batch_of(rt, alloc, supply, 0, number);
         post(rt, inbox, seat, batch);
     }
 }
@@ -48,14 +46,11 @@ pub(crate) fn takes_some<'r>(
 
 // 16 batches are posted. The next is refused, and is still refused after one take, since the front
 // rests on the node of the batch that was taken. After the second take it is posted.
-fn fills<'r>(rt: &impl Abort, alloc: Global, mut parts: Vec<Part<'r>>) {
-    let mut owner = desk(rt, OWNER);
-    let mut sender = desk(rt, 0);
-    claim(rt, &mut owner, &mut parts);
+fn fills<'r>(rt: &impl Abort, alloc: Global, mut supply: Supply<'r>) {
     let (inbox, mut take, mut seats) = open(rt, alloc, 1);
     let mut seat = take_last_seat(&inbox, &mut seats).expect(rt, "a seat");
-    post_some(rt, alloc, &inbox, &mut seat, &mut owner, &mut sender, 0, 16);
-    let batch = batch_of(rt, alloc, &mut owner, &mut sender, 16);
+    post_some(rt, alloc, &inbox, &mut seat, &mut supply, 0, 16);
+    let batch = batch_of(rt, alloc, &mut supply, 0, 16);
     let batch = post_fails(rt, &inbox, &mut seat, batch);
     takes(rt, &inbox, &mut take, 0, 0);
     let batch = post_fails(rt, &inbox, &mut seat, batch);
@@ -67,9 +62,9 @@ fn fills<'r>(rt: &impl Abort, alloc: Global, mut parts: Vec<Part<'r>>) {
 
 #[test]
 fn the_next_of_sixteen_is_refused(rt: HostRuntime) {
-    let mut region = region(&rt, rt.alloc(), 1);
-    let parts = parts(&rt, rt.alloc(), &mut region);
-    fills(&rt, rt.alloc(), parts);
+    let mut region = region(rt.alloc(), 1).expect(&rt, "memory");
+    let supply = Supply::new(rt.alloc(), &mut region).expect(&rt, "chunks");
+    fills(&rt, rt.alloc(), supply);
 }
 
 // A hundred rounds of two: each node is used again and again.
@@ -79,8 +74,7 @@ fn rounds<'r>(
     inbox: &LinkInbox<'r>,
     take: &mut TakeSeat<'r>,
     seat: &mut SendSeat<'r>,
-    owner: &mut Desk<'r>,
-    sender: &mut Desk<'r>,
+    supply: &mut Supply<'r>,
 )
     requires take { take.old.inbox ≡ inbox.now }
     requires seat { (seat.old.inbox ≡ inbox.now) × (seat.old.half ≡ None) }
@@ -88,32 +82,21 @@ fn rounds<'r>(
     for round in 0..100u16 {
         let from = round.saturating_mul(2);
         let to = from.saturating_add(2);
-        post_some(rt, alloc, inbox, seat, owner, sender, from, to);
+        post_some(rt, alloc, inbox, seat, supply, from, to);
         takes_some(rt, inbox, take, from, to);
         assert!(rt; inbox.take(take).is_none());
     }
 }
 
-fn goes_round<'r>(rt: &impl Abort, alloc: Global, mut parts: Vec<Part<'r>>) {
-    let mut owner = desk(rt, OWNER);
-    let mut sender = desk(rt, 0);
-    claim(rt, &mut owner, &mut parts);
+fn goes_round<'r>(rt: &impl Abort, alloc: Global, mut supply: Supply<'r>) {
     let (inbox, mut take, mut seats) = open(rt, alloc, 1);
     let mut seat = take_last_seat(&inbox, &mut seats).expect(rt, "a seat");
-    rounds(
-        rt,
-        alloc,
-        &inbox,
-        &mut take,
-        &mut seat,
-        &mut owner,
-        &mut sender,
-    );
+    rounds(rt, alloc, &inbox, &mut take, &mut seat, &mut supply);
 }
 
 #[test]
 fn nodes_are_used_again(rt: HostRuntime) {
-    let mut region = region(&rt, rt.alloc(), 1);
-    let parts = parts(&rt, rt.alloc(), &mut region);
-    goes_round(&rt, rt.alloc(), parts);
+    let mut region = region(rt.alloc(), 1).expect(&rt, "memory");
+    let supply = Supply::new(rt.alloc(), &mut region).expect(&rt, "chunks");
+    goes_round(&rt, rt.alloc(), supply);
 }

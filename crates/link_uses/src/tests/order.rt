@@ -1,10 +1,9 @@
 //! One thread: what was not taken is drained in order.
 use super::nodes::post_some;
-use super::{OWNER, claim, desk, open, parts, region, takes};
+use super::{open, takes};
 use crate::{put_seat, take_last_seat};
-use inbox_uses::mark_of;
+use inbox_uses::{Supply, mark_of, region};
 use link_inbox::Rest;
-use region_cut::Part;
 use std::alloc::Global;
 use std::process::Abort;
 
@@ -15,26 +14,14 @@ pub(crate) fn leaves<'r>(rt: &impl Abort, rest: &mut Rest<'r>, number: u16) {
 }
 
 // 16 and 2 are posted, and 8 taken between: what is left begins in the middle of the nodes.
-fn takes_and_drains<'r>(rt: &impl Abort, alloc: Global, mut parts: Vec<Part<'r>>) {
-    let mut owner = desk(rt, OWNER);
-    let mut sender = desk(rt, 0);
-    claim(rt, &mut owner, &mut parts);
+fn takes_and_drains<'r>(rt: &impl Abort, alloc: Global, mut supply: Supply<'r>) {
     let (inbox, mut take, mut seats) = open(rt, alloc, 1);
     let mut seat = take_last_seat(&inbox, &mut seats).expect(rt, "a seat");
-    post_some(rt, alloc, &inbox, &mut seat, &mut owner, &mut sender, 0, 16);
+    post_some(rt, alloc, &inbox, &mut seat, &mut supply, 0, 16);
     for number in 0..8 {
         takes(rt, &inbox, &mut take, 0, number);
     }
-    post_some(
-        rt,
-        alloc,
-        &inbox,
-        &mut seat,
-        &mut owner,
-        &mut sender,
-        16,
-        18,
-    );
+    post_some(rt, alloc, &inbox, &mut seat, &mut supply, 16, 18);
     assert!(rt; put_seat(&inbox, &mut seats, seat).is_ok());
     let mut rest = inbox.drain(take, seats);
     for number in 8..18 {
@@ -45,7 +32,7 @@ fn takes_and_drains<'r>(rt: &impl Abort, alloc: Global, mut parts: Vec<Part<'r>>
 
 #[test]
 fn what_is_not_taken_is_drained_in_order(rt: HostRuntime) {
-    let mut region = region(&rt, rt.alloc(), 1);
-    let parts = parts(&rt, rt.alloc(), &mut region);
-    takes_and_drains(&rt, rt.alloc(), parts);
+    let mut region = region(rt.alloc(), 1).expect(&rt, "memory");
+    let supply = Supply::new(rt.alloc(), &mut region).expect(&rt, "chunks");
+    takes_and_drains(&rt, rt.alloc(), supply);
 }

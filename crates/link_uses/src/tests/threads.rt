@@ -2,13 +2,11 @@
 ghost use Rattle.std.specs.Prelude.{◌≡◌, None, All};
 ghost use Rattle.link_inbox.specs.States.{AreSeatsOf, AreAtRest};
 
-use super::{OWNER, batch_of, claim, desk, open, parts, region, takes};
+use super::{open, takes};
 use crate::{Sending, Taking, add_sender, take_last_seat};
 use digit_route::Batch;
-use inbox_uses::{Tally, run_all, run_both};
+use inbox_uses::{Supply, Tally, region, run_all, run_both};
 use link_inbox::{LinkInbox, SendSeat};
-use pool_desk::Desk;
-use region_cut::{Class, Part};
 use std::alloc::Global;
 use std::process::Abort;
 use std::sync::Wait;
@@ -22,28 +20,6 @@ const SENDERS: u16 = 8;
 
 // Chunks for all of them.
 const CHUNKS: usize = 313;
-
-// So many batches of this sender to the owner, with the marks from 0 on.
-pub(crate) fn batches<'r>(
-    rt: &impl Abort,
-    alloc: Global,
-    owner: &mut Desk<'r>,
-    parts: &mut Vec<Part<'r>>,
-    sender: u16,
-    count: u16,
-) -> Vec<Batch<'r>> {
-    let mut sender = desk(rt, sender);
-    let class = Class::new(0).unwrap_or(Class::FIRST);
-    let mut batches = Vec::new(alloc);
-    for number in 0..count {
-        if !owner.has_home(class) {
-            claim(rt, owner, parts);
-        }
-        let batch = batch_of(rt, alloc, owner, &mut sender, number);
-        assert!(rt; batches.push(batch).is_ok());
-    }
-    batches
-}
 
 // One sender posts from a thread of its own.
 fn posts_from_a_thread<'r, R: Abort + Wait + Threads + Sync>(
@@ -67,9 +43,8 @@ fn posts_from_a_thread<'r, R: Abort + Wait + Threads + Sync>(
     assert!(rt; run_all(rt, workers).is_ok());
 }
 
-fn joined<'r, R: Abort + Wait + Threads + Sync>(rt: &R, alloc: Global, mut parts: Vec<Part<'r>>) {
-    let mut owner = desk(rt, OWNER);
-    let batches = batches(rt, alloc, &mut owner, &mut parts, 0, 1);
+fn joined<'r, R: Abort + Wait + Threads + Sync>(rt: &R, alloc: Global, mut supply: Supply<'r>) {
+    let batches = supply.batches(alloc, 0, 1).expect(rt, "a batch");
     let (inbox, mut take, mut seats) = open(rt, alloc, 1);
     let seat = take_last_seat(&inbox, &mut seats).expect(rt, "a seat");
     posts_from_a_thread(rt, alloc, &inbox, seat, batches);
@@ -79,19 +54,9 @@ fn joined<'r, R: Abort + Wait + Threads + Sync>(rt: &R, alloc: Global, mut parts
 
 #[test]
 fn what_a_joined_thread_posted_is_taken(rt: HostRuntime) {
-    let mut region = region(&rt, rt.alloc(), 1);
-    let parts = parts(&rt, rt.alloc(), &mut region);
-    joined(&rt, rt.alloc(), parts);
-}
-
-pub(crate) fn tally(rt: &impl Abort, alloc: Global, senders: u16) -> Tally {
-    let taken = Vec::from_elem(alloc, 0, senders as usize)
-        .ok()
-        .expect(rt, "memory");
-    Tally {
-        taken,
-        in_order: true,
-    }
+    let mut region = region(rt.alloc(), 1).expect(&rt, "memory");
+    let supply = Supply::new(rt.alloc(), &mut region).expect(&rt, "chunks");
+    joined(&rt, rt.alloc(), supply);
 }
 
 // A sender for each seat, from the last one on.
@@ -100,18 +65,18 @@ fn senders<'r, 's>(
     alloc: Global,
     inbox: &'s LinkInbox<'r>,
     mut seats: Vec<SendSeat<'r>>,
-    parts: Vec<Part<'r>>,
+    mut supply: Supply<'r>,
     finished: &'s AtomicU64,
 ) -> Vec<Sending<'r, 's>>
     requires { AreSeatsOf inbox.now seats.items × AreAtRest seats.items }
     ensures { All (λ p. (p.seat.inbox ≡ p.inbox.now) × (p.seat.half ≡ None)) result.items }
 {
-    let mut parts = parts;
-    let mut owner = desk(rt, OWNER);
     let mut senders = Vec::new(alloc);
     for _ in 0..SENDERS {
         let seat = take_last_seat(inbox, &mut seats).expect(rt, "a seat");
-        let batches = batches(rt, alloc, &mut owner, &mut parts, seat.sender(), BATCHES);
+        let batches = supply
+            .batches(alloc, seat.sender(), BATCHES)
+            .expect(rt, "batches");
         let sender = Sending {
             inbox,
             seat,
@@ -124,11 +89,11 @@ fn senders<'r, 's>(
 }
 
 // All batches of eight senders are taken while they post, each once, and each sender's in its order.
-fn storm<'r, R: Abort + Wait + Threads + Sync>(rt: &R, alloc: Global, parts: Vec<Part<'r>>) {
+fn storm<'r, R: Abort + Wait + Threads + Sync>(rt: &R, alloc: Global, supply: Supply<'r>) {
     let finished = AtomicU64::new(0);
-    let tally = tally(rt, alloc, SENDERS);
+    let tally = Tally::new(alloc, SENDERS).expect(rt, "memory");
     let (inbox, seat, seats) = open(rt, alloc, SENDERS);
-    let workers = senders(rt, alloc, &inbox, seats, parts, &finished);
+    let workers = senders(rt, alloc, &inbox, seats, supply, &finished);
     let receiver = Taking {
         inbox: &inbox,
         seat,
@@ -138,13 +103,12 @@ fn storm<'r, R: Abort + Wait + Threads + Sync>(rt: &R, alloc: Global, parts: Vec
     };
     let (posted, (_seat, tally)) = run_both(rt, workers, receiver);
     assert!(rt; posted.is_ok());
-    assert!(rt; tally.in_order);
-    assert!(rt; tally.taken.iter().all(|taken| *taken == BATCHES as u64));
+    assert!(rt; tally.has_all(BATCHES as u64));
 }
 
 #[test]
 fn what_eight_threads_post_is_taken_while_they_post(rt: HostRuntime) {
-    let mut region = region(&rt, rt.alloc(), CHUNKS);
-    let parts = parts(&rt, rt.alloc(), &mut region);
-    storm(&rt, rt.alloc(), parts);
+    let mut region = region(rt.alloc(), CHUNKS).expect(&rt, "memory");
+    let supply = Supply::new(rt.alloc(), &mut region).expect(&rt, "chunks");
+    storm(&rt, rt.alloc(), supply);
 }

@@ -1,13 +1,12 @@
 //! Callers that know only that it is an inbox.
 ghost use Rattle.std.specs.Prelude.{◌≡◌, None};
 
-use super::{OWNER, batch_of, belongs, claim, desk, open, parts, region};
+use super::{batch_of, belongs, open};
 use crate::{end, hand_out, put_seat, take_last_seat};
 use batch_inbox::Mail;
 use digit_route::Batch;
-use inbox_uses::{Counting, mark_of};
+use inbox_uses::{Counting, Supply, mark_of, region};
 use link_inbox::{LinkInbox, SendSeat, TakeSeat};
-use region_cut::Part;
 use std::alloc::Global;
 use std::process::Abort;
 use std::sync::Wait;
@@ -31,30 +30,24 @@ fn counted<'r, R: Abort + Wait>(
     assert!(rt; inbox.take(rt, take).is_none());
 }
 
-fn counts<'r, R: Abort + Wait>(rt: &R, alloc: Global, mut parts: Vec<Part<'r>>) {
-    let mut owner = desk(rt, OWNER);
-    let mut sender = desk(rt, 0);
-    claim(rt, &mut owner, &mut parts);
+fn counts<'r, R: Abort + Wait>(rt: &R, alloc: Global, mut supply: Supply<'r>) {
     let (inbox, mut take, mut seats) = open(rt, alloc, 1);
     let mut seat = take_last_seat(&inbox, &mut seats).expect(rt, "a seat");
-    let batch = batch_of(rt, alloc, &mut owner, &mut sender, 0);
+    let batch = batch_of(rt, alloc, &mut supply, 0, 0);
     counted(rt, inbox, &mut take, &mut seat, batch);
 }
 
 #[test]
 fn an_inbox_of_a_users_own_takes_what_was_posted(rt: HostRuntime) {
-    let mut region = region(&rt, rt.alloc(), 1);
-    let parts = parts(&rt, rt.alloc(), &mut region);
-    counts(&rt, rt.alloc(), parts);
+    let mut region = region(rt.alloc(), 1).expect(&rt, "memory");
+    let supply = Supply::new(rt.alloc(), &mut region).expect(&rt, "chunks");
+    counts(&rt, rt.alloc(), supply);
 }
 
-fn ends<'r, R: Abort + Wait>(rt: &R, alloc: Global, mut parts: Vec<Part<'r>>) {
-    let mut owner = desk(rt, OWNER);
-    let mut sender = desk(rt, 0);
-    claim(rt, &mut owner, &mut parts);
+fn ends<'r, R: Abort + Wait>(rt: &R, alloc: Global, mut supply: Supply<'r>) {
     let (inbox, take, mut seats) = open(rt, alloc, 1);
     let mut seat = take_last_seat(&inbox, &mut seats).expect(rt, "a seat");
-    let batch = batch_of(rt, alloc, &mut owner, &mut sender, 3);
+    let batch = batch_of(rt, alloc, &mut supply, 0, 3);
     belongs(rt, &inbox, &seat, &batch);
     assert!(rt; inbox.post(&mut seat, batch).is_ok());
     assert!(rt; LinkInbox::at_rest(&seat) && LinkInbox::sender(&seat) == 0);
@@ -67,7 +60,7 @@ fn ends<'r, R: Abort + Wait>(rt: &R, alloc: Global, mut parts: Vec<Part<'r>>) {
 
 #[test]
 fn whoever_knows_only_an_inbox_ends_it(rt: HostRuntime) {
-    let mut region = region(&rt, rt.alloc(), 1);
-    let parts = parts(&rt, rt.alloc(), &mut region);
-    ends(&rt, rt.alloc(), parts);
+    let mut region = region(rt.alloc(), 1).expect(&rt, "memory");
+    let supply = Supply::new(rt.alloc(), &mut region).expect(&rt, "chunks");
+    ends(&rt, rt.alloc(), supply);
 }
