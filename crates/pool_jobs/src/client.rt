@@ -1,14 +1,15 @@
 //! A worker of a workload.
 ghost use Rattle.std.specs.Prelude.{◌<◌};
 
-use crate::allocator::{Allocator, Entrance};
+use crate::allocator::Entrance;
 use crate::buffer::Buffer;
+use crate::counting::{Counting, Done};
 use crate::gate::Gate;
 use crate::handing::{Role, hand_over};
+use crate::heap::Heap;
 use crate::rows::{Places, Round, replace};
-use crate::tally::Counts;
 use batch_inbox::{Mail, Mailbox, Receiver, Sender};
-use pool_fabric::{HeldStation, Naming};
+use pool_fabric::Naming;
 use rand_core::Rng;
 use std::sync::Wait;
 
@@ -53,13 +54,6 @@ pub(crate) trait Worker: Drop + Sized {
 
     /// Ends the work.
     fn end<R: Wait>(self, rt: &R) -> Self::Left;
-}
-
-/// What a worker hands back: its station, where the shelf didn't take it, and its counts.
-#[derive(Drop)]
-pub(crate) struct Done<'r, T: Receiver, S: Sender, J: Naming> {
-    pub(crate) station: Option<HeldStation<'r, T, S, J>>,
-    pub(crate) counts: Counts,
 }
 
 /// One who is about to take up work, with the source of its sizes.
@@ -159,23 +153,21 @@ where
         } = self;
         let allocator = entrance.enter(rt)?;
         Some(Client {
-            allocator,
+            heap: Counting::new(allocator),
             random,
             worker,
             drops,
-            counts: Counts::none(),
         })
     }
 }
 
-/// A worker of a workload, with the source of its sizes and what it counted.
+/// A worker of a workload, with the source of its sizes.
 #[derive(Drop)]
 pub(crate) struct Client<'a, 'r, M: Mailbox, T: Receiver, S: Sender, G: Gate, J: Naming, N: Drop> {
-    allocator: Allocator<'a, 'r, M, T, S, G, J>,
+    heap: Counting<'a, 'r, M, T, S, G, J>,
     random: N,
     worker: u32,
     drops: bool,
-    counts: Counts,
 }
 
 impl<'a, 'r, M: Mailbox, T: Receiver, S: Sender, G: Gate, J: Naming, N: Drop> Client<
@@ -188,13 +180,11 @@ impl<'a, 'r, M: Mailbox, T: Receiver, S: Sender, G: Gate, J: Naming, N: Drop> Cl
     J,
     N,
 > {
-    // Counts a buffer and marks it, or drops it.
+    // Marks a buffer, or drops it.
     fn keep(&mut self, buffer: Buffer<'r, J>) -> Option<Buffer<'r, J>> {
-        self.counts.allocated = self.counts.allocated.saturating_add(1);
         if self.drops {
             self.drops = false;
-            self.counts.lost = self.counts.lost.saturating_add(1);
-            drop(buffer);
+            self.heap.lose(buffer);
             return None;
         }
         Some(marked(buffer, self.worker))
@@ -229,30 +219,22 @@ where
 
     fn allocate<R: Wait>(&mut self, rt: &R) -> Option<Buffer<'r, J>> {
         let size = 1 + self.random.next_u32() % LARGEST;
-        match self.allocator.alloc(rt, size as usize) {
-            Ok(buffer) => self.keep(buffer),
-            Err(_) => {
-                self.counts.starved = self.counts.starved.saturating_add(1);
-                None
-            }
-        }
+        let buffer = self.heap.alloc(rt, size as usize).ok()?;
+        self.keep(buffer)
     }
 
     fn give_back<R: Wait>(&mut self, rt: &R, buffer: Buffer<'r, J>) {
-        self.counts.freed = self.counts.freed.saturating_add(1);
-        self.allocator.free(rt, buffer);
+        self.heap.free(rt, buffer);
     }
 
     fn end<R: Wait>(self, rt: &R) -> Done<'r, T, S, J> {
         let Client {
-            allocator,
+            heap,
             random,
             worker: _,
             drops: _,
-            counts,
         } = self;
         drop(random);
-        let station = allocator.retire(rt);
-        Done { station, counts }
+        heap.end(rt)
     }
 }

@@ -22,8 +22,11 @@ pub fn crew<J: Job + Send, R: Threads + Wait + Sync>(
 where
     J::Out: Send,
 {
+    let Ok(handles) = Vec::with_capacity(alloc, jobs.len()) else {
+        return Err(JobError::NoMemory);
+    };
     thread::scope(thread::scope_env(), rt, |scope| {
-        let mut handles = Vec::new(alloc);
+        let mut handles = handles;
         let mut fault = None;
         for job in jobs {
             match scope.spawn(move || job.run(rt)) {

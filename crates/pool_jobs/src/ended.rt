@@ -19,6 +19,17 @@ pub struct Ended<'r> {
     pub found: Found<'r>,
 }
 
+/// What there is when all tasks of a program have ended.
+#[derive(Drop)]
+pub struct Finished<'r, A: Drop> {
+    /// What each task answered, in order; nothing for a task that was not begun, since no desk was
+    /// left for it.
+    pub answers: Vec<Option<A>>,
+    pub tally: Tally,
+    /// All that was found, of which the tally has the audit.
+    pub found: Found<'r>,
+}
+
 /// Gathers all that there is, once no thread holds a station any more, and audits it: the stations on
 /// the shelf, those that [`Allocator::retire`](crate::Allocator::retire) gave back, and what is left
 /// in every inbox.

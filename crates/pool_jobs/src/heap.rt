@@ -1,5 +1,5 @@
 //! What a worker sees of its allocator. These traits name no lifetime, so a thread may run over them.
-ghost use Rattle.std.specs.Prelude.{◌≡◌, ◌<◌, length};
+ghost use Rattle.std.specs.Prelude.{◌≡◌, ◌<◌, ◌≤◌, length, IfOk};
 
 use crate::error::PoolError;
 use std::sync::Wait;
@@ -34,7 +34,8 @@ pub trait Heap: Drop {
     type Buffer: Bytes;
 
     /// A buffer of at least `size` bytes.
-    fn alloc<R: Wait>(&mut self, rt: &R, size: usize) -> Result<Self::Buffer, PoolError>;
+    fn alloc<R: Wait>(&mut self, rt: &R, size: usize) -> Result<Self::Buffer, PoolError>
+        ensures { IfOk result (λ b. size ≤ Self.Buffer.size b) };
 
     /// Takes a buffer back, whichever allocator of the pool gave it.
     fn free<R: Wait>(&mut self, rt: &R, buffer: Self::Buffer);

@@ -8,26 +8,32 @@
 
 mod allocator;
 mod buffer;
+mod channels;
 mod client;
+mod counting;
 mod crew;
 mod ended;
 mod error;
 mod gate;
+mod hand;
 mod handing;
 mod heap;
 mod over_inbox;
 mod plan;
 mod rows;
 mod tally;
+mod task;
 mod workload;
 
 pub use allocator::{Allocator, Entrance};
 pub use buffer::Buffer;
-pub use ended::{Ended, settle};
+pub use channels::Channels;
+pub use ended::{Ended, Finished, settle};
 pub use error::{JobError, PoolError};
 pub use gate::{Gate, NoGate};
 pub use heap::{Bytes, Heap};
-pub use over_inbox::work;
+pub use over_inbox::{run, work};
 pub use plan::{MOST_BUFFERS, MOST_ROUNDS, MOST_THREADS, Plan};
 pub use tally::{Counts, Tally};
+pub use task::Task;
 pub use workload::Workload;

@@ -1,4 +1,4 @@
-//! Workloads over the inbox of a queue.
+//! Tasks and workloads over the inbox of a queue.
 ghost use Rattle.std.specs.Prelude.{◌≡◌, IfOk};
 ghost use Rattle.pool_fabric.specs.Whole.{IsWhole};
 ghost use Rattle.pool_fabric.specs.Audited.{Audited};
@@ -6,11 +6,14 @@ ghost use Rattle.pool_jobs.specs.Ends.{slots_found};
 
 use crate::buffer::Buffer;
 use crate::client::Applicant;
-use crate::ended::{Ended, settle};
+use crate::counting::Counting;
+use crate::ended::{Ended, Finished, settle};
 use crate::error::JobError;
 use crate::gate::Gate;
+use crate::hand::{Reports, all_served, hands, reports_of};
 use crate::plan::{MOST_THREADS, Plan};
 use crate::rows::{Places, Round};
+use crate::task::Task;
 use crate::workload::{Back, Sorted, Workload, one_round, sorted_out, starters, turned};
 use batch_inbox::{Inbox, SendSeat, TakeSeat};
 use pool_fabric::{Fabric, Naming, Opening};
@@ -145,4 +148,98 @@ where
         e.found.drawn e.tally.audit) }
 {
     worked::<G, N, Brand, R>(rt, alloc, opening, gate, workload, plan)
+}
+
+// Does all tasks, whose threads are all joined. Gives their answers.
+fn served_over<'a, 'r, G, K, J, R>(
+    rt: &R,
+    alloc: Global,
+    hands: Vec<Counting<'a, 'r, Inbox<'r>, TakeSeat<'r>, SendSeat<'r>, G, J>>,
+    tasks: Vec<K>,
+    back: &mut Back<'r, TakeSeat<'r>, SendSeat<'r>, J>,
+) -> Result<Vec<Option<K::Answer>>, JobError>
+where
+    G: Gate + Sync,
+    K: Task + Send,
+    J: Naming + Send + Sync,
+    R: Threads + Wait + Sync,
+    K::Answer: Send,
+{
+    let served = all_served(rt, alloc, hands, tasks)?;
+    let Ok(Reports { lefts, answers }) = reports_of(alloc, served) else {
+        return Err(JobError::NoMemory);
+    };
+    match back.add(lefts) {
+        Ok(()) => Ok(answers),
+        Err(_) => Err(JobError::NoMemory),
+    }
+}
+
+// The tasks at a fabric that `J` names, and its end.
+fn ran<'r, G, K, J, R>(
+    rt: &R,
+    alloc: Global,
+    opening: Opening<'r, Inbox<'r>, TakeSeat<'r>, SendSeat<'r>>,
+    gate: &G,
+    tasks: Vec<K>,
+) -> Result<Finished<'r, K::Answer>, JobError>
+where
+    G: Gate + Sync,
+    K: Task + Send,
+    J: Naming + Send + Sync,
+    R: Threads + Wait + Sync,
+    K::Answer: Send,
+    requires { J.names ≡ opening }
+    ensures whole { IfOk result (λ e. IsWhole e.found.desks.items e.found.batches.items e.found.lent.items
+        e.found.freed.items e.found.parts.items opening.entry.chunks) }
+    ensures audit { IfOk result (λ e. Audited (slots_found e.found.desks.items e.found.batches.items)
+        e.found.drawn e.tally.audit) }
+{
+    let wanted = tasks.len().min(MOST_THREADS as usize) as u32;
+    let Ok(fabric) = Fabric::open(alloc, opening) else {
+        return Err(JobError::NoMemory);
+    };
+    let Ok(hands) = hands(rt, alloc, &fabric, gate, wanted) else {
+        return Err(JobError::NoMemory);
+    };
+    let mut back = Back::none(alloc);
+    let answers = served_over::<G, K, J, R>(rt, alloc, hands, tasks, &mut back)?;
+    let Back { held, counts } = back;
+    let Ended { tally, found } = settle(rt, alloc, fabric, held, counts.with_the_rest_lost())?;
+    Ok(Finished {
+        answers,
+        tally,
+        found,
+    })
+}
+
+/// Runs a program's own tasks, each in a thread of its own, and accounts for all that there is when
+/// they have ended.
+///
+/// The tasks get the desks of the opening in order; one for which no desk is left is not begun, and
+/// has no answer. All threads that were started have ended when the call returns.
+///
+/// Whatever the tasks do with their buffers, and whatever the schedule was, nothing is lost and
+/// nothing is there twice: the slots found, with those that were lent, are all slots of the drawn
+/// chunks, with those that were freed; and the chunks that were drawn, with those that are left, are
+/// the chunks of the opening. The audit of the tally is that of the slots found, so it names a slot
+/// whose buffer was dropped, and `lost` counts those buffers.
+pub fn run<'r, G, K, R>(
+    rt: &R,
+    alloc: Global,
+    opening: Opening<'r, Inbox<'r>, TakeSeat<'r>, SendSeat<'r>>,
+    gate: &G,
+    tasks: Vec<K>,
+) -> Result<Finished<'r, K::Answer>, JobError>
+where
+    G: Gate + Sync,
+    K: Task + Send,
+    R: Threads + Wait + Sync,
+    K::Answer: Send,
+    ensures whole { IfOk result (λ e. IsWhole e.found.desks.items e.found.batches.items e.found.lent.items
+        e.found.freed.items e.found.parts.items opening.entry.chunks) }
+    ensures audit { IfOk result (λ e. Audited (slots_found e.found.desks.items e.found.batches.items)
+        e.found.drawn e.tally.audit) }
+{
+    ran::<G, K, Brand, R>(rt, alloc, opening, gate, tasks)
 }

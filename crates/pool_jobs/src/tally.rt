@@ -1,5 +1,5 @@
 //! What was counted.
-ghost use Rattle.std.specs.Prelude.{◌≡◌, ◌+◌};
+ghost use Rattle.std.specs.Prelude.{◌≡◌, ◌+◌, ◌-◌};
 ghost use Rattle.slot_chain.specs.Counts.{capped};
 
 use trace_audit::Fault;
@@ -44,6 +44,16 @@ impl Counts {
             freed: self.freed.saturating_add(other.freed),
             starved: self.starved.saturating_add(other.starved),
             lost: self.lost.saturating_add(other.lost),
+        }
+    }
+
+    /// The same counts, where all buffers that were not freed are dropped.
+    pub(crate) fn with_the_rest_lost(self) -> Counts
+        ensures { result ≡ record self { lost = self.allocated - self.freed } }
+    {
+        Counts {
+            lost: self.allocated.saturating_sub(self.freed),
+            ..self
         }
     }
 }

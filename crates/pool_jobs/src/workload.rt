@@ -1,6 +1,7 @@
 //! Workloads, at any inbox.
 use crate::allocator::Entrance;
-use crate::client::{Applicant, Done, Starter};
+use crate::client::{Applicant, Starter};
+use crate::counting::Done;
 use crate::crew::crew;
 use crate::error::JobError;
 use crate::gate::Gate;

@@ -1,0 +1,176 @@
+//! A worker that does one task.
+use crate::allocator::Entrance;
+use crate::buffer::Buffer;
+use crate::channels::{Channels, channels_of};
+use crate::counting::{Counting, Done};
+use crate::crew::{Job, crew};
+use crate::error::JobError;
+use crate::gate::Gate;
+use crate::task::Task;
+use batch_inbox::{Mail, Receiver, Sender};
+use pool_fabric::{Fabric, Naming};
+use std::alloc::{AllocError, Global};
+use std::sync::Wait;
+use std::thread::Threads;
+
+/// One who does a task with an allocator. The trait names no lifetime, so a thread may own a value of
+/// it.
+pub(crate) trait Hand: Drop + Sized {
+    type Buffer: Drop;
+
+    type Left: Drop;
+
+    /// Does the task, and gives up the allocator.
+    fn serve<K: Task, R: Wait>(
+        self,
+        rt: &R,
+        task: K,
+        channels: Channels<Self::Buffer>,
+    ) -> Served<Self, K>;
+}
+
+/// What is left of a task; nothing where nobody did it.
+#[derive(Drop)]
+pub(crate) struct Served<H: Hand, K: Task> {
+    left: Option<H::Left>,
+    answer: Option<K::Answer>,
+}
+
+impl<
+    'a,
+    'r,
+    T: Receiver,
+    S: Sender,
+    M: Mail<'r, TakeSeat = T, SendSeat = S>,
+    G: Gate,
+    J: Naming,
+> Hand for Counting<'a, 'r, M, T, S, G, J> {
+    type Buffer = Buffer<'r, J>;
+
+    type Left = Done<'r, T, S, J>;
+
+    fn serve<K: Task, R: Wait>(
+        self,
+        rt: &R,
+        task: K,
+        channels: Channels<Buffer<'r, J>>,
+    ) -> Served<Counting<'a, 'r, M, T, S, G, J>, K> {
+        let mut heap = self;
+        let answer = task.run(rt, &mut heap, channels);
+        Served {
+            left: Some(heap.end(rt)),
+            answer: Some(answer),
+        }
+    }
+}
+
+/// A task with who does it, if there is anyone.
+#[derive(Drop)]
+struct Shift<H: Hand, K: Task> {
+    hand: Option<H>,
+    task: K,
+    channels: Channels<H::Buffer>,
+}
+
+impl<H: Hand, K: Task> Job for Shift<H, K> {
+    type Out = Served<H, K>;
+
+    fn run<R: Wait>(self, rt: &R) -> Served<H, K> {
+        let Shift {
+            hand,
+            task,
+            channels,
+        } = self;
+        match hand {
+            Some(hand) => hand.serve(rt, task, channels),
+            None => Served {
+                left: None,
+                answer: None,
+            },
+        }
+    }
+}
+
+/// Takes as many stations off the shelf as are wanted, or as there are.
+pub(crate) fn hands<'a, 'r, M, T, S, G, J, R>(
+    rt: &R,
+    alloc: Global,
+    fabric: &'a Fabric<'r, M, T, S, J>,
+    gate: &'a G,
+    wanted: u32,
+) -> Result<Vec<Counting<'a, 'r, M, T, S, G, J>>, AllocError>
+where
+    T: Receiver,
+    S: Sender,
+    M: Mail<'r, TakeSeat = T, SendSeat = S>,
+    G: Gate,
+    J: Naming,
+    R: Wait,
+{
+    let mut hands = Vec::new(alloc);
+    for worker in 0..wanted {
+        let entrance = Entrance::new(alloc, fabric, gate, worker);
+        let Some(allocator) = entrance.enter(rt) else {
+            return Ok(hands);
+        };
+        hands.push(Counting::new(allocator))?;
+    }
+    Ok(hands)
+}
+
+/// Does each task in a thread of its own, and joins them all. The tasks get the hands in order; one
+/// for which there is no hand is not begun.
+pub(crate) fn all_served<H, K, R>(
+    rt: &R,
+    alloc: Global,
+    hands: Vec<H>,
+    tasks: Vec<K>,
+) -> Result<Vec<Served<H, K>>, JobError>
+where
+    H: Hand + Send,
+    K: Task + Send,
+    R: Threads + Wait + Sync,
+    H::Buffer: Send,
+    H::Left: Send,
+    K::Answer: Send,
+{
+    let Ok(channels) = channels_of::<H::Buffer, K>(alloc, &tasks) else {
+        return Err(JobError::NoMemory);
+    };
+    let mut hands = hands.into_iter();
+    let mut shifts = Vec::new(alloc);
+    for (task, channels) in tasks.into_iter().zip(channels) {
+        let shift = Shift {
+            hand: hands.next(),
+            task,
+            channels,
+        };
+        if shifts.push(shift).is_err() {
+            return Err(JobError::NoMemory);
+        }
+    }
+    drop(hands);
+    crew(rt, alloc, shifts)
+}
+
+/// What was left of all tasks, and what they answered, each in order.
+#[derive(Drop)]
+pub(crate) struct Reports<H: Hand, K: Task> {
+    pub(crate) lefts: Vec<Option<H::Left>>,
+    pub(crate) answers: Vec<Option<K::Answer>>,
+}
+
+/// Takes apart what came back of all tasks.
+pub(crate) fn reports_of<H: Hand, K: Task>(
+    alloc: Global,
+    all: Vec<Served<H, K>>,
+) -> Result<Reports<H, K>, AllocError> {
+    let mut lefts = Vec::new(alloc);
+    let mut answers = Vec::new(alloc);
+    for served in all {
+        let Served { left, answer } = served;
+        lefts.push(left)?;
+        answers.push(answer)?;
+    }
+    Ok(Reports { lefts, answers })
+}
