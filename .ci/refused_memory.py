@@ -48,7 +48,7 @@ __attribute__((constructor)) static void start(void) {
     count = 0;
 }
 
-static int is_refused(void) { return ++count == refused; }
+static int is_refused(void) { return __atomic_add_fetch(&count, 1, __ATOMIC_RELAXED) == refused; }
 
 void *malloc(size_t size) {
     static void *(*next)(size_t);
@@ -119,12 +119,12 @@ def ran(library, program, test, refused, counted):
         run = subprocess.run([program, test], env=environment, capture_output=True, timeout=SECONDS)
     except subprocess.TimeoutExpired:
         return f"it had not ended after {SECONDS} seconds", refused
-    asked = int(counted.read_text()) if counted.exists() else refused
+    asked = int(counted.read_text()) if counted.exists() else None
     counted.unlink(missing_ok=True)
     if run.returncode != 0:
         said = (run.stdout + run.stderr).decode(errors="replace").strip()
-        return f"status {run.returncode}: {said[-600:]}", asked
-    return None, asked
+        return f"status {run.returncode}: {said[-600:]}", refused
+    return ("it told no count of its allocations", refused) if asked is None else (None, asked)
 
 
 def spread(count, most):
