@@ -1,0 +1,281 @@
+#!/usr/bin/env python3
+"""Tries the edits crates/NAME/wrong-bodies/*.edit: each gives one function a wrong body, which the prover has to refuse.
+
+    python3 .ci/wrong_bodies.py [--jobs N] [CRATE[:EDIT,..] ..]
+
+An edit has the lines of those in must-fail/, which `rt ci` tries one by one: `file: src/..`, then pairs of `old: TEXT`,
+which stands in that file exactly once, and `new: TEXT`. All that it changes lies in bodies of functions, mostly of one.
+A function is proved from the contracts of those that it calls and never from their bodies, so wrong bodies of different
+functions are tried in one check. The prover leaves out goals of a function that calls one that isn't proved; an edit
+that nothing is said against is tried again without those that were refused, and in the end alone. Edits of anything
+else, such as a constant, stand in must-fail/.
+
+An edit is refused where the prover says, at a place in this function, which clause it can't prove, or refuses a proof
+written by hand for this function. It says little where such a proof only names what the edit took away; the line
+tells that. Run it behind `rt ci` or `rt all check`, which leave the libraries in out/; what the latter keeps there of
+a crate's own proofs is taken over. At most N crates at a time, and without --jobs as many as there are processors.
+
+Prints a line for each edit, and in the last line how many were refused. The exit status is 1 where one was not, and 2
+where an edit can't be applied, the compiler can't read it, or the libraries aren't there.
+"""
+import argparse
+import collections
+import concurrent.futures
+import dataclasses
+import os
+import pathlib
+import re
+import shutil
+import subprocess
+import sys
+import tempfile
+import time
+
+TOP = pathlib.Path(__file__).resolve().parent.parent
+FUNCTION = re.compile(r"^( *)(?:(?:pub(?:\([a-z: ]+\))?|const|unsafe) )*fn (\w+)(.*)", re.M)
+SAID = re.compile(r"^(?:note: )?(?:\./)?((?:src|specs|proofs)/\S+?):(\d+):\d+: (.*)")
+UNPROVED = re.compile(r"(?:error: )?(?:it is not proved that|`search` found no proof)")
+STALE = re.compile(r"error: .*(?:has no field|is not in scope|has no `|was not admitted)")
+BLOCK = re.compile(r"^impl\b(?:.* for )?[^{\n]*?\b([A-Z]\w*)(?:<[^{\n]*>)?(?: \{|$)", re.M)
+GOAL = re.compile(r"\(`([^`]+)`\)")
+
+
+class BadEdit(Exception):
+    """An edit that can't be tried."""
+
+
+@dataclasses.dataclass(frozen=True)
+class Function:
+    """A function: its file, its name, and how many of this name stand above it in the file."""
+
+    file: str
+    name: str
+    above: int
+
+
+@dataclasses.dataclass(frozen=True)
+class Change:
+    """What an edit puts in the place of the text from `start` to `end` of a file."""
+
+    file: str
+    start: int
+    end: int
+    text: str
+
+
+@dataclasses.dataclass(frozen=True)
+class Edit:
+    """A wrong body: the functions that it changes, mostly one, and its changes."""
+
+    crate: str
+    name: str
+    functions: frozenset
+    changes: tuple
+
+
+def spans(text):
+    """Each function of the text with where it and its body start and where it ends, as `rt fmt` lays it out: it ends at
+    the first `}` in the column that it begins in, and its body starts behind the first `{` that ends a line of it."""
+    above = collections.Counter()
+    for it in FUNCTION.finditer(text):
+        line = it[3].rstrip()
+        closing = it.end() if line.endswith("}") else None
+        if closing is None and not line.endswith(";"):
+            found = re.compile(rf"^{it[1]}\}}", re.M).search(text, it.end())
+            closing = found and found.end()
+        body = re.compile(rf"^{it[1]}\{{$|^{it[1]}\S.* \{{$", re.M).search(text, it.start())
+        if closing:
+            yield it[2], above[it[2]], it.start(), body.end() if body and body.end() < closing else it.start(3), closing
+        above[it[2]] += 1
+
+
+def function_at(file, text, start, end):
+    """The innermost function of the file whose body has all from `start` to `end`."""
+    found = [Function(file, name, above) for name, above, _, body, to in spans(text) if body <= start and end <= to]
+    return found[-1] if found else None
+
+
+def read(path):
+    """The edit in this file."""
+    crate = path.parent.parent
+    file, old, changes, functions = None, None, [], set()
+    for line in path.read_text().splitlines():
+        key, _, text = line.partition(": ")
+        if key == "file":
+            file = text.strip()
+        elif key == "old":
+            old = text
+        elif key in ("new", "new:"):
+            if file is None or old is None or not file.startswith("src/") or not (crate / file).is_file():
+                raise BadEdit("it has no line `file: src/..` of the crate, or no line `old:` before this `new:`")
+            source = (crate / file).read_text()
+            if source.count(old) != 1:
+                raise BadEdit(f"`{old}` stands in {file} {source.count(old)} times, and not once")
+            start, same = source.index(old), len(os.path.commonprefix([old, text]))
+            change = Change(file, start + same, start + len(old), text[same:])
+            functions.add(function_at(file, source, change.start, change.end))
+            changes.append(change)
+            old = None
+    if not functions or None in functions:
+        raise BadEdit("it has to change bodies of functions alone; another edit stands in must-fail/")
+    return Edit(crate.name, path.stem, frozenset(functions), tuple(changes))
+
+
+def batch_of(edits):
+    """As many of the edits, in order, as give no function two bodies."""
+    batch = []
+    for edit in edits:
+        if all(edit.functions.isdisjoint(other.functions) for other in batch):
+            batch.append(edit)
+    return batch
+
+
+def copied(crate, room):
+    """A copy of the repository in which only this crate's own files are new, and the others are links."""
+    def link(source, target):
+        try:
+            os.link(source, target)
+        except OSError:
+            shutil.copy2(source, target)
+
+    for name in ("crates.txt", "HANDLES"):
+        shutil.copy2(TOP / name, room / name)
+    subprocess.run(["git", "init", "-q", room], check=True)
+    for folder in sorted((TOP / "crates").iterdir()):
+        unread = ["must-fail", "must-not-compile", "wrong-bodies", "rlib" if folder.name == crate else "incremental"]
+        shutil.copytree(folder, room / "crates" / folder.name, ignore=shutil.ignore_patterns(*unread),
+                        copy_function=shutil.copy2 if folder.name == crate else link)
+    return room / "crates" / crate
+
+
+def written(folder, batch):
+    """Gives the crate in this folder the wrong bodies of the batch, and nothing else; answers the texts of its files."""
+    texts, own = {}, TOP / "crates" / folder.name
+    for path in sorted((own / "src").rglob("*.rt")):
+        file = str(path.relative_to(own))
+        text = path.read_text()
+        changes = [change for edit in batch for change in edit.changes if change.file == file]
+        for change in sorted(changes, key=lambda it: it.start, reverse=True):
+            text = text[: change.start] + change.text + text[change.end :]
+        (folder / file).write_text(text)
+        texts[file] = text
+    return texts
+
+
+def lines_of(function, text):
+    """The first and the last line of the function in this text of its file, with the attributes above it."""
+    start, end = next((it[2], it[4]) for it in spans(text) if it[:2] == (function.name, function.above))
+    first = text.count("\n", 0, start)
+    lines = text.split("\n")
+    while first and lines[first - 1] and not lines[first - 1].endswith(("{", "}", ";")):
+        first -= 1
+    return first + 1, text.count("\n", 0, end) + 1
+
+
+def proofs_of(function, text):
+    """What the paths of proofs by hand for this function look like: they lie below its type's module, or its own."""
+    start = next(it[2] for it in spans(text) if it[:2] == (function.name, function.above))
+    block = [it for it in BLOCK.finditer(text, 0, start)][-1:]
+    if block and re.compile(r"^}", re.M).search(text, block[0].end(), start) is None:
+        return re.compile(rf"proofs/(?:\w+/)*{block[0][1]}\w*/{function.name}/")
+    module = function.file.removeprefix("src/").removesuffix(".rt")
+    return re.compile(rf"proofs/{'' if module in ('lib', 'main') else f'{module}/'}{function.name}/")
+
+
+def refusal(function, text, said):
+    """What the prover says against the function, which its file has in this text: goals, proofs by hand that it
+    refuses, and those of them that only name what is gone."""
+    first, last = lines_of(function, text)
+    proofs = proofs_of(function, text)
+    goals, refused, stale = [], [], []
+    for file, line, what in said:
+        if file == function.file and first <= int(line) <= last and UNPROVED.match(what):
+            goals.append((GOAL.search(what) or [0, what[:100]])[1])
+        elif proofs.match(file) and what.startswith("error"):
+            (stale if STALE.match(what) else refused).append(what[:160])
+    return goals, refused, stale
+
+
+def answer(edit, texts, said):
+    """Whether the edit is refused, and why."""
+    goals, refused, stale = [], [], []
+    for function in edit.functions:
+        for all_of_it, more in zip((goals, refused, stale), refusal(function, texts[function.file], said)):
+            all_of_it += more
+    if goals:
+        return True, f"refused: not proved: {', '.join(dict.fromkeys(goals))}"
+    if refused:
+        return True, f"refused: {refused[0]}"
+    if stale:
+        return True, f"refused (only because a proof names what the edit took away): {stale[0]}"
+    return False, "NOT REFUSED"
+
+
+def said_of(folder):
+    """What a check of the crate in this folder says at places of its files, or None and all that it says where it
+    didn't reach the prover."""
+    run = subprocess.run(["rt", "check", "--jobs", "1"], cwd=folder, capture_output=True, text=True)
+    told = run.stdout + run.stderr
+    is_tried = re.search(r"^logic=(not-)?proved", told, re.M)
+    return [it.groups() for it in map(SAID.match, told.splitlines()) if it] if is_tried else None, told
+
+
+def tried(crate, edits):
+    """For each edit of the crate whether it is refused, and why."""
+    waiting, answers, checks = list(edits), [], 0
+    with tempfile.TemporaryDirectory(prefix="wrong-bodies-") as room:
+        folder = copied(crate, pathlib.Path(room))
+        size = len(waiting)
+        while waiting:
+            batch = batch_of(waiting)[:size]
+            texts = written(folder, batch)
+            said, told = said_of(folder)
+            checks += 1
+            found = [(edit, *answer(edit, texts, said or [])) for edit in batch]
+            if len(batch) == 1 and not found[0][1]:
+                found = [(batch[0], False, "NOT REFUSED" if said is not None else f"BAD EDIT: {told[-600:]}")]
+            else:
+                found = [it for it in found if it[1]]
+            # where nothing of a batch is refused they are tried one by one
+            size = len(waiting) if found else 1
+            answers += found
+            done = {edit for edit, _, _ in found}
+            waiting = [it for it in waiting if it not in done and it not in batch] + [it for it in batch if it not in done]
+    return answers, checks
+
+
+def main():
+    parser = argparse.ArgumentParser(description=__doc__.split("\n", maxsplit=1)[0])
+    parser.add_argument("--jobs", type=int, default=len(os.sched_getaffinity(0)))
+    parser.add_argument("crates", nargs="*", metavar="CRATE[:EDIT,..]")
+    given = parser.parse_args()
+    wanted = {name: set(filter(None, names.split(","))) for name, _, names in (it.partition(":") for it in given.crates)}
+    of_crate, bad = collections.defaultdict(list), 0
+    for path in sorted(TOP.glob("crates/*/wrong-bodies/*.edit")):
+        crate = path.parent.parent.name
+        if wanted and (crate not in wanted or wanted[crate] and path.stem not in wanted[crate]):
+            continue
+        try:
+            of_crate[crate].append(read(path))
+        except BadEdit as why:
+            print(f"{crate}/{path.name}: BAD EDIT: {why}")
+            bad += 1
+    if bad:
+        return 2
+    began, refused, tried_in_all, checks_in_all = time.monotonic(), 0, 0, 0
+    size = lambda name: sum(it.stat().st_size for it in (TOP / "crates" / name).rglob("*.*tt"))
+    with concurrent.futures.ThreadPoolExecutor(given.jobs) as pool:
+        runs = [pool.submit(tried, it, of_crate[it]) for it in sorted(of_crate, key=size, reverse=True)]
+        for run in concurrent.futures.as_completed(runs):
+            answers, checks = run.result()
+            for edit, well, why in answers:
+                print(f"{edit.crate}/{edit.name}: {why}", flush=True)
+                refused, tried_in_all, checks_in_all = refused + well, tried_in_all + 1, checks_in_all + checks
+                checks = 0
+    seconds = time.monotonic() - began
+    print(f"{refused} of {tried_in_all} wrong bodies refused, in {checks_in_all} checks and {seconds:.0f} seconds")
+    return 0 if refused == tried_in_all else 1
+
+
+if __name__ == "__main__":
+    sys.exit(main())
