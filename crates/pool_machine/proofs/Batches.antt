@@ -3,8 +3,8 @@ use Rattle.std.proofs.Common.{◌≡◌, ◌≢◌, ℕ, zero, suc, ◌<◌, tru
 use Rattle.std.proofs.lemmas.Bool.{eqb-true, eq-eqb, ne_eqb}
 use Rattle.pool_machine.specs.State.{State, Waiting, inbox}
 use Rattle.pool_machine.specs.Sound.{Member, Rising}
-use Rattle.pool_machine.specs.Listing.{Listing, BatchListing, inbox_listing, as_waiting, slots_seen, ShowsFrame}
-use Rattle.pool_machine.proofs.Located.{BatchOf, slots_in, if_numbered}
+use Rattle.pool_machine.specs.Listing.{Listing, BatchListing, as_waiting, slots_seen, ShowsFrame}
+use Rattle.pool_machine.proofs.Located.{inbox_listing, BatchOf, slots_in, if_numbered}
 use Rattle.pool_machine.proofs.Basics.{filter_member, Member-filter}
 use Rattle.pool_machine.proofs.Keeps.{Rising-filter}
 

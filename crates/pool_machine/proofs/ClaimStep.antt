@@ -17,8 +17,8 @@ use Rattle.pool_machine.specs.Slots.{same_slot, has_index, times, one_if}
 use Rattle.pool_machine.specs.State.{State, Place, AtHome, owner_or, class_or, owner_of}
 use Rattle.pool_machine.specs.Refusals.{refusal}
 use Rattle.pool_machine.specs.Steps.{with_chunk}
-use Rattle.pool_machine.specs.Listing.{slots_seen, Listing, DeskListing, Entry, BatchListing, desk_listing, inbox_listing, Labelled, Counted}
-use Rattle.pool_machine.proofs.Located.{ListName, HomeOf, Loans, CacheOf, BatchOf, same_list, list_at, list_of, is_list, slots_in, Located, LocatedStep}
+use Rattle.pool_machine.specs.Listing.{slots_seen, Listing, DeskListing, Entry, BatchListing, desk_listing, Labelled, Counted}
+use Rattle.pool_machine.proofs.Located.{inbox_listing, ListName, HomeOf, Loans, CacheOf, BatchOf, same_list, list_at, list_of, is_list, slots_in, Located, LocatedStep}
 use Rattle.pool_machine.proofs.Basics.{none_holds}
 use Rattle.pool_machine.proofs.Enumerate.{count_append, chunk_times}
 use Rattle.pool_machine.proofs.FloorSteps.{with_desk, desk_here, desk_other, desk_keeps}

@@ -11,8 +11,8 @@ use Rattle.pool_machine.specs.State.{State, Place, AtHome, OnLoan, InCache, InBa
 use Rattle.pool_machine.specs.Refusals.{refusal, no_desk, slot_at}
 use Rattle.pool_machine.specs.Steps.{freed_place, after_free, relocate, move_one}
 use Rattle.pool_machine.specs.Sound.{Sound}
-use Rattle.pool_machine.specs.Listing.{slots_seen, Listing, DeskListing, Entry, BatchListing, desk_listing, inbox_listing, Labelled, Counted, ShowsFrame}
-use Rattle.pool_machine.proofs.Located.{ListName, HomeOf, Loans, CacheOf, BatchOf, same_list, list_at, list_of, is_list, slots_in, if_numbered, Located}
+use Rattle.pool_machine.specs.Listing.{slots_seen, Listing, DeskListing, Entry, BatchListing, desk_listing, Labelled, Counted, ShowsFrame}
+use Rattle.pool_machine.proofs.Located.{inbox_listing, ListName, HomeOf, Loans, CacheOf, BatchOf, same_list, list_at, list_of, is_list, slots_in, if_numbered, Located}
 use Rattle.pool_machine.proofs.Basics.{same_slot_eq, same_slot_self, none_holds}
 use Rattle.pool_machine.proofs.Enumerate.{count_map, count_append}
 use Rattle.pool_machine.proofs.Moves.{same_list_eq}

@@ -9,8 +9,8 @@ use Rattle.pool_machine.specs.Slots.{times}
 use Rattle.pool_machine.specs.State.{State, Waiting, inbox}
 use Rattle.pool_machine.specs.Steps.{link_one}
 use Rattle.pool_machine.specs.Sound.{Member, Rising}
-use Rattle.pool_machine.specs.Listing.{Listing, BatchListing, inbox_listing, as_waiting, Counted}
-use Rattle.pool_machine.proofs.Located.{ListName, HomeOf, Loans, CacheOf, BatchOf, slots_in, if_numbered, Located, LocatedStep}
+use Rattle.pool_machine.specs.Listing.{Listing, BatchListing, as_waiting, Counted}
+use Rattle.pool_machine.proofs.Located.{inbox_listing, ListName, HomeOf, Loans, CacheOf, BatchOf, slots_in, if_numbered, Located, LocatedStep}
 use Rattle.pool_machine.proofs.Basics.{filter_member, link_keeps}
 use Rattle.pool_machine.proofs.Batches.{same_number, row_member, waits_there, row_rises}
 use Rattle.pool_machine.proofs.Keeps.{link_sound}

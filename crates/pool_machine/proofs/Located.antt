@@ -1,5 +1,5 @@
 -- Where a slot is, by the name of the list that it is in.
-use Rattle.std.proofs.Common.{◌≡◌, ℕ, Bool, true, false, ◌==◌, List, [], flat_map, option_map, if◌then◌else◌, All, Option, Some, None}
+use Rattle.std.proofs.Common.{◌≡◌, ℕ, Bool, true, false, ◌==◌, List, [], get_or, flat_map, option_map, if◌then◌else◌, All, Option, Some, None}
 use Rattle.region_cut.specs.declared.slot.Slot.{Slot}
 use Rattle.pool_machine.specs.declared.request.Request.{Request}
 use Rattle.pool_machine.specs.Slots.{times, one_if}
@@ -7,7 +7,11 @@ use Rattle.pool_machine.specs.State.{State, owner_of, Place, AtHome, OnLoan, InC
 use Rattle.pool_machine.specs.Steps.{Answer, Step}
 use Rattle.pool_machine.specs.Forwards.{counted}
 use Rattle.pool_machine.specs.Sound.{Sound}
-use Rattle.pool_machine.specs.Listing.{Listing, BatchListing, desk_listing, inbox_listing, slots_seen, Labelled, Counted, ShowsFrame}
+use Rattle.pool_machine.specs.Listing.{Listing, BatchListing, desk_listing, slots_seen, Labelled, Counted, ShowsFrame}
+
+-- the inbox of a desk
+abbrev pub inbox_listing : Listing → ℕ → List BatchListing
+inbox_listing v b = get_or v.inboxes b []
 
 -- a list of a floor: the slots at home with a desk, the lent buffers, a desk's cache, or a batch
 pub data ListName : Type 0 where

@@ -2,8 +2,8 @@
 use Rattle.std.proofs.Common.{◌≡◌, ℕ, true, List, get_or, All, Option, Some, None, is_some, option_map, refl, ap, lt_of_lt_of_le, le_trans}
 use Rattle.region_cut.specs.declared.slot.Slot.{Slot}
 use Rattle.pool_machine.specs.State.{State, Place, owner_of}
-use Rattle.pool_machine.specs.Listing.{Listing, Entry, BatchListing, desk_listing, inbox_listing}
-use Rattle.pool_machine.proofs.Located.{ListName, HomeOf, Loans, CacheOf, BatchOf, list_at, list_of, Located}
+use Rattle.pool_machine.specs.Listing.{Listing, Entry, BatchListing, desk_listing}
+use Rattle.pool_machine.proofs.Located.{inbox_listing, ListName, HomeOf, Loans, CacheOf, BatchOf, list_at, list_of, Located}
 use Rattle.pool_machine.proofs.FreeStep.{named_there, seen_counts, batch_counts, inbox_counts}
 
 module _ (v : Listing) (st : State) (count : Slot → ℕ) (h : Located v st count) where

@@ -6,7 +6,7 @@ use Rattle.pool_machine.specs.declared.request.Request.{Request}
 use Rattle.pool_machine.specs.State.{State, opening}
 use Rattle.pool_machine.specs.Steps.{Answer, Answers, Step, Run, after}
 use Rattle.pool_machine.specs.Forwards.{counted, forwards}
-use Rattle.pool_machine.specs.Reached.{IsReached, new_pool}
+use Rattle.pool_machine.specs.Reached.{IsReached}
 use Rattle.pool_machine.specs.Sound.{Sound}
 use Rattle.pool_machine.proofs.Keeps.{sound_run}
 use Rattle.pool_machine.proofs.Numbers.{after_numbers}
@@ -26,6 +26,10 @@ forwards_push [] [] old mid q y g s c = ap (λ st. counted st q y s c) (sym g)
 forwards_push (p ∷ qs) (x ∷ ys) old mid q y g s c = forwards_push qs ys (after old p x) mid q y g.1 s (counted old p x s c)
 forwards_push [] (x ∷ ys) old mid q y g s c = elim g [ ]
 forwards_push (p ∷ qs) [] old mid q y g s c = elim g [ ]
+
+-- how a pool with the numbers of this one begins
+abbrev new_pool : State → State
+new_pool st = opening st.desks st.chunks st.digits st.limit
 
 pub opening_reached : (desks chunks : ℕ) (digits : Scheme) (limit : ℕ) → IsScheme digits → desks ≤ 2 ^ digits.bits →
     IsReached (opening desks chunks digits limit) (λ s. 0)

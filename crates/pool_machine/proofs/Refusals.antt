@@ -14,8 +14,8 @@ use Rattle.pool_machine.specs.Slots.{same_slot, times, one_if}
 use Rattle.pool_machine.specs.State.{profile_at, least_class, State, Waiting, owner_of, class_of, slots, near, home_with, has_home, cached_by, in_bucket, inbox, is_lent}
 use Rattle.pool_machine.specs.Refusals.{first, conditions, refusal, no_desk, is_idle, is_half, front_ready, slot_at, may_grow}
 use Rattle.pool_machine.specs.Sound.{Member}
-use Rattle.pool_machine.specs.Listing.{Listing, Entry, BatchListing, slots_seen, desk_listing, inbox_listing, as_waiting}
-use Rattle.pool_machine.proofs.Located.{HomeOf, Loans, CacheOf, list_of, is_list, Located, LocatedStep}
+use Rattle.pool_machine.specs.Listing.{Listing, Entry, BatchListing, slots_seen, desk_listing, as_waiting}
+use Rattle.pool_machine.proofs.Located.{inbox_listing, HomeOf, Loans, CacheOf, list_of, is_list, Located, LocatedStep}
 use Rattle.digit_route.specs.Digits.{Scheme, common}
 use Rattle.digit_route.specs.Profiles.{profile_of}
 use Rattle.pool_machine.proofs.Basics.{Member-filter}

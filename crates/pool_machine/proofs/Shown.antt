@@ -12,9 +12,9 @@ use Rattle.pool_machine.specs.Forwards.{counted}
 use Rattle.pool_machine.specs.Sound.{Member, Sound, Fits}
 use Rattle.pool_machine.specs.SlotLists.{at_home_with}
 use Rattle.pool_machine.specs.Reached.{IsReached}
-use Rattle.pool_machine.specs.Listing.{Listing, BatchListing, desk_listing, inbox_listing, slots_seen, Shown}
+use Rattle.pool_machine.specs.Listing.{Listing, BatchListing, desk_listing, slots_seen, Shown}
 use Rattle.pool_machine.specs.Headline.{joined, Applies}
-use Rattle.pool_machine.proofs.Located.{ListName, HomeOf, Loans, CacheOf, BatchOf, list_at, list_of, is_list, slots_in, if_numbered, Located, LocatedStep}
+use Rattle.pool_machine.proofs.Located.{inbox_listing, ListName, HomeOf, Loans, CacheOf, BatchOf, list_at, list_of, is_list, slots_in, if_numbered, Located, LocatedStep}
 use Rattle.pool_machine.proofs.Batches.{stands_there, batch_only}
 use Rattle.pool_machine.proofs.Enumerate.{count_append, slots_once}
 use Rattle.pool_machine.proofs.InPlace.{in_cache_is}

@@ -12,8 +12,8 @@ use Rattle.pool_machine.specs.State.{State, Waiting, Place, AtHome, OnLoan, InCa
 use Rattle.pool_machine.specs.Refusals.{refusal}
 use Rattle.pool_machine.specs.Steps.{after_take, front_of, front_number}
 use Rattle.pool_machine.specs.Sound.{Member, Rising}
-use Rattle.pool_machine.specs.Listing.{slots_seen, Listing, DeskListing, Entry, BatchListing, desk_listing, inbox_listing, as_waiting, Labelled, Counted}
-use Rattle.pool_machine.proofs.Located.{ListName, HomeOf, Loans, CacheOf, BatchOf, same_list, list_at, list_of, is_list, slots_in, if_numbered, Located, LocatedStep}
+use Rattle.pool_machine.specs.Listing.{slots_seen, Listing, DeskListing, Entry, BatchListing, desk_listing, as_waiting, Labelled, Counted}
+use Rattle.pool_machine.proofs.Located.{inbox_listing, ListName, HomeOf, Loans, CacheOf, BatchOf, same_list, list_at, list_of, is_list, slots_in, if_numbered, Located, LocatedStep}
 use Rattle.pool_machine.proofs.Basics.{none_holds, filter_member}
 use Rattle.pool_machine.proofs.Enumerate.{count_append}
 use Rattle.pool_machine.proofs.FloorSteps.{with_desk, desk_here, desk_other, desk_keeps}

@@ -23,8 +23,7 @@ ShowsSome v = (st : State) × (count : Slot → ℕ) × Shown v st count
 
 -- all lists of a floor joined: homes, lent buffers, caches and batches
 abbrev pub joined : Listing → List Slot
-joined v =
-    flat_map (λ (d : DeskListing). slots_seen d.home) v.desks ++ (slots_seen v.lent
+joined v = flat_map (λ (d : DeskListing). slots_seen d.home) v.desks ++ (slots_seen v.lent
     ++ (flat_map (λ (d : DeskListing). slots_seen d.cache) v.desks
     ++ flat_map (λ ws. flat_map (λ (w : BatchListing). slots_seen w.buffers) ws) v.inboxes))
 

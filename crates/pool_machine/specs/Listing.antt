@@ -44,12 +44,9 @@ pub record Listing : Type 0 where
 abbrev pub empty_desk : DeskListing
 empty_desk = record { worker = None; home = []; cache = [] }
 
--- the desk of a number, and its inbox
+-- the desk of a number
 abbrev pub desk_listing : Listing → ℕ → DeskListing
 desk_listing v a = slice_index_or v.desks a empty_desk
-
-abbrev pub inbox_listing : Listing → ℕ → List BatchListing
-inbox_listing v b = slice_index_or v.inboxes b []
 
 -- the batch as the machine sees it
 abbrev pub as_waiting : BatchListing → Waiting
@@ -79,7 +76,7 @@ pub record ShowsFrame (v : Listing) (st : State) : Type 0 where
   pub chunks : v.chunks ≡ st.chunks
   pub drawn : (k : ℕ) → slice_get v.drawn k ≡ st.drawn k
   pub holder : (a : ℕ) → (desk_listing v a).worker ≡ st.holder a
-  pub inboxes : (b : ℕ) → map as_waiting (inbox_listing v b) ≡ inbox st b
+  pub inboxes : (b : ℕ) → map as_waiting (slice_index_or v.inboxes b []) ≡ inbox st b
 
 -- the list has these slots, each as often as it is there, and this holds of each entry
 abbrev pub HasSlots : (Entry → Type 0) → List Entry → List Slot → Type 0
@@ -94,4 +91,4 @@ pub record Shown (v : Listing) (st : State) (count : Slot → ℕ) : Type 0 wher
   pub lent : HasSlots (Labelled st) v.lent (lent_slots st)
   pub caches : (a : ℕ) → HasSlots (Counted st count) (desk_listing v a).cache (cached_slots st a)
   pub batches : (b : ℕ) → All (λ (w : BatchListing).
-      HasSlots (Counted st count) w.buffers (slots_of_batch st w.number)) (inbox_listing v b)
+      HasSlots (Counted st count) w.buffers (slots_of_batch st w.number)) (slice_index_or v.inboxes b [])

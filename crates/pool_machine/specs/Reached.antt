@@ -7,10 +7,6 @@ use Rattle.pool_machine.specs.State.{State, opening}
 use Rattle.pool_machine.specs.Steps.{Answer, Run}
 use Rattle.pool_machine.specs.Forwards.{forwards}
 
--- how a pool with the numbers of this one begins
-abbrev pub new_pool : State → State
-new_pool st = opening st.desks st.chunks st.digits st.limit
-
 -- A run of a new pool leads to this state, and each slot was passed on so often since it was last freed. There are at
 -- most as many desks as numbers.
 pub record IsReached (st : State) (count : Slot → ℕ) : Type 0 where
@@ -18,5 +14,5 @@ pub record IsReached (st : State) (count : Slot → ℕ) : Type 0 where
   pub desks : st.desks ≤ 2 ^ st.digits.bits
   pub requests : List Request
   pub answers : List Answer
-  pub run : Run (new_pool st) requests answers st
-  pub counts : (s : Slot) → count s ≡ forwards (new_pool st) requests answers s 0
+  pub run : Run (opening st.desks st.chunks st.digits st.limit) requests answers st
+  pub counts : (s : Slot) → count s ≡ forwards (opening st.desks st.chunks st.digits st.limit) requests answers s 0

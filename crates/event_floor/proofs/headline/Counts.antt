@@ -14,7 +14,8 @@ use Rattle.slot_chain.specs.Slots.{slot_of}
 use Rattle.pool_desk.specs.Homes.{slot_at}
 use Rattle.pool_machine.specs.declared.chunk.DrawnChunk.{DrawnChunk}
 use Rattle.pool_machine.specs.Headline.{joined}
-use Rattle.pool_machine.specs.Listing.{DeskListing, BatchListing, slots_seen, inbox_listing, Shown}
+use Rattle.pool_machine.proofs.Located.{inbox_listing}
+use Rattle.pool_machine.specs.Listing.{DeskListing, BatchListing, slots_seen, Shown}
 use Rattle.pool_machine.specs.Slots.{one_if}
 use Rattle.pool_machine.specs.State.{State, slots, cached_by}
 use Rattle.pool_machine.specs.SlotLists.{at_home_with, home_slots, cached_slots, queued_slots, lent_slots, drawn_count}

@@ -19,8 +19,8 @@ use Rattle.event_floor.specs.Steps.{SendsBatch, LinksBatch, TakesFront}
 use Rattle.pool_machine.specs.State.{State, bucket, in_bucket, slots, slots_of_batch, is_queued, owner_of}
 use Rattle.pool_machine.specs.Steps.{Step, front_of, coming_home, going_on}
 use Rattle.pool_machine.specs.Forwards.{counted as forward_count}
-use Rattle.pool_machine.specs.Listing.{Entry, DeskListing, BatchListing, Listing, inbox_listing}
-use Rattle.pool_machine.proofs.Located.{Located, LocatedStep}
+use Rattle.pool_machine.specs.Listing.{Entry, DeskListing, BatchListing, Listing}
+use Rattle.pool_machine.proofs.Located.{inbox_listing, Located, LocatedStep}
 use Rattle.event_floor.specs.headline.Listing.{entry_of, entry_at, desk_of, batch_of, listing_of}
 use Rattle.event_floor.specs.headline.Whole.{IsWhole}
 use Rattle.pool_machine.proofs.Refusals.{goes_by}

@@ -21,7 +21,8 @@ use Rattle.event_floor.specs.Steps.{Refuses, Routes, class_limit, size_limit}
 use Rattle.pool_machine.specs.State.{Waiting, least_class}
 use Rattle.pool_machine.specs.Slots.{same_slot}
 use Rattle.pool_machine.specs.Refusals.{first, is_half, front_ready, slot_at}
-use Rattle.pool_machine.specs.Listing.{Entry, DeskListing, desk_listing, inbox_listing, as_waiting}
+use Rattle.pool_machine.proofs.Located.{inbox_listing}
+use Rattle.pool_machine.specs.Listing.{Entry, DeskListing, desk_listing, as_waiting}
 use Rattle.event_floor.specs.headline.Listing.{entry_of, batch_of, listing_of}
 use Rattle.pool_machine.proofs.Refusals.{refusal_seen, goes_by, any_queued, any_of_row}
 use Rattle.event_floor.proofs.headline.Least.{holds_within, least_is}

@@ -16,7 +16,8 @@ use Rattle.pool_machine.specs.declared.refusal.Refusal.TheVariants.{NoDesk, Idle
 use Rattle.event_floor.specs.Inboxes.{inbox_at}
 use Rattle.event_floor.specs.Floors.{FloorState, desk_at, desk_count, no_desk, IsIdle, IsHeld, with_any_desk}
 use Rattle.pool_machine.specs.Refusals.{first}
-use Rattle.pool_machine.specs.Listing.{Entry, DeskListing, desk_listing, inbox_listing}
+use Rattle.pool_machine.proofs.Located.{inbox_listing}
+use Rattle.pool_machine.specs.Listing.{Entry, DeskListing, desk_listing}
 use Rattle.event_floor.specs.headline.Listing.{entry_at, desk_of, batch_of, listing_of}
 use Rattle.event_floor.proofs.headline.Lists.{get_or-map_default, set-map, any-map}
 
