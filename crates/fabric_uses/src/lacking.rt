@@ -1,0 +1,37 @@
+//! A station that doesn't come back.
+ghost use Rattle.std.specs.Prelude.{◌≡◌, IfOk};
+ghost use Rattle.pool_fabric.specs.Whole.{IsEachDesk};
+
+use batch_inbox::{Inbox, SendSeat, TakeSeat};
+use pool_fabric::{Fabric, Found, GatherError, Naming, Opening, gather};
+use std::alloc::Global;
+use std::marker::Brand;
+use std::sync::Wait;
+
+// The same at a fabric that `J` names.
+fn without_one_at<'r, J: Naming, R: Wait>(
+    rt: &R,
+    alloc: Global,
+    opening: Opening<'r, Inbox<'r>, TakeSeat<'r>, SendSeat<'r>>,
+) -> Result<Found<'r>, GatherError>
+    requires { J.names ≡ opening }
+    ensures { IfOk result (λ f. IsEachDesk opening.entry.count f.desks.items) }
+{
+    let Ok(fabric) = Fabric::<'r, Inbox<'r>, TakeSeat<'r>, SendSeat<'r>, J>::open(alloc, opening)
+    else {
+        return Err(GatherError::NoMemory);
+    };
+    drop(fabric.station(rt));
+    gather(rt, alloc, fabric, Vec::new(alloc))
+}
+
+/// A fabric is opened, one of its stations dropped, and the others gathered.
+pub fn without_one<'r, R: Wait>(
+    rt: &R,
+    alloc: Global,
+    opening: Opening<'r, Inbox<'r>, TakeSeat<'r>, SendSeat<'r>>,
+) -> Result<Found<'r>, GatherError>
+    ensures { IfOk result (λ f. IsEachDesk opening.entry.count f.desks.items) }
+{
+    without_one_at::<Brand, R>(rt, alloc, opening)
+}

@@ -1,0 +1,4 @@
+//! Tests of a fabric: posts that are refused, and stations that are missing.
+
+mod lacking;
+mod refused;
