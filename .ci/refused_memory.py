@@ -28,6 +28,8 @@ import time
 TOP = pathlib.Path(__file__).resolve().parent.parent
 SECONDS = 60
 WRITTEN_FOR_IT = {
+    "inbox_uses": "deep::,dropped::,order::,users::",
+    "link_uses": "deep::,dropped::,half::,nodes::,order::,users::",
     "trace_uses": "growing,each_slot_once,the_least_fault_is_named,the_number_is_not_enough",
 }
 
