@@ -1,25 +1,33 @@
 //! A station that is dropped is missing at the end.
 
+ghost use Rattle.std.specs.Prelude.{◌≤◌};
+
 use crate::without_one;
 use digit_route::Digits;
 use pool_fabric::{GatherError, Opening};
 use region_cut::{CHUNK, cut};
+use std::sync::Wait;
 use std::test::Fail;
+
+// Whether a station is told as missing, at so many desks.
+fn is_missing<R: AllocGlobal + Wait>(rt: &R, desks: u16) -> Result<bool, Fail>
+    requires { (1 ≤ desks) × (desks ≤ 64) }
+{
+    let alloc = rt.alloc();
+    let mut region = Vec::from_elem(alloc, 0u8, CHUNK)?;
+    let parts = cut(alloc, region.as_mut_slice())?;
+    let digits = Digits::new(2).ok_or("two bits")?;
+    let opening = Opening::new(alloc, parts, desks, digits, 4_096)?;
+    match without_one(rt, alloc, opening) {
+        Err(GatherError::Missing) => Ok(true),
+        _ => Ok(false),
+    }
+}
 
 #[test]
 fn a_dropped_station_is_missing(rt: HostRuntime) -> Result<(), Fail> {
-    let alloc = rt.alloc();
-    for desks in [1u16, 2, 64] {
-        let mut region = Vec::from_elem(alloc, 0u8, CHUNK)?;
-        let parts = cut(alloc, region.as_mut_slice())?;
-        let digits = Digits::new(2).ok_or("two bits")?;
-        let opening = Opening::new(alloc, parts, desks, digits, 4_096)?;
-        let answer = without_one(&rt, alloc, opening);
-        let is_missing = match answer {
-            Err(GatherError::Missing) => true,
-            _ => false,
-        };
-        assert!(rt; is_missing);
-    }
+    assert!(rt; is_missing(&rt, 1)?);
+    assert!(rt; is_missing(&rt, 2)?);
+    assert!(rt; is_missing(&rt, 64)?);
     Ok(())
 }
