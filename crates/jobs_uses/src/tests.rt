@@ -2,13 +2,15 @@
 
 mod alone;
 mod meeting;
+mod refused;
+mod tasks;
 mod workloads;
 
 ghost use Rattle.std.specs.Prelude.{◌≤◌};
 
 use digit_route::Digits;
 use pool_fabric::Opening;
-use pool_jobs::{Gate, Plan, Tally, Workload, work};
+use pool_jobs::{Finished, Gate, Plan, Tally, Task, Workload, run, work};
 use rand_pcg::Pcg32;
 use region_cut::{CHUNK, cut};
 use std::sync::Wait;
@@ -41,4 +43,40 @@ fn tally_of<G: Gate + Sync, R: AllocGlobal + Threads + Wait + Sync>(
     let opening = Opening::new(alloc, parts, ground.desks, digits, ground.limit)?;
     let ended = work::<G, Pcg32, R>(rt, alloc, opening, gate, workload, plan)?;
     Ok(ended.tally)
+}
+
+// What tasks answered and counted.
+#[derive(Drop)]
+struct Outcome<A: Drop> {
+    answers: Vec<Option<A>>,
+    tally: Tally,
+}
+
+// The tasks over this ground.
+fn outcome_of<G, K, R>(
+    rt: &R,
+    gate: &G,
+    ground: Ground,
+    tasks: Vec<K>,
+) -> Result<Outcome<K::Answer>, Fail>
+where
+    G: Gate + Sync,
+    K: Task + Send,
+    R: AllocGlobal + Threads + Wait + Sync,
+    K::Answer: Send,
+    requires { (1 ≤ ground.desks) × (ground.desks ≤ 64) × (ground.limit ≤ 1048576) × (ground.chunks ≤ 1024) }
+{
+    let alloc = rt.alloc();
+    let mut region = Vec::from_elem(alloc, 0u8, ground.chunks * CHUNK)?;
+    let parts = cut(alloc, region.as_mut_slice())?;
+    let digits = Digits::new(ground.width).ok_or("a width")?;
+    let opening = Opening::new(alloc, parts, ground.desks, digits, ground.limit)?;
+    let finished = run(rt, alloc, opening, gate, tasks)?;
+    let Finished {
+        answers,
+        tally,
+        found,
+    } = finished;
+    drop(found);
+    Ok(Outcome { answers, tally })
 }
