@@ -38,8 +38,9 @@ pub fn cached_were_passed_on_few_times(desk: &Desk<'_>) -> u16
 }
 
 // Sets each byte, as many as the class has.
-fn fill(buf: &mut Buf<'_>, byte: u8)
-    ensures { buf.new ≡ record buf.old {
+pub(crate) fn fill(buf: &mut Buf<'_>, byte: u8)
+    ensures size { length buf.old.bytes.now ≡ size_of buf.old.class }
+    ensures filled { buf.new ≡ record buf.old {
       bytes = record buf.old.bytes { now = replicate (size_of buf.old.class) byte };
     } }
 {

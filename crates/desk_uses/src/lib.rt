@@ -6,8 +6,10 @@
 
 mod callers;
 mod crossing;
+mod living;
 #[cfg(test)]
 mod tests;
 
 pub use callers::{cached_were_passed_on_few_times, lend_and_take_back, written};
 pub use crossing::{desk_crosses, idle_desk_crosses};
+pub use living::lives;

@@ -3,6 +3,7 @@
 use super::{
     Play, bytes_of, claim, class, counts_are, desk, free_is, hold, lend_some, parts_or_not,
 };
+use crate::lives;
 use pool_desk::{Desk, Freed};
 use region_cut::{CHUNK, Part};
 use slot_chain::{Buf, Chain};
@@ -81,4 +82,22 @@ fn writes_reach_the_region(rt: HostRuntime) {
     if write_region(&rt, alloc, &mut region) {
         check(&rt, &region);
     }
+}
+
+// The bytes behind the slot that was filled stay. Where memory was refused, all do.
+fn lives_once(rt: &impl Abort, alloc: Global) {
+    let mut region = bytes_of(rt, alloc, CHUNK, 201);
+    assert!(rt; region.len() == CHUNK);
+    let (is_filled, endings) = lives(alloc, &mut region, 7);
+    drop(endings);
+    let front = if is_filled { 7 } else { 201 };
+    holds(rt, &region, 0, front);
+    holds(rt, &region, 15, front);
+    holds(rt, &region, 16, 201);
+    holds(rt, &region, 4095, 201);
+}
+
+#[test]
+fn a_desks_life_fills_the_front(rt: HostRuntime) {
+    lives_once(&rt, rt.alloc());
 }
