@@ -1,0 +1,230 @@
+//! Tasks and workloads over the inbox of two atomic steps.
+ghost use Rattle.std.specs.Prelude.{◌≡◌, IfOk};
+ghost use Rattle.pool_fabric.specs.Whole.{IsWhole};
+ghost use Rattle.pool_fabric.specs.Audited.{Audited};
+ghost use Rattle.pool_jobs.specs.Ends.{slots_found};
+
+use crate::buffer::Buffer;
+use crate::client::Applicant;
+use crate::counting::Counting;
+use crate::ended::{Ended, Finished, settle};
+use crate::error::JobError;
+use crate::gate::Gate;
+use crate::hand::{Reports, all_served, hands, reports_of};
+use crate::plan::{MOST_THREADS, Plan};
+use crate::rows::{Places, Round};
+use crate::task::Task;
+use crate::workload::{Back, Sorted, Workload, one_round, sorted_out, starters, turned};
+use link_inbox::{LinkInbox, SendSeat, TakeSeat};
+use pool_fabric::{Fabric, Naming, Opening};
+use rand_core::{Rng, SeedableRng};
+use std::alloc::Global;
+use std::marker::Brand;
+use std::sync::Wait;
+use std::thread::Threads;
+
+type At<'a, 'r, G, J, N> = Applicant<'a, 'r, LinkInbox<'r>, TakeSeat<'r>, SendSeat<'r>, G, J, N>;
+
+// One round, whose threads are all joined.
+fn round_over<'a, 'r, G, N, J, R>(
+    rt: &R,
+    alloc: Global,
+    workload: Workload,
+    starters: Vec<At<'a, 'r, G, J, N>>,
+    rows: Vec<Places<Buffer<'r, J>>>,
+    round: Round,
+    back: &mut Back<'r, TakeSeat<'r>, SendSeat<'r>, J>,
+) -> Result<Vec<Places<Buffer<'r, J>>>, JobError>
+where
+    G: Gate + Sync,
+    N: Rng + Send + Drop,
+    J: Naming + Send + Sync,
+    R: Threads + Wait + Sync,
+{
+    let spent = one_round(rt, alloc, workload, starters, rows, round)?;
+    let Ok(Sorted { lefts, rows }) = sorted_out(alloc, spent) else {
+        return Err(JobError::NoMemory);
+    };
+    match back.add(lefts) {
+        Ok(()) => Ok(rows),
+        Err(_) => Err(JobError::NoMemory),
+    }
+}
+
+// All rounds.
+fn rounds_over<'a, 'r, G, N, J, R>(
+    rt: &R,
+    alloc: Global,
+    fabric: &'a Fabric<'r, LinkInbox<'r>, TakeSeat<'r>, SendSeat<'r>, J>,
+    gate: &'a G,
+    workload: Workload,
+    plan: &Plan,
+    threads: u32,
+) -> Result<Back<'r, TakeSeat<'r>, SendSeat<'r>, J>, JobError>
+where
+    G: Gate + Sync,
+    N: Rng + SeedableRng + Send + Drop,
+    J: Naming + Send + Sync,
+    R: Threads + Wait + Sync,
+{
+    let rounds = workload.rounds(plan);
+    let mut back = Back::none(alloc);
+    let mut rows = Vec::new(alloc);
+    for number in 0..rounds {
+        let round = Round {
+            count: plan.count,
+            is_first: number == 0,
+            is_last: number.saturating_add(1) == rounds,
+        };
+        let seed = u64::from(plan.seed).wrapping_add(u64::from(number).wrapping_mul(64));
+        let drops = plan.drop_first && back.counts.lost == 0;
+        let Ok(ready) = starters(alloc, fabric, gate, seed, threads, drops) else {
+            return Err(JobError::NoMemory);
+        };
+        let next = round_over::<G, N, J, R>(rt, alloc, workload, ready, rows, round, &mut back)?;
+        let Ok(next) = turned(next) else {
+            return Err(JobError::NoMemory);
+        };
+        rows = next;
+    }
+    drop(rows);
+    Ok(back)
+}
+
+// The same at a fabric that `J` names, and its end.
+fn worked<'r, G, N, J, R>(
+    rt: &R,
+    alloc: Global,
+    opening: Opening<'r, LinkInbox<'r>, TakeSeat<'r>, SendSeat<'r>>,
+    gate: &G,
+    workload: Workload,
+    plan: &Plan,
+) -> Result<Ended<'r>, JobError>
+where
+    G: Gate + Sync,
+    N: Rng + SeedableRng + Send + Drop,
+    J: Naming + Send + Sync,
+    R: Threads + Wait + Sync,
+    requires { J.names ≡ opening }
+    ensures whole { IfOk result (λ e. IsWhole e.found.desks.items e.found.batches.items e.found.lent.items
+        e.found.freed.items e.found.parts.items opening.entry.chunks) }
+    ensures audit { IfOk result (λ e. Audited (slots_found e.found.desks.items e.found.batches.items)
+        e.found.drawn e.tally.audit) }
+{
+    let threads = opening.desks().min(MOST_THREADS as usize) as u32;
+    let Ok(fabric) = Fabric::open(alloc, opening) else {
+        return Err(JobError::NoMemory);
+    };
+    let Back { held, counts } = rounds_over::<G, N, J, R>(
+        rt, alloc, &fabric, gate, workload, plan, threads,
+    )?;
+    settle(rt, alloc, fabric, held, counts)
+}
+
+/// Runs a workload as [`work`](crate::work) does, over inboxes of two atomic steps. A post and a take
+/// need no memory there, and no lock. Where 16 batches of one desk to another were not taken yet,
+/// further ones wait in the desk's cache.
+pub fn work_linked<'r, G, N, R>(
+    rt: &R,
+    alloc: Global,
+    opening: Opening<'r, LinkInbox<'r>, TakeSeat<'r>, SendSeat<'r>>,
+    gate: &G,
+    workload: Workload,
+    plan: &Plan,
+) -> Result<Ended<'r>, JobError>
+where
+    G: Gate + Sync,
+    N: Rng + SeedableRng + Send + Drop,
+    R: Threads + Wait + Sync,
+    ensures whole { IfOk result (λ e. IsWhole e.found.desks.items e.found.batches.items e.found.lent.items
+        e.found.freed.items e.found.parts.items opening.entry.chunks) }
+    ensures audit { IfOk result (λ e. Audited (slots_found e.found.desks.items e.found.batches.items)
+        e.found.drawn e.tally.audit) }
+{
+    worked::<G, N, Brand, R>(rt, alloc, opening, gate, workload, plan)
+}
+
+// Does all tasks, whose threads are all joined. Gives their answers.
+fn served_over<'a, 'r, G, K, J, R>(
+    rt: &R,
+    alloc: Global,
+    hands: Vec<Counting<'a, 'r, LinkInbox<'r>, TakeSeat<'r>, SendSeat<'r>, G, J>>,
+    tasks: Vec<K>,
+    back: &mut Back<'r, TakeSeat<'r>, SendSeat<'r>, J>,
+) -> Result<Vec<Option<K::Answer>>, JobError>
+where
+    G: Gate + Sync,
+    K: Task + Send,
+    J: Naming + Send + Sync,
+    R: Threads + Wait + Sync,
+    K::Answer: Send,
+{
+    let served = all_served(rt, alloc, hands, tasks)?;
+    let Ok(Reports { lefts, answers }) = reports_of(alloc, served) else {
+        return Err(JobError::NoMemory);
+    };
+    match back.add(lefts) {
+        Ok(()) => Ok(answers),
+        Err(_) => Err(JobError::NoMemory),
+    }
+}
+
+// The tasks at a fabric that `J` names, and its end.
+fn ran<'r, G, K, J, R>(
+    rt: &R,
+    alloc: Global,
+    opening: Opening<'r, LinkInbox<'r>, TakeSeat<'r>, SendSeat<'r>>,
+    gate: &G,
+    tasks: Vec<K>,
+) -> Result<Finished<'r, K::Answer>, JobError>
+where
+    G: Gate + Sync,
+    K: Task + Send,
+    J: Naming + Send + Sync,
+    R: Threads + Wait + Sync,
+    K::Answer: Send,
+    requires { J.names ≡ opening }
+    ensures whole { IfOk result (λ e. IsWhole e.found.desks.items e.found.batches.items e.found.lent.items
+        e.found.freed.items e.found.parts.items opening.entry.chunks) }
+    ensures audit { IfOk result (λ e. Audited (slots_found e.found.desks.items e.found.batches.items)
+        e.found.drawn e.tally.audit) }
+{
+    let wanted = tasks.len().min(MOST_THREADS as usize) as u32;
+    let Ok(fabric) = Fabric::open(alloc, opening) else {
+        return Err(JobError::NoMemory);
+    };
+    let Ok(hands) = hands(rt, alloc, &fabric, gate, wanted) else {
+        return Err(JobError::NoMemory);
+    };
+    let mut back = Back::none(alloc);
+    let answers = served_over::<G, K, J, R>(rt, alloc, hands, tasks, &mut back)?;
+    let Back { held, counts } = back;
+    let Ended { tally, found } = settle(rt, alloc, fabric, held, counts.with_the_rest_lost())?;
+    Ok(Finished {
+        answers,
+        tally,
+        found,
+    })
+}
+
+/// Runs a program's own tasks as [`run`](crate::run) does, over inboxes of two atomic steps, as
+/// [`work_linked`] has them.
+pub fn run_linked<'r, G, K, R>(
+    rt: &R,
+    alloc: Global,
+    opening: Opening<'r, LinkInbox<'r>, TakeSeat<'r>, SendSeat<'r>>,
+    gate: &G,
+    tasks: Vec<K>,
+) -> Result<Finished<'r, K::Answer>, JobError>
+where
+    G: Gate + Sync,
+    K: Task + Send,
+    R: Threads + Wait + Sync,
+    K::Answer: Send,
+    ensures whole { IfOk result (λ e. IsWhole e.found.desks.items e.found.batches.items e.found.lent.items
+        e.found.freed.items e.found.parts.items opening.entry.chunks) }
+    ensures audit { IfOk result (λ e. Audited (slots_found e.found.desks.items e.found.batches.items)
+        e.found.drawn e.tally.audit) }
+{
+    ran::<G, K, Brand, R>(rt, alloc, opening, gate, tasks)
+}
