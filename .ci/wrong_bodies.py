@@ -11,7 +11,8 @@ that nothing is said against is tried again without those that were refused, and
 else, such as a constant, stand in must-fail/.
 
 An edit is refused where the prover says, at a place in this function, which clause it can't prove, or refuses a proof
-written by hand for this function. It says little where such a proof only names what the edit took away; the line
+written by hand for this function. It says little where such a proof only names what the edit took away, and where
+the crate isn't proved but nothing is said of the function, as for a form that the checker doesn't cover; the line
 tells that. Run it behind `rt ci` or `rt all check`, which leave the libraries in out/; what the latter keeps there of
 a crate's own proofs is taken over. At most N crates at a time, and without --jobs as many as there are processors.
 
@@ -220,6 +221,15 @@ def said_of(folder):
     return [it.groups() for it in map(SAID.match, told.splitlines()) if it] if is_tried else None, told
 
 
+def alone(said, told):
+    """Whether an edit is refused that was tried alone, where nothing is said against its function, and why."""
+    if said is None:
+        return False, f"BAD EDIT: {told[-600:]}"
+    if re.search(r"^logic=not-proved", told, re.M):
+        return True, "refused (but nothing is said of the function that it changes)"
+    return False, "NOT REFUSED"
+
+
 def tried(crate, edits):
     """For each edit of the crate whether it is refused, and why."""
     waiting, answers, checks = list(edits), [], 0
@@ -232,10 +242,7 @@ def tried(crate, edits):
             said, told = said_of(folder)
             checks += 1
             found = [(edit, *answer(edit, texts, said or [])) for edit in batch]
-            if len(batch) == 1 and not found[0][1]:
-                found = [(batch[0], False, "NOT REFUSED" if said is not None else f"BAD EDIT: {told[-600:]}")]
-            else:
-                found = [it for it in found if it[1]]
+            found = [it for it in found if it[1]] or [(it, *alone(said, told)) for it in batch if len(batch) == 1]
             # where nothing of a batch is refused they are tried one by one
             size = len(waiting) if found else 1
             answers += found
