@@ -10,20 +10,31 @@ ghost use Rattle.std.specs.Prelude.{◌≤◌};
 
 use digit_route::Digits;
 use pool_fabric::Opening;
-use pool_jobs::{Finished, Gate, Plan, Tally, Task, Workload, run, work};
+use pool_jobs::{Finished, Gate, Plan, Tally, Task, Workload, run, run_linked, work, work_linked};
 use rand_pcg::Pcg32;
 use region_cut::{CHUNK, cut};
 use std::sync::Wait;
 use std::test::Fail;
 use std::thread::Threads;
 
-// What a workload is run over: chunks, desks, bits of a digit, and the limit of a cache in bytes.
+// Which inboxes the desks have.
+#[derive(Clone, Copy)]
+enum Inboxes {
+    Queues,
+    Links,
+}
+
+const BOTH: [Inboxes; 2] = [Inboxes::Queues, Inboxes::Links];
+
+// What a workload is run over: chunks, desks, bits of a digit, the limit of a cache in bytes, and
+// the inboxes.
 #[derive(Clone, Copy)]
 struct Ground {
     chunks: usize,
     desks: u16,
     width: u32,
     limit: u64,
+    inboxes: Inboxes,
 }
 
 // The workload over this ground.
@@ -40,9 +51,18 @@ fn tally_of<G: Gate + Sync, R: AllocGlobal + Threads + Wait + Sync>(
     let mut region = Vec::from_elem(alloc, 0u8, ground.chunks * CHUNK)?;
     let parts = cut(alloc, region.as_mut_slice())?;
     let digits = Digits::new(ground.width).ok_or("a width")?;
-    let opening = Opening::new(alloc, parts, ground.desks, digits, ground.limit)?;
-    let ended = work::<G, Pcg32, R>(rt, alloc, opening, gate, workload, plan)?;
-    Ok(ended.tally)
+    match ground.inboxes {
+        Inboxes::Queues => {
+            let opening = Opening::new(alloc, parts, ground.desks, digits, ground.limit)?;
+            let ended = work::<G, Pcg32, R>(rt, alloc, opening, gate, workload, plan)?;
+            Ok(ended.tally)
+        }
+        Inboxes::Links => {
+            let opening = Opening::new(alloc, parts, ground.desks, digits, ground.limit)?;
+            let ended = work_linked::<G, Pcg32, R>(rt, alloc, opening, gate, workload, plan)?;
+            Ok(ended.tally)
+        }
+    }
 }
 
 // What tasks answered and counted.
@@ -70,8 +90,16 @@ where
     let mut region = Vec::from_elem(alloc, 0u8, ground.chunks * CHUNK)?;
     let parts = cut(alloc, region.as_mut_slice())?;
     let digits = Digits::new(ground.width).ok_or("a width")?;
-    let opening = Opening::new(alloc, parts, ground.desks, digits, ground.limit)?;
-    let finished = run(rt, alloc, opening, gate, tasks)?;
+    let finished = match ground.inboxes {
+        Inboxes::Queues => {
+            let opening = Opening::new(alloc, parts, ground.desks, digits, ground.limit)?;
+            run(rt, alloc, opening, gate, tasks)?
+        }
+        Inboxes::Links => {
+            let opening = Opening::new(alloc, parts, ground.desks, digits, ground.limit)?;
+            run_linked(rt, alloc, opening, gate, tasks)?
+        }
+    };
     let Finished {
         answers,
         tally,

@@ -1,6 +1,6 @@
 //! Workers run at the same time, and hold no lock while the gate holds them.
 
-use super::{Ground, tally_of};
+use super::{Ground, Inboxes, tally_of};
 use pool_jobs::{Gate, Plan, Workload};
 use std::sync::atomic::{AtomicBool, Ordering};
 use std::test::Fail;
@@ -60,6 +60,7 @@ fn two_workers_meet(rt: HostRuntime) -> Result<(), Fail> {
         desks: 2,
         width: 2,
         limit: 4_096,
+        inboxes: Inboxes::Queues,
     };
     let plan = Plan {
         count: 2,

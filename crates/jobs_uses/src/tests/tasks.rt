@@ -1,6 +1,8 @@
 //! A program's own tasks: what they count, and what is found when they have ended.
 
-use super::{Ground, Outcome, outcome_of};
+ghost use Rattle.std.specs.Prelude.{◌≡◌};
+
+use super::{BOTH, Ground, Inboxes, Outcome, outcome_of};
 use pool_jobs::{Bytes, Channels, Heap, NoGate, PoolError, Task};
 use std::sync::Wait;
 use std::test::Fail;
@@ -147,12 +149,15 @@ fn drop_all<B: Bytes, R: Wait>(rt: &R, channels: &Channels<B>) -> u64 {
 }
 
 // A pool of so many chunks and desks, whose caches are due beyond this limit.
-fn ground(chunks: usize, desks: u16, limit: u64) -> Ground {
+fn ground(inboxes: Inboxes, chunks: usize, desks: u16, limit: u64) -> Ground
+    ensures { (result.chunks ≡ chunks) × (result.desks ≡ desks) × (result.limit ≡ limit) }
+{
     Ground {
         chunks,
         desks,
         width: 2,
         limit,
+        inboxes,
     }
 }
 
@@ -165,93 +170,156 @@ fn is_missing(audit: Result<(), Fault>) -> bool {
 
 #[test]
 fn one_task(rt: HostRuntime) -> Result<(), Fail> {
-    let tasks = vec![in rt.alloc(); Act::Alone(10)]?;
-    let Outcome { answers, tally } = outcome_of(&rt, &NoGate, ground(2, 1, 4_096), tasks)?;
-    assert!(rt; answers.as_slice() == [Some(Ok(10))].as_slice());
-    assert!(rt; tally.counts.allocated == 10 && tally.counts.freed == 10);
-    assert!(rt; tally.counts.starved == 0 && tally.counts.lost == 0);
-    assert!(rt; tally.audit.is_ok());
+    for inboxes in BOTH {
+        let tasks = vec![in rt.alloc(); Act::Alone(10)]?;
+        let Outcome { answers, tally } = outcome_of(
+            &rt,
+            &NoGate,
+            ground(inboxes, 2, 1, 4_096),
+            tasks,
+        )?;
+        assert!(rt; answers.as_slice() == [Some(Ok(10))].as_slice());
+        assert!(rt; tally.counts.allocated == 10 && tally.counts.freed == 10);
+        assert!(rt; tally.counts.starved == 0 && tally.counts.lost == 0);
+        assert!(rt; tally.audit.is_ok());
+    }
     Ok(())
 }
 
 // No task at all, and tasks for which no desk is left.
 #[test]
 fn none_and_too_many(rt: HostRuntime) -> Result<(), Fail> {
-    let none: Vec<Act> = Vec::new(rt.alloc());
-    let Outcome { answers, tally } = outcome_of(&rt, &NoGate, ground(2, 1, 4_096), none)?;
-    assert!(rt; answers.is_empty() && tally.counts.allocated == 0 && tally.audit.is_ok());
-    let tasks = vec![in rt.alloc(); Act::Alone(3), Act::Alone(4), Act::Alone(5)]?;
-    let Outcome { answers, tally } = outcome_of(&rt, &NoGate, ground(4, 2, 4_096), tasks)?;
-    assert!(rt; answers.as_slice() == [Some(Ok(3)), Some(Ok(4)), None].as_slice());
-    assert!(rt; tally.counts.allocated == 7 && tally.counts.freed == 7 && tally.audit.is_ok());
+    for inboxes in BOTH {
+        let none: Vec<Act> = Vec::new(rt.alloc());
+        let Outcome { answers, tally } = outcome_of(
+            &rt,
+            &NoGate,
+            ground(inboxes, 2, 1, 4_096),
+            none,
+        )?;
+        assert!(rt; answers.is_empty() && tally.counts.allocated == 0 && tally.audit.is_ok());
+        let tasks = vec![in rt.alloc(); Act::Alone(3), Act::Alone(4), Act::Alone(5)]?;
+        let Outcome { answers, tally } = outcome_of(
+            &rt,
+            &NoGate,
+            ground(inboxes, 4, 2, 4_096),
+            tasks,
+        )?;
+        assert!(rt; answers.as_slice() == [Some(Ok(3)), Some(Ok(4)), None].as_slice());
+        assert!(rt; tally.counts.allocated == 7 && tally.counts.freed == 7 && tally.audit.is_ok());
+    }
     Ok(())
 }
 
 // What a task drops is lost, and the audit says so.
 #[test]
 fn dropped_buffers_are_missing(rt: HostRuntime) -> Result<(), Fail> {
-    let tasks = vec![in rt.alloc(); Act::Gives(10, 1), Act::Drops]?;
-    let Outcome { answers, tally } = outcome_of(&rt, &NoGate, ground(4, 2, 4_096), tasks)?;
-    assert!(rt; answers.as_slice() == [Some(Ok(10)), Some(Ok(10))].as_slice());
-    assert!(rt; tally.counts.allocated == 10 && tally.counts.freed == 0 && tally.counts.lost == 10);
-    assert!(rt; is_missing(tally.audit));
+    for inboxes in BOTH {
+        let tasks = vec![in rt.alloc(); Act::Gives(10, 1), Act::Drops]?;
+        let Outcome { answers, tally } = outcome_of(
+            &rt,
+            &NoGate,
+            ground(inboxes, 4, 2, 4_096),
+            tasks,
+        )?;
+        assert!(rt; answers.as_slice() == [Some(Ok(10)), Some(Ok(10))].as_slice());
+        assert!(rt;
+            tally.counts.allocated == 10 && tally.counts.freed == 0 && tally.counts.lost == 10
+        );
+        assert!(rt; is_missing(tally.audit));
+    }
     Ok(())
 }
 
 // A task fails at once: what was handed to it came back or is lost, and the others end.
 #[test]
 fn a_task_that_fails(rt: HostRuntime) -> Result<(), Fail> {
-    let tasks = vec![in rt.alloc(); Act::Gives(100, 1), Act::Fails, Act::Alone(5)]?;
-    let Outcome { answers, tally } = outcome_of(&rt, &NoGate, ground(32, 3, 4_096), tasks)?;
-    assert!(rt; answers.len() == 3 && answers[1] == Some(Err(PoolError::UsedUp)));
-    assert!(rt; answers[2] == Some(Ok(5)));
-    assert!(rt; tally.counts.allocated == 105 && tally.counts.starved == 0);
-    assert!(rt; tally.counts.freed.wrapping_add(tally.counts.lost) == 105);
-    let expected = tally.counts.lost > 0;
-    assert!(rt; is_missing(tally.audit) == expected);
-    assert!(rt; tally.audit.is_err() == expected);
+    for inboxes in BOTH {
+        let tasks = vec![in rt.alloc(); Act::Gives(100, 1), Act::Fails, Act::Alone(5)]?;
+        let Outcome { answers, tally } = outcome_of(
+            &rt,
+            &NoGate,
+            ground(inboxes, 32, 3, 4_096),
+            tasks,
+        )?;
+        assert!(rt; answers.len() == 3 && answers[1] == Some(Err(PoolError::UsedUp)));
+        assert!(rt; answers[2] == Some(Ok(5)));
+        assert!(rt; tally.counts.allocated == 105 && tally.counts.starved == 0);
+        assert!(rt; tally.counts.freed.wrapping_add(tally.counts.lost) == 105);
+        let expected = tally.counts.lost > 0;
+        assert!(rt; is_missing(tally.audit) == expected);
+        assert!(rt; tally.audit.is_err() == expected);
+    }
     Ok(())
 }
 
 // Eight threads over two chunks, and two over none: who finds none starves.
 #[test]
 fn a_used_up_pool(rt: HostRuntime) -> Result<(), Fail> {
-    let mut tasks = Vec::new(rt.alloc());
-    for _ in 0..8 {
-        tasks.push(Act::Alone(50))?;
+    for inboxes in BOTH {
+        let mut tasks = Vec::new(rt.alloc());
+        for _ in 0..8 {
+            tasks.push(Act::Alone(50))?;
+        }
+        let Outcome { answers: _, tally } = outcome_of(
+            &rt,
+            &NoGate,
+            ground(inboxes, 2, 8, 4_096),
+            tasks,
+        )?;
+        assert!(rt; tally.counts.starved > 0);
+        assert!(rt; tally.counts.allocated.wrapping_add(tally.counts.starved) == 400);
+        assert!(rt; tally.counts.freed == tally.counts.allocated && tally.audit.is_ok());
+        let tasks = vec![in rt.alloc(); Act::Gives(5, 1), Act::Frees]?;
+        let Outcome { answers, tally } = outcome_of(
+            &rt,
+            &NoGate,
+            ground(inboxes, 0, 2, 4_096),
+            tasks,
+        )?;
+        assert!(rt; answers.as_slice() == [Some(Ok(0)), Some(Ok(0))].as_slice());
+        assert!(rt;
+            tally.counts.starved == 5 && tally.counts.allocated == 0 && tally.audit.is_ok()
+        );
     }
-    let Outcome { answers: _, tally } = outcome_of(&rt, &NoGate, ground(2, 8, 4_096), tasks)?;
-    assert!(rt; tally.counts.starved > 0);
-    assert!(rt; tally.counts.allocated.wrapping_add(tally.counts.starved) == 400);
-    assert!(rt; tally.counts.freed == tally.counts.allocated && tally.audit.is_ok());
-    let tasks = vec![in rt.alloc(); Act::Gives(5, 1), Act::Frees]?;
-    let Outcome { answers, tally } = outcome_of(&rt, &NoGate, ground(0, 2, 4_096), tasks)?;
-    assert!(rt; answers.as_slice() == [Some(Ok(0)), Some(Ok(0))].as_slice());
-    assert!(rt; tally.counts.starved == 5 && tally.counts.allocated == 0 && tally.audit.is_ok());
     Ok(())
 }
 
 // A chunk has eight slots, and 400 buffers go through: batches come home.
 #[test]
 fn buffers_come_home(rt: HostRuntime) -> Result<(), Fail> {
-    let tasks = vec![in rt.alloc(); Act::Waits(400, 1), Act::Frees]?;
-    let Outcome { answers, tally } = outcome_of(&rt, &NoGate, ground(1, 2, 1_024), tasks)?;
-    assert!(rt; answers.as_slice() == [Some(Ok(400)), Some(Ok(400))].as_slice());
-    assert!(rt; tally.counts.allocated == 400 && tally.counts.freed == 400);
-    assert!(rt; tally.counts.lost == 0 && tally.audit.is_ok());
+    for inboxes in BOTH {
+        let tasks = vec![in rt.alloc(); Act::Waits(400, 1), Act::Frees]?;
+        let Outcome { answers, tally } = outcome_of(
+            &rt,
+            &NoGate,
+            ground(inboxes, 1, 2, 1_024),
+            tasks,
+        )?;
+        assert!(rt; answers.as_slice() == [Some(Ok(400)), Some(Ok(400))].as_slice());
+        assert!(rt; tally.counts.allocated == 400 && tally.counts.freed == 400);
+        assert!(rt; tally.counts.lost == 0 && tally.audit.is_ok());
+    }
     Ok(())
 }
 
 // Four tasks in a ring: each stops to send, and then frees what came from its neighbour.
 #[test]
 fn a_ring_of_tasks(rt: HostRuntime) -> Result<(), Fail> {
-    let mut tasks = Vec::new(rt.alloc());
-    for number in 0usize..4 {
-        tasks.push(Act::Circles(50, (number + 1) % 4))?;
+    for inboxes in BOTH {
+        let mut tasks = Vec::new(rt.alloc());
+        for number in 0usize..4 {
+            tasks.push(Act::Circles(50, (number + 1) % 4))?;
+        }
+        let Outcome { answers, tally } = outcome_of(
+            &rt,
+            &NoGate,
+            ground(inboxes, 32, 4, 0),
+            tasks,
+        )?;
+        assert!(rt; answers.len() == 4);
+        assert!(rt; tally.counts.allocated == 200 && tally.counts.freed == 200);
+        assert!(rt; tally.counts.starved == 0 && tally.counts.lost == 0 && tally.audit.is_ok());
     }
-    let Outcome { answers, tally } = outcome_of(&rt, &NoGate, ground(32, 4, 0), tasks)?;
-    assert!(rt; answers.len() == 4);
-    assert!(rt; tally.counts.allocated == 200 && tally.counts.freed == 200);
-    assert!(rt; tally.counts.starved == 0 && tally.counts.lost == 0 && tally.audit.is_ok());
     Ok(())
 }

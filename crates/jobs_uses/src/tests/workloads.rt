@@ -1,6 +1,6 @@
 //! What workloads count doesn't hang on the schedule, and their pools lose nothing.
 
-use super::{Ground, tally_of};
+use super::{BOTH, Ground, Inboxes, tally_of};
 use pool_jobs::{NoGate, Plan, Workload};
 use std::test::Fail;
 use trace_audit::Fault;
@@ -11,24 +11,27 @@ const ALL: [Workload; 3] = [Workload::ProdCons, Workload::Ring, Workload::Replac
 // digit or in six.
 #[test]
 fn many_workers_lose_nothing(rt: HostRuntime) -> Result<(), Fail> {
-    for width in [1, 6] {
-        for workload in ALL {
-            let ground = Ground {
-                chunks: 1_024,
-                desks: 64,
-                width,
-                limit: 0,
-            };
-            let plan = Plan {
-                count: 20,
-                rounds: 2,
-                seed: 7,
-                drop_first: false,
-            };
-            let tally = tally_of(&rt, &NoGate, ground, workload, &plan)?;
-            assert!(rt; tally.counts.allocated > 0 && tally.counts.starved == 0);
-            assert!(rt; tally.counts.freed == tally.counts.allocated && tally.counts.lost == 0);
-            assert!(rt; tally.audit.is_ok());
+    for inboxes in [Inboxes::Queues] {
+        for width in [1, 6] {
+            for workload in ALL {
+                let ground = Ground {
+                    chunks: 1_024,
+                    desks: 64,
+                    width,
+                    limit: 0,
+                    inboxes,
+                };
+                let plan = Plan {
+                    count: 20,
+                    rounds: 2,
+                    seed: 7,
+                    drop_first: false,
+                };
+                let tally = tally_of(&rt, &NoGate, ground, workload, &plan)?;
+                assert!(rt; tally.counts.allocated > 0 && tally.counts.starved == 0);
+                assert!(rt; tally.counts.freed == tally.counts.allocated && tally.counts.lost == 0);
+                assert!(rt; tally.audit.is_ok());
+            }
         }
     }
     Ok(())
@@ -37,23 +40,26 @@ fn many_workers_lose_nothing(rt: HostRuntime) -> Result<(), Fail> {
 // Five chunks among eight workers: who finds none starves, and the audit still says yes.
 #[test]
 fn a_used_up_pool_starves_its_workers(rt: HostRuntime) -> Result<(), Fail> {
-    for workload in ALL {
-        let ground = Ground {
-            chunks: 5,
-            desks: 8,
-            width: 2,
-            limit: 4_096,
-        };
-        let plan = Plan {
-            count: 100,
-            rounds: 1,
-            seed: 3,
-            drop_first: false,
-        };
-        let tally = tally_of(&rt, &NoGate, ground, workload, &plan)?;
-        assert!(rt; tally.counts.starved > 0);
-        assert!(rt; tally.counts.freed == tally.counts.allocated && tally.counts.lost == 0);
-        assert!(rt; tally.audit.is_ok());
+    for inboxes in BOTH {
+        for workload in ALL {
+            let ground = Ground {
+                chunks: 5,
+                desks: 8,
+                width: 2,
+                limit: 4_096,
+                inboxes,
+            };
+            let plan = Plan {
+                count: 100,
+                rounds: 1,
+                seed: 3,
+                drop_first: false,
+            };
+            let tally = tally_of(&rt, &NoGate, ground, workload, &plan)?;
+            assert!(rt; tally.counts.starved > 0);
+            assert!(rt; tally.counts.freed == tally.counts.allocated && tally.counts.lost == 0);
+            assert!(rt; tally.audit.is_ok());
+        }
     }
     Ok(())
 }
@@ -61,27 +67,30 @@ fn a_used_up_pool_starves_its_workers(rt: HostRuntime) -> Result<(), Fail> {
 // The first buffer of worker 0 is dropped, in each workload, and just that slot is missing.
 #[test]
 fn a_dropped_buffer_is_missing(rt: HostRuntime) -> Result<(), Fail> {
-    for workload in ALL {
-        let ground = Ground {
-            chunks: 1_024,
-            desks: 4,
-            width: 2,
-            limit: 4_096,
-        };
-        let plan = Plan {
-            count: 10,
-            rounds: 3,
-            seed: 1,
-            drop_first: true,
-        };
-        let tally = tally_of(&rt, &NoGate, ground, workload, &plan)?;
-        assert!(rt; tally.counts.lost == 1);
-        assert!(rt; tally.counts.allocated == tally.counts.freed.wrapping_add(1));
-        let is_missing = match tally.audit {
-            Err(Fault::Missing(_)) => true,
-            _ => false,
-        };
-        assert!(rt; is_missing);
+    for inboxes in BOTH {
+        for workload in ALL {
+            let ground = Ground {
+                chunks: 1_024,
+                desks: 4,
+                width: 2,
+                limit: 4_096,
+                inboxes,
+            };
+            let plan = Plan {
+                count: 10,
+                rounds: 3,
+                seed: 1,
+                drop_first: true,
+            };
+            let tally = tally_of(&rt, &NoGate, ground, workload, &plan)?;
+            assert!(rt; tally.counts.lost == 1);
+            assert!(rt; tally.counts.allocated == tally.counts.freed.wrapping_add(1));
+            let is_missing = match tally.audit {
+                Err(Fault::Missing(_)) => true,
+                _ => false,
+            };
+            assert!(rt; is_missing);
+        }
     }
     Ok(())
 }
@@ -89,23 +98,26 @@ fn a_dropped_buffer_is_missing(rt: HostRuntime) -> Result<(), Fail> {
 // A worker without a partner frees its own; one desk is enough for each workload.
 #[test]
 fn a_worker_without_a_partner(rt: HostRuntime) -> Result<(), Fail> {
-    for workload in ALL {
-        let ground = Ground {
-            chunks: 32,
-            desks: 1,
-            width: 2,
-            limit: 4_096,
-        };
-        let plan = Plan {
-            count: 1,
-            rounds: 1,
-            seed: 0,
-            drop_first: false,
-        };
-        let tally = tally_of(&rt, &NoGate, ground, workload, &plan)?;
-        let allocated = if workload == Workload::Replace { 17 } else { 1 };
-        assert!(rt; tally.counts.allocated == allocated && tally.counts.freed == allocated);
-        assert!(rt; tally.audit.is_ok());
+    for inboxes in BOTH {
+        for workload in ALL {
+            let ground = Ground {
+                chunks: 32,
+                desks: 1,
+                width: 2,
+                limit: 4_096,
+                inboxes,
+            };
+            let plan = Plan {
+                count: 1,
+                rounds: 1,
+                seed: 0,
+                drop_first: false,
+            };
+            let tally = tally_of(&rt, &NoGate, ground, workload, &plan)?;
+            let allocated = if workload == Workload::Replace { 17 } else { 1 };
+            assert!(rt; tally.counts.allocated == allocated && tally.counts.freed == allocated);
+            assert!(rt; tally.audit.is_ok());
+        }
     }
     Ok(())
 }
