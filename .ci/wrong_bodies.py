@@ -13,8 +13,8 @@ else, such as a constant, stand in must-fail/.
 An edit is refused where the prover says, at a place in this function, which clause it can't prove, or refuses a proof
 written by hand for this function. It says little where such a proof only names what the edit took away, and where
 the crate isn't proved but nothing is said of the function, as for a form that the checker doesn't cover; the line
-tells that. Run it behind `rt ci` or `rt all check`, which leave the libraries in out/; what the latter keeps there of
-a crate's own proofs is taken over. At most N crates at a time, and without --jobs as many as there are processors.
+tells that. A crate of which out/ keeps no proofs is checked first. At most N crates at a time, and without --jobs as
+many as there are processors.
 
 Prints a line for each edit, and in the last line how many were refused. The exit status is 1 where one was not, and 2
 where an edit can't be applied, the compiler can't read it, or the libraries aren't there.
@@ -270,6 +270,11 @@ def main():
     if bad:
         return 2
     began, refused, tried_in_all, checks_in_all = time.monotonic(), 0, 0, 0
+    # what a check keeps is what the copies are tried over
+    for line in (TOP / "crates.txt").read_text().splitlines():
+        name = line.partition(":")[0].partition(" ")[0]
+        if name in of_crate and not (TOP / "crates" / name / "out" / "incremental").is_dir():
+            subprocess.run(["rt", "check"], cwd=TOP / "crates" / name, capture_output=True, check=True)
     size = lambda name: sum(it.stat().st_size for it in (TOP / "crates" / name).rglob("*.*tt"))
     with concurrent.futures.ThreadPoolExecutor(given.jobs) as pool:
         runs = [pool.submit(tried, it, of_crate[it]) for it in sorted(of_crate, key=size, reverse=True)]
