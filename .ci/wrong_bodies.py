@@ -1,14 +1,13 @@
 #!/usr/bin/env python3
-"""Tries the edits crates/NAME/wrong-bodies/*.edit: each gives one function a wrong body, which the prover has to refuse.
+"""Tries the edits crates/NAME/must-fail/*.edit that give functions wrong bodies, many in one check.
 
     python3 .ci/wrong_bodies.py [--jobs N] [CRATE[:EDIT,..] ..]
 
-An edit has the lines of those in must-fail/, which `rt ci` tries one by one: `file: src/..`, then pairs of `old: TEXT`,
-which stands in that file exactly once, and `new: TEXT`. All that it changes lies in bodies of functions, mostly of one.
-A function is proved from the contracts of those that it calls and never from their bodies, so wrong bodies of different
-functions are tried in one check. The prover leaves out goals of a function that calls one that isn't proved; an edit
-that nothing is said against is tried again without those that were refused, and in the end alone. Edits of anything
-else, such as a constant, stand in must-fail/.
+`rt ci` tries each edit by a check of its own. This is for who changes a crate and wants to know at once, and by which
+clause each edit is refused. A function is proved from the contracts of those that it calls and never from their
+bodies, so wrong bodies of different functions are tried together. The prover leaves out goals of a function that calls
+one that isn't proved; an edit that nothing is said against is tried again without those that were refused, and in the
+end alone. Edits of anything else, such as a constant, are left to `rt ci`.
 
 An edit is refused where the prover says, at a place in this function, which clause it can't prove, or refuses a proof
 written by hand for this function. It says little where such a proof only names what the edit took away, and where
@@ -97,7 +96,7 @@ def function_at(file, text, start, end):
 
 
 def read(path):
-    """The edit in this file."""
+    """The edit in this file, or None where it changes more than bodies of functions."""
     crate = path.parent.parent
     file, old, changes, functions = None, None, [], set()
     for line in path.read_text().splitlines():
@@ -118,7 +117,7 @@ def read(path):
             changes.append(change)
             old = None
     if not functions or None in functions:
-        raise BadEdit("it has to change bodies of functions alone; another edit stands in must-fail/")
+        return None
     return Edit(crate.name, path.stem, frozenset(functions), tuple(changes))
 
 
@@ -143,7 +142,7 @@ def copied(crate, room):
         shutil.copy2(TOP / name, room / name)
     subprocess.run(["git", "init", "-q", room], check=True)
     for folder in sorted((TOP / "crates").iterdir()):
-        unread = ["must-fail", "must-not-compile", "wrong-bodies", "rlib" if folder.name == crate else "incremental"]
+        unread = ["must-fail", "must-not-compile", "rlib" if folder.name == crate else "incremental"]
         shutil.copytree(folder, room / "crates" / folder.name, ignore=shutil.ignore_patterns(*unread),
                         copy_function=shutil.copy2 if folder.name == crate else link)
     return room / "crates" / crate
@@ -258,12 +257,13 @@ def main():
     given = parser.parse_args()
     wanted = {name: set(filter(None, names.split(","))) for name, _, names in (it.partition(":") for it in given.crates)}
     of_crate, bad = collections.defaultdict(list), 0
-    for path in sorted(TOP.glob("crates/*/wrong-bodies/*.edit")):
+    for path in sorted(TOP.glob("crates/*/must-fail/*.edit")):
         crate = path.parent.parent.name
         if wanted and (crate not in wanted or wanted[crate] and path.stem not in wanted[crate]):
             continue
         try:
-            of_crate[crate].append(read(path))
+            if edit := read(path):
+                of_crate[crate].append(edit)
         except BadEdit as why:
             print(f"{crate}/{path.name}: BAD EDIT: {why}")
             bad += 1
