@@ -28,7 +28,9 @@ import time
 TOP = pathlib.Path(__file__).resolve().parent.parent
 SECONDS = 60
 WRITTEN_FOR_IT = {
+    "fabric_uses": "memory::",
     "inbox_uses": "deep::,dropped::,order::,users::",
+    "jobs_uses": "refused::",
     "link_uses": "deep::,dropped::,half::,nodes::,order::,users::",
     "trace_uses": "growing,each_slot_once,the_least_fault_is_named,the_number_is_not_enough",
 }
