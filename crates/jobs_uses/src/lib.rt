@@ -4,5 +4,7 @@
 mod alone;
 #[cfg(test)]
 mod tests;
+mod unheard;
 
 pub use alone::work_alone;
+pub use unheard::{Frees, free_unheard};

@@ -4,13 +4,16 @@ mod alone;
 mod meeting;
 mod refused;
 mod tasks;
+mod unheard;
 mod workloads;
 
 ghost use Rattle.std.specs.Prelude.{◌≤◌};
 
 use digit_route::Digits;
 use pool_fabric::Opening;
-use pool_jobs::{Finished, Gate, Plan, Tally, Task, Workload, run, run_linked, work, work_linked};
+use pool_jobs::{
+    Finished, Gate, NoGate, Plan, Tally, Task, Workload, run, run_linked, work, work_linked,
+};
 use rand_pcg::Pcg32;
 use region_cut::{CHUNK, cut};
 use std::sync::Wait;
@@ -73,14 +76,8 @@ struct Outcome<A: Drop> {
 }
 
 // The tasks over this ground.
-fn outcome_of<G, K, R>(
-    rt: &R,
-    gate: &G,
-    ground: Ground,
-    tasks: Vec<K>,
-) -> Result<Outcome<K::Answer>, Fail>
+fn outcome_of<K, R>(rt: &R, ground: Ground, tasks: Vec<K>) -> Result<Outcome<K::Answer>, Fail>
 where
-    G: Gate + Sync,
     K: Task + Send,
     R: AllocGlobal + Threads + Wait + Sync,
     K::Answer: Send,
@@ -93,11 +90,11 @@ where
     let finished = match ground.inboxes {
         Inboxes::Queues => {
             let opening = Opening::new(alloc, parts, ground.desks, digits, ground.limit)?;
-            run(rt, alloc, opening, gate, tasks)?
+            run(rt, alloc, opening, &NoGate, tasks)?
         }
         Inboxes::Links => {
             let opening = Opening::new(alloc, parts, ground.desks, digits, ground.limit)?;
-            run_linked(rt, alloc, opening, gate, tasks)?
+            run_linked(rt, alloc, opening, &NoGate, tasks)?
         }
     };
     let Finished {

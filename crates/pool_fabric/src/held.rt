@@ -1,5 +1,6 @@
 //! A station that a worker holds.
 ghost use Rattle.std.specs.Prelude.{◌≡◌, ◌≢◌, ◌<◌, ◌^◌, [], MatchResult};
+ghost use Rattle.slot_chain.specs.Counts.{capped, sizes};
 ghost use Rattle.pool_fabric.specs.Calls.{Lends, TakesBack};
 
 use crate::ledger::Page;
@@ -67,6 +68,13 @@ impl<'r, T: Receiver, S: Sender, J: Naming> HeldStation<'r, T, S, J> {
         ensures { result ≡ self.now.desk.digits }
     {
         self.desk.digits()
+    }
+
+    /// The bytes in the desk's cache, as [`Desk::cached_bytes`] tells them.
+    pub fn cached_bytes(&self) -> u64
+        ensures { result ≡ capped (sizes self.now.desk.cached) }
+    {
+        self.desk.cached_bytes()
     }
 
     /// Gives out a buffer of at least `size` bytes, as [`Desk::alloc`] does.

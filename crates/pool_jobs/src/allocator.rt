@@ -27,6 +27,8 @@ pub struct Allocator<'a, 'r, M: Mailbox, T: Receiver, S: Sender, G: Gate, J: Nam
     alloc: Global,
     worker: u32,
     calls: u64,
+    // While fewer bytes are cached, nothing is posted: 0 but after a post that was refused.
+    post_from: u64,
     station: HeldStation<'r, T, S, J>,
 }
 
@@ -104,6 +106,7 @@ impl<
         ensures { Serves J.names self.old size result self.new }
     {
         let _taken = self.station.take(rt, self.fabric);
+        self.post_from = 0;
         match self.ask(size) {
             Ok(buffer) => Ok(buffer),
             Err(PoolError::UsedUp) => self.ask_after_claiming(rt, class, size),
@@ -130,7 +133,25 @@ impl<
         }
     }
 
+    // Posts all that is cached, unless a post was refused and little has come since. A refused one
+    // costs as much as the cache is long, so the cache grows by a quarter before the next.
+    fn post_again<R: Wait>(&mut self, rt: &R)
+        ensures { Keeps J.names self.old self.new }
+    {
+        let _number = self.station.number();
+        if self.station.cached_bytes() < self.post_from {
+            return;
+        }
+        self.station.post(rt, self.fabric);
+        let left = self.station.cached_bytes();
+        self.post_from = left.saturating_add(left / 4);
+    }
+
     /// Takes a buffer back, and posts all that is cached where that is due.
+    ///
+    /// Where an inbox refuses a batch, the rest stays cached, and the worker goes on. It tries again
+    /// when the cache is due and has grown by a quarter, or once [`Allocator::alloc`] has looked into
+    /// its own inbox: so the posts that are refused cost a constant time a buffer, over many.
     pub fn free<R: Wait>(&mut self, rt: &R, buffer: Buffer<'r, J>)
         ensures desk { SameDesk J.names self.old self.new }
         ensures lent { self.new.lent ≡ self.old.lent }
@@ -143,7 +164,7 @@ impl<
         let freed = self.station.free(buf);
         self.gate.after(self.worker, call);
         if let Freed::Due = freed {
-            self.station.post(rt, self.fabric);
+            self.post_again(rt);
         }
     }
 
@@ -158,6 +179,7 @@ impl<
             alloc: _,
             worker,
             calls: _,
+            post_from: _,
             mut station,
         } = self;
         station.post(rt, fabric);
@@ -229,6 +251,7 @@ impl<
             alloc,
             worker,
             calls: 0,
+            post_from: 0,
             station: station.adopt(worker),
         })
     }

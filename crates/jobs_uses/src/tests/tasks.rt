@@ -3,7 +3,7 @@
 ghost use Rattle.std.specs.Prelude.{◌≡◌};
 
 use super::{BOTH, Ground, Inboxes, Outcome, outcome_of};
-use pool_jobs::{Bytes, Channels, Heap, NoGate, PoolError, Task};
+use pool_jobs::{Bytes, Channels, Heap, PoolError, Task};
 use std::sync::Wait;
 use std::test::Fail;
 use std::thread;
@@ -172,12 +172,7 @@ fn is_missing(audit: Result<(), Fault>) -> bool {
 fn one_task(rt: HostRuntime) -> Result<(), Fail> {
     for inboxes in BOTH {
         let tasks = vec![in rt.alloc(); Act::Alone(10)]?;
-        let Outcome { answers, tally } = outcome_of(
-            &rt,
-            &NoGate,
-            ground(inboxes, 2, 1, 4_096),
-            tasks,
-        )?;
+        let Outcome { answers, tally } = outcome_of(&rt, ground(inboxes, 2, 1, 4_096), tasks)?;
         assert!(rt; answers.as_slice() == [Some(Ok(10))].as_slice());
         assert!(rt; tally.counts.allocated == 10 && tally.counts.freed == 10);
         assert!(rt; tally.counts.starved == 0 && tally.counts.lost == 0);
@@ -191,20 +186,10 @@ fn one_task(rt: HostRuntime) -> Result<(), Fail> {
 fn none_and_too_many(rt: HostRuntime) -> Result<(), Fail> {
     for inboxes in BOTH {
         let none: Vec<Act> = Vec::new(rt.alloc());
-        let Outcome { answers, tally } = outcome_of(
-            &rt,
-            &NoGate,
-            ground(inboxes, 2, 1, 4_096),
-            none,
-        )?;
+        let Outcome { answers, tally } = outcome_of(&rt, ground(inboxes, 2, 1, 4_096), none)?;
         assert!(rt; answers.is_empty() && tally.counts.allocated == 0 && tally.audit.is_ok());
         let tasks = vec![in rt.alloc(); Act::Alone(3), Act::Alone(4), Act::Alone(5)]?;
-        let Outcome { answers, tally } = outcome_of(
-            &rt,
-            &NoGate,
-            ground(inboxes, 4, 2, 4_096),
-            tasks,
-        )?;
+        let Outcome { answers, tally } = outcome_of(&rt, ground(inboxes, 4, 2, 4_096), tasks)?;
         assert!(rt; answers.as_slice() == [Some(Ok(3)), Some(Ok(4)), None].as_slice());
         assert!(rt; tally.counts.allocated == 7 && tally.counts.freed == 7 && tally.audit.is_ok());
     }
@@ -216,12 +201,7 @@ fn none_and_too_many(rt: HostRuntime) -> Result<(), Fail> {
 fn dropped_buffers_are_missing(rt: HostRuntime) -> Result<(), Fail> {
     for inboxes in BOTH {
         let tasks = vec![in rt.alloc(); Act::Gives(10, 1), Act::Drops]?;
-        let Outcome { answers, tally } = outcome_of(
-            &rt,
-            &NoGate,
-            ground(inboxes, 4, 2, 4_096),
-            tasks,
-        )?;
+        let Outcome { answers, tally } = outcome_of(&rt, ground(inboxes, 4, 2, 4_096), tasks)?;
         assert!(rt; answers.as_slice() == [Some(Ok(10)), Some(Ok(10))].as_slice());
         assert!(rt;
             tally.counts.allocated == 10 && tally.counts.freed == 0 && tally.counts.lost == 10
@@ -236,12 +216,7 @@ fn dropped_buffers_are_missing(rt: HostRuntime) -> Result<(), Fail> {
 fn a_task_that_fails(rt: HostRuntime) -> Result<(), Fail> {
     for inboxes in BOTH {
         let tasks = vec![in rt.alloc(); Act::Gives(100, 1), Act::Fails, Act::Alone(5)]?;
-        let Outcome { answers, tally } = outcome_of(
-            &rt,
-            &NoGate,
-            ground(inboxes, 32, 3, 4_096),
-            tasks,
-        )?;
+        let Outcome { answers, tally } = outcome_of(&rt, ground(inboxes, 32, 3, 4_096), tasks)?;
         assert!(rt; answers.len() == 3 && answers[1] == Some(Err(PoolError::UsedUp)));
         assert!(rt; answers[2] == Some(Ok(5)));
         assert!(rt; tally.counts.allocated == 105 && tally.counts.starved == 0);
@@ -261,22 +236,12 @@ fn a_used_up_pool(rt: HostRuntime) -> Result<(), Fail> {
         for _ in 0..8 {
             tasks.push(Act::Alone(50))?;
         }
-        let Outcome { answers: _, tally } = outcome_of(
-            &rt,
-            &NoGate,
-            ground(inboxes, 2, 8, 4_096),
-            tasks,
-        )?;
+        let Outcome { answers: _, tally } = outcome_of(&rt, ground(inboxes, 2, 8, 4_096), tasks)?;
         assert!(rt; tally.counts.starved > 0);
         assert!(rt; tally.counts.allocated.wrapping_add(tally.counts.starved) == 400);
         assert!(rt; tally.counts.freed == tally.counts.allocated && tally.audit.is_ok());
         let tasks = vec![in rt.alloc(); Act::Gives(5, 1), Act::Frees]?;
-        let Outcome { answers, tally } = outcome_of(
-            &rt,
-            &NoGate,
-            ground(inboxes, 0, 2, 4_096),
-            tasks,
-        )?;
+        let Outcome { answers, tally } = outcome_of(&rt, ground(inboxes, 0, 2, 4_096), tasks)?;
         assert!(rt; answers.as_slice() == [Some(Ok(0)), Some(Ok(0))].as_slice());
         assert!(rt;
             tally.counts.starved == 5 && tally.counts.allocated == 0 && tally.audit.is_ok()
@@ -290,12 +255,7 @@ fn a_used_up_pool(rt: HostRuntime) -> Result<(), Fail> {
 fn buffers_come_home(rt: HostRuntime) -> Result<(), Fail> {
     for inboxes in BOTH {
         let tasks = vec![in rt.alloc(); Act::Waits(400, 1), Act::Frees]?;
-        let Outcome { answers, tally } = outcome_of(
-            &rt,
-            &NoGate,
-            ground(inboxes, 1, 2, 1_024),
-            tasks,
-        )?;
+        let Outcome { answers, tally } = outcome_of(&rt, ground(inboxes, 1, 2, 1_024), tasks)?;
         assert!(rt; answers.as_slice() == [Some(Ok(400)), Some(Ok(400))].as_slice());
         assert!(rt; tally.counts.allocated == 400 && tally.counts.freed == 400);
         assert!(rt; tally.counts.lost == 0 && tally.audit.is_ok());
@@ -311,12 +271,7 @@ fn a_ring_of_tasks(rt: HostRuntime) -> Result<(), Fail> {
         for number in 0usize..4 {
             tasks.push(Act::Circles(50, (number + 1) % 4))?;
         }
-        let Outcome { answers, tally } = outcome_of(
-            &rt,
-            &NoGate,
-            ground(inboxes, 32, 4, 0),
-            tasks,
-        )?;
+        let Outcome { answers, tally } = outcome_of(&rt, ground(inboxes, 32, 4, 0), tasks)?;
         assert!(rt; answers.len() == 4);
         assert!(rt; tally.counts.allocated == 200 && tally.counts.freed == 200);
         assert!(rt; tally.counts.starved == 0 && tally.counts.lost == 0 && tally.audit.is_ok());

@@ -1,6 +1,6 @@
 //! What workloads count doesn't hang on the schedule, and their pools lose nothing.
 
-use super::{BOTH, Ground, Inboxes, tally_of};
+use super::{BOTH, Ground, tally_of};
 use pool_jobs::{NoGate, Plan, Workload};
 use std::test::Fail;
 use trace_audit::Fault;
@@ -11,7 +11,7 @@ const ALL: [Workload; 3] = [Workload::ProdCons, Workload::Ring, Workload::Replac
 // digit or in six.
 #[test]
 fn many_workers_lose_nothing(rt: HostRuntime) -> Result<(), Fail> {
-    for inboxes in [Inboxes::Queues] {
+    for inboxes in BOTH {
         for width in [1, 6] {
             for workload in ALL {
                 let ground = Ground {

@@ -1,0 +1,63 @@
+//! A worker whose posts are refused goes on, and tries again only now and then.
+use crate::{Frees, free_unheard};
+use digit_route::Digits;
+use pool_fabric::{Opening, account};
+use region_cut::{CHUNK, cut};
+use std::process::Abort;
+use std::sync::Wait;
+use std::test::Fail;
+
+// The slots of 16 bytes of a chunk.
+const SLOTS: usize = 256;
+
+// How many batches are left in the inboxes, where every free is due.
+fn batches_left<R: Abort + AllocGlobal + Wait>(rt: &R, frees: Frees) -> Result<usize, Fail> {
+    let alloc = rt.alloc();
+    let mut region = Vec::from_elem(alloc, 0u8, CHUNK)?;
+    let parts = cut(alloc, region.as_mut_slice())?;
+    let digits = Digits::new(2).ok_or("two bits")?;
+    let opening = Opening::new(alloc, parts, 2, digits, 0)?;
+    let found = free_unheard(rt, alloc, opening, SLOTS, frees)
+        .ok()
+        .ok_or("all that there is")?;
+    let audit = account(alloc, &[], &found.desks, &found.batches, &found.drawn);
+    assert!(rt; audit.is_ok());
+    Ok(found.batches.len())
+}
+
+// 16 batches of a buffer each are posted, and the next is refused. So 148 are cached when a post is
+// refused for the last time, and it is tried again at 185: ten more buffers wait for the end.
+#[test]
+fn few_posts_are_tried_again(rt: HostRuntime) -> Result<(), Fail> {
+    let frees = Frees {
+        early: 16 + 148,
+        asks: false,
+        late: 10,
+    };
+    assert_eq!(rt; batches_left(&rt, frees)?, 1);
+    Ok(())
+}
+
+// The first of the later buffers goes with all that is cached, the others alone.
+#[test]
+fn a_take_lets_it_try_again(rt: HostRuntime) -> Result<(), Fail> {
+    let frees = Frees {
+        early: 16 + 148,
+        asks: true,
+        late: 10,
+    };
+    assert_eq!(rt; batches_left(&rt, frees)?, 10);
+    Ok(())
+}
+
+// A quarter more than the 148 are cached at the 37th of the later buffers: it goes with all of them.
+#[test]
+fn a_longer_cache_is_tried_again(rt: HostRuntime) -> Result<(), Fail> {
+    let frees = Frees {
+        early: 16 + 148,
+        asks: false,
+        late: 38,
+    };
+    assert_eq!(rt; batches_left(&rt, frees)?, 2);
+    Ok(())
+}
