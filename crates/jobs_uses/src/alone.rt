@@ -1,6 +1,6 @@
 //! One worker, alone.
 ghost use Rattle.std.specs.Prelude.{◌≡◌, IfOk};
-ghost use Rattle.pool_fabric.specs.Whole.{IsWhole};
+ghost use Rattle.pool_fabric.specs.Whole.{IsWhole, IsEachDesk, AreNoted};
 
 use batch_inbox::{Inbox, SendSeat, TakeSeat};
 use pool_fabric::{Fabric, HeldStation, Naming, Opening};
@@ -74,8 +74,10 @@ fn worked<'r, J: Naming, R: Wait>(
     size: usize,
 ) -> Result<Ended<'r>, JobError>
     requires { J.names ≡ opening }
-    ensures { IfOk result (λ e. IsWhole e.found.desks.items e.found.batches.items e.found.lent.items
+    ensures whole { IfOk result (λ e. IsWhole e.found.desks.items e.found.batches.items e.found.lent.items
         e.found.freed.items e.found.parts.items opening.entry.chunks) }
+    ensures desks { IfOk result (λ e. IsEachDesk opening.entry.count e.found.desks.items) }
+    ensures drawn { IfOk result (λ e. AreNoted e.found.desks.items e.found.drawn) }
 {
     let Ok(fabric) = Fabric::<'r, Inbox<'r>, TakeSeat<'r>, SendSeat<'r>, J>::open(alloc, opening)
     else {
@@ -95,8 +97,10 @@ pub fn work_alone<'r, R: Wait>(
     count: u32,
     size: usize,
 ) -> Result<Ended<'r>, JobError>
-    ensures { IfOk result (λ e. IsWhole e.found.desks.items e.found.batches.items e.found.lent.items
+    ensures whole { IfOk result (λ e. IsWhole e.found.desks.items e.found.batches.items e.found.lent.items
         e.found.freed.items e.found.parts.items opening.entry.chunks) }
+    ensures desks { IfOk result (λ e. IsEachDesk opening.entry.count e.found.desks.items) }
+    ensures drawn { IfOk result (λ e. AreNoted e.found.desks.items e.found.drawn) }
 {
     worked::<Brand, R>(rt, alloc, opening, count, size)
 }

@@ -1,6 +1,6 @@
 //! The end of all work.
 ghost use Rattle.std.specs.Prelude.{◌≡◌, IfOk};
-ghost use Rattle.pool_fabric.specs.Whole.{IsWhole};
+ghost use Rattle.pool_fabric.specs.Whole.{IsWhole, IsEachDesk, AreNoted};
 ghost use Rattle.pool_fabric.specs.Audited.{Audited};
 ghost use Rattle.pool_jobs.specs.Ends.{slots_found};
 
@@ -52,6 +52,8 @@ pub fn settle<
 ) -> Result<Ended<'r>, JobError>
     ensures whole { IfOk result (λ e. IsWhole e.found.desks.items e.found.batches.items e.found.lent.items
         e.found.freed.items e.found.parts.items J.names.chunks) }
+    ensures desks { IfOk result (λ e. IsEachDesk J.names.count e.found.desks.items) }
+    ensures drawn { IfOk result (λ e. AreNoted e.found.desks.items e.found.drawn) }
     ensures audit { IfOk result (λ e. Audited (slots_found e.found.desks.items e.found.batches.items)
         e.found.drawn e.tally.audit) }
     ensures counts { IfOk result (λ e. e.tally.counts ≡ counts) }

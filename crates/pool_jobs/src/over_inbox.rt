@@ -1,6 +1,6 @@
 //! Tasks and workloads over the inbox of a queue.
 ghost use Rattle.std.specs.Prelude.{◌≡◌, IfOk};
-ghost use Rattle.pool_fabric.specs.Whole.{IsWhole};
+ghost use Rattle.pool_fabric.specs.Whole.{IsWhole, IsEachDesk, AreNoted};
 ghost use Rattle.pool_fabric.specs.Audited.{Audited};
 ghost use Rattle.pool_jobs.specs.Ends.{slots_found};
 
@@ -108,6 +108,8 @@ where
     requires { J.names ≡ opening }
     ensures whole { IfOk result (λ e. IsWhole e.found.desks.items e.found.batches.items e.found.lent.items
         e.found.freed.items e.found.parts.items opening.entry.chunks) }
+    ensures desks { IfOk result (λ e. IsEachDesk opening.entry.count e.found.desks.items) }
+    ensures drawn { IfOk result (λ e. AreNoted e.found.desks.items e.found.drawn) }
     ensures audit { IfOk result (λ e. Audited (slots_found e.found.desks.items e.found.batches.items)
         e.found.drawn e.tally.audit) }
 {
@@ -144,6 +146,8 @@ where
     R: Threads + Wait + Sync,
     ensures whole { IfOk result (λ e. IsWhole e.found.desks.items e.found.batches.items e.found.lent.items
         e.found.freed.items e.found.parts.items opening.entry.chunks) }
+    ensures desks { IfOk result (λ e. IsEachDesk opening.entry.count e.found.desks.items) }
+    ensures drawn { IfOk result (λ e. AreNoted e.found.desks.items e.found.drawn) }
     ensures audit { IfOk result (λ e. Audited (slots_found e.found.desks.items e.found.batches.items)
         e.found.drawn e.tally.audit) }
 {
@@ -192,6 +196,8 @@ where
     requires { J.names ≡ opening }
     ensures whole { IfOk result (λ e. IsWhole e.found.desks.items e.found.batches.items e.found.lent.items
         e.found.freed.items e.found.parts.items opening.entry.chunks) }
+    ensures desks { IfOk result (λ e. IsEachDesk opening.entry.count e.found.desks.items) }
+    ensures drawn { IfOk result (λ e. AreNoted e.found.desks.items e.found.drawn) }
     ensures audit { IfOk result (λ e. Audited (slots_found e.found.desks.items e.found.batches.items)
         e.found.drawn e.tally.audit) }
 {
@@ -238,6 +244,8 @@ where
     K::Answer: Send,
     ensures whole { IfOk result (λ e. IsWhole e.found.desks.items e.found.batches.items e.found.lent.items
         e.found.freed.items e.found.parts.items opening.entry.chunks) }
+    ensures desks { IfOk result (λ e. IsEachDesk opening.entry.count e.found.desks.items) }
+    ensures drawn { IfOk result (λ e. AreNoted e.found.desks.items e.found.drawn) }
     ensures audit { IfOk result (λ e. Audited (slots_found e.found.desks.items e.found.batches.items)
         e.found.drawn e.tally.audit) }
 {
