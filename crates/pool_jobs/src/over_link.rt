@@ -126,6 +126,10 @@ where
 /// Runs a workload as [`work`](crate::work) does, over inboxes of two atomic steps. A post and a take
 /// need no memory there, and no lock. Where 16 batches of one desk to another were not taken yet,
 /// further ones wait in the desk's cache.
+///
+/// Where they wait at the end of a round, the worker's station comes back with it and not by the
+/// shelf. A worker of the next round may then find none, and its row is freed by nobody in the last
+/// round: the audit names its slots.
 pub fn work_linked<'r, G, N, R>(
     rt: &R,
     alloc: Global,
