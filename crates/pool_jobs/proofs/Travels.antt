@@ -17,9 +17,9 @@ use Rattle.pool_jobs.specs.contracts.client.Applicant as Applicant
 use Rattle.pool_jobs.specs.contracts.counting.Counting as Counting
 use Rattle.pool_jobs.specs.contracts.counting.Done as Done
 
--- an applicant crosses where the fabric and the gate are shared, and its random source crosses
+-- an applicant crosses where the fabric and the gate are shared, and its seats and its random source cross
 module _ (a r : NamedLft) (M T S G J N : RattleType) (m : Mailbox.Ghosts M.Denot) (t : Receiver.Ghosts T.Denot) (s : Sender.Ghosts S.Denot) (j : Naming.Ghosts J.Denot)
-    (f : IsSync (Fabric.the_row r M T S J m t s j)) (z : IsSync G) (x : IsSend N) where
+    (f : IsSync (Fabric.the_row r M T S J m t s j)) (z : IsSync G) (x : IsSend T) (y : IsSend S) (n : IsSend N) where
   in_entrance : AllSend (fields (Entrance.the_type a r M T S G J m t s j))
   in_entrance = (
     search (sendable, crosses, f) depth 40 fits 6000,
@@ -29,7 +29,10 @@ module _ (a r : NamedLft) (M T S G J N : RattleType) (m : Mailbox.Ghosts M.Denot
   in_applicant : AllSend (fields (Applicant.the_type a r M T S G J N m t s j))
   in_applicant = (
     struct_send (shape (Entrance.the_type a r M T S G J m t s j)) in_entrance,
-    (x, (search (sendable, crosses) depth 40 fits 6000, (search (sendable, crosses) depth 40 fits 6000, tt))),
+    (
+      search (sendable, crosses, held_send r T S J t s j x y) depth 40 fits 6000,
+      (n, (search (sendable, crosses) depth 40 fits 6000, (search (sendable, crosses) depth 40 fits 6000, tt))),
+    ),
   )
 
   pub applicant_send : IsSend (Applicant.the_row a r M T S G J N m t s j)

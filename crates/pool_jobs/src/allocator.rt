@@ -238,22 +238,30 @@ impl<
 > Entrance<'a, 'r, M, T, S, G, J> {
     /// Takes a station off the shelf, or says that the shelf is empty.
     pub fn enter<R: Wait>(self, rt: &R) -> Option<Allocator<'a, 'r, M, T, S, G, J>> {
+        let worker = self.worker;
+        let station = self.fabric.station(rt)?;
+        Some(self.resume(station.adopt(worker)))
+    }
+
+    /// Goes on with a station that [`Allocator::retire`] gave back, with what it has in its cache.
+    pub fn resume(self, station: HeldStation<'r, T, S, J>) -> Allocator<'a, 'r, M, T, S, G, J>
+        ensures { result ≡ station.entry }
+    {
         let Entrance {
             fabric,
             gate,
             alloc,
             worker,
         } = self;
-        let station = fabric.station(rt)?;
-        Some(Allocator {
+        Allocator {
             fabric,
             gate,
             alloc,
             worker,
             calls: 0,
             post_from: 0,
-            station: station.adopt(worker),
-        })
+            station,
+        }
     }
 }
 

@@ -9,7 +9,7 @@ use crate::handing::{Role, hand_over};
 use crate::heap::Heap;
 use crate::rows::{Places, Round, replace};
 use batch_inbox::{Mail, Mailbox, Receiver, Sender};
-use pool_fabric::Naming;
+use pool_fabric::{HeldStation, Naming};
 use rand_core::Rng;
 use std::sync::Wait;
 
@@ -56,7 +56,8 @@ pub(crate) trait Worker: Drop + Sized {
     fn end<R: Wait>(self, rt: &R) -> Self::Left;
 }
 
-/// One who is about to take up work, with the source of its sizes.
+/// One who is about to take up work, with the source of its sizes, and with the station of a worker
+/// before it where that one's last post was refused.
 #[derive(Drop)]
 pub(crate) struct Applicant<
     'a,
@@ -69,6 +70,7 @@ pub(crate) struct Applicant<
     N: Drop,
 > {
     entrance: Entrance<'a, 'r, M, T, S, G, J>,
+    station: Option<HeldStation<'r, T, S, J>>,
     random: N,
     worker: u32,
     drops: bool,
@@ -84,15 +86,18 @@ impl<'a, 'r, M: Mailbox, T: Receiver, S: Sender, G: Gate, J: Naming, N: Drop> Ap
     J,
     N,
 > {
-    /// A worker that has no allocator yet. It drops its first buffer where `drops` says so.
+    /// A worker that has no allocator yet, and goes on with the station where there is one. It drops
+    /// its first buffer where `drops` says so.
     pub(crate) fn new(
         entrance: Entrance<'a, 'r, M, T, S, G, J>,
+        station: Option<HeldStation<'r, T, S, J>>,
         random: N,
         worker: u32,
         drops: bool,
     ) -> Applicant<'a, 'r, M, T, S, G, J, N> {
         Applicant {
             entrance,
+            station,
             random,
             worker,
             drops,
@@ -143,15 +148,19 @@ where
     J: Naming,
     N: Drop,
 {
-    // Takes up an allocator, where there is one.
+    // Takes up an allocator: with its station, or else with one off the shelf, where there is one.
     fn enter<R: Wait>(self, rt: &R) -> Option<Client<'a, 'r, M, T, S, G, J, N>> {
         let Applicant {
             entrance,
+            station,
             random,
             worker,
             drops,
         } = self;
-        let allocator = entrance.enter(rt)?;
+        let allocator = match station {
+            Some(station) => entrance.resume(station),
+            None => entrance.enter(rt)?,
+        };
         Some(Client {
             heap: Counting::new(allocator),
             random,

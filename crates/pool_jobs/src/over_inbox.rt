@@ -78,7 +78,7 @@ where
         };
         let seed = u64::from(plan.seed).wrapping_add(u64::from(number).wrapping_mul(64));
         let drops = plan.drop_first && back.counts.lost == 0;
-        let Ok(ready) = starters(alloc, fabric, gate, seed, threads, drops) else {
+        let Ok(ready) = starters(alloc, fabric, gate, seed, threads, drops, &mut back) else {
             return Err(JobError::NoMemory);
         };
         let next = round_over::<G, N, J, R>(rt, alloc, workload, ready, rows, round, &mut back)?;

@@ -78,7 +78,7 @@ where
         };
         let seed = u64::from(plan.seed).wrapping_add(u64::from(number).wrapping_mul(64));
         let drops = plan.drop_first && back.counts.lost == 0;
-        let Ok(ready) = starters(alloc, fabric, gate, seed, threads, drops) else {
+        let Ok(ready) = starters(alloc, fabric, gate, seed, threads, drops, &mut back) else {
             return Err(JobError::NoMemory);
         };
         let next = round_over::<G, N, J, R>(rt, alloc, workload, ready, rows, round, &mut back)?;
@@ -126,10 +126,6 @@ where
 /// Runs a workload as [`work`](crate::work) does, over inboxes of two atomic steps. A post and a take
 /// need no memory there, and no lock. Where 16 batches of one desk to another were not taken yet,
 /// further ones wait in the desk's cache.
-///
-/// Where they wait at the end of a round, the worker's station comes back with it and not by the
-/// shelf. A worker of the next round may then find none, and its row is freed by nobody in the last
-/// round: the audit names its slots.
 pub fn work_linked<'r, G, N, R>(
     rt: &R,
     alloc: Global,

@@ -135,7 +135,8 @@ where
     }
 }
 
-/// Those who work in one round of a workload.
+/// Those who work in one round of a workload. What came back of the round before, because a post was
+/// refused there, goes to the first of them.
 pub(crate) fn starters<'a, 'r, M, T, S, G, J, N>(
     alloc: Global,
     fabric: &'a Fabric<'r, M, T, S, J>,
@@ -143,6 +144,7 @@ pub(crate) fn starters<'a, 'r, M, T, S, G, J, N>(
     seed: u64,
     threads: u32,
     drop_first: bool,
+    back: &mut Back<'r, T, S, J>,
 ) -> Result<Vec<Applicant<'a, 'r, M, T, S, G, J, N>>, AllocError>
 where
     M: Mailbox,
@@ -156,7 +158,9 @@ where
     for worker in 0..threads {
         let random = N::seed_from_u64(seed.wrapping_add(u64::from(worker)));
         let entrance = Entrance::new(alloc, fabric, gate, worker);
-        starters.push(Applicant::new(entrance, random, worker, drop_first && worker == 0))?;
+        let station = back.held.pop();
+        let drops = drop_first && worker == 0;
+        starters.push(Applicant::new(entrance, station, random, worker, drops))?;
     }
     Ok(starters)
 }

@@ -10,7 +10,7 @@ pub one_round-requires-send-S : goal.one_round-requires-send-S
 one_round-requires-send-S g c κs within =
     param_send _ _ (arg_send _ no _ (applicant_send (record { mir = named 5; lft = _ }) (record { mir = named 6; lft = _ }) _ _ _ _ _ _ _ _ _ _
     (fabric_sync (record { mir = named 6; lft = _ }) _ _ _ _ _ _ _ _ (link_inbox_sync (record { mir = named 6; lft = _ })) (link_take_send (record { mir = named 6; lft = _ })) (link_seat_send (record { mir = named 6; lft = _ })))
-    c.type_bounds.sync-G c.type_bounds.send-N))
+    c.type_bounds.sync-G (link_take_send (record { mir = named 6; lft = _ })) (link_seat_send (record { mir = named 6; lft = _ })) c.type_bounds.send-N))
 
 pub one_round-requires-send-S-Left : goal.one_round-requires-send-S-Left
 one_round-requires-send-S-Left g c κs within =
