@@ -15,6 +15,10 @@ use std::alloc::Global;
 use std::marker::Model;
 use std::sync::Wait;
 
+// How many buffers are allocated between two looks into the inbox, where slots of each class are at
+// home all the while.
+const LOOK_EVERY: u32 = 64;
+
 /// The allocator of one worker: a station of the fabric that all workers share.
 ///
 /// Only [`Allocator::alloc`] of a slot that was never handed out takes memory, and posts may. A
@@ -27,6 +31,8 @@ pub struct Allocator<'a, 'r, M: Mailbox, T: Receiver, S: Sender, G: Gate, J: Nam
     alloc: Global,
     worker: u32,
     calls: u64,
+    // How many buffers were asked for since it looked into its inbox.
+    since_look: u32,
     // While fewer bytes are cached, nothing is posted: 0 but after a post that was refused.
     post_from: u64,
     station: HeldStation<'r, T, S, J>,
@@ -50,12 +56,35 @@ impl<
     G: Gate,
     J: Naming,
 > Allocator<'a, 'r, M, T, S, G, J> {
+    // Where a station is asked for its number and nothing done with it, its answer's contract tells what
+    // the station's type keeps: that the number is in range, and that the digits are the fabric's.
+
     // The number of the call that comes next.
     fn next_call(&mut self) -> u64
         ensures { self.new ≡ self.old }
     {
         self.calls = self.calls.saturating_add(1);
         self.calls
+    }
+
+    // Whether it is time for a look into the inbox, where a buffer is asked for.
+    fn is_to_look(&mut self) -> bool
+        ensures { self.new ≡ self.old }
+    {
+        self.since_look = self.since_look.saturating_add(1);
+        if self.since_look < LOOK_EVERY {
+            return false;
+        }
+        self.since_look = 0;
+        true
+    }
+
+    // Takes what came in batches, at most 64.
+    fn look<R: Wait>(&mut self, rt: &R)
+        ensures { Keeps J.names self.old self.new }
+    {
+        let _taken = self.station.take(rt, self.fabric);
+        let _number = self.station.number();
     }
 
     // Asks the desk. The gate is told.
@@ -105,8 +134,7 @@ impl<
         requires class { IsClassFor J.names size class }
         ensures { Serves J.names self.old size result self.new }
     {
-        let _taken = self.station.take(rt, self.fabric);
-        self.post_from = 0;
+        self.look(rt);
         match self.ask(size) {
             Ok(buffer) => Ok(buffer),
             Err(PoolError::UsedUp) => self.ask_after_claiming(rt, class, size),
@@ -117,7 +145,8 @@ impl<
     /// Gives a buffer of at least `size` bytes. Nothing of it is cleared.
     ///
     /// It asks its desk, then takes at most 64 batches from its inbox and asks again, then claims a
-    /// chunk of the stock and asks again. It is [`PoolError::UsedUp`] only where the stock was empty
+    /// chunk of the stock and asks again. It looks into its inbox at each 64th call as well, so that
+    /// no sender waits for it to run out of a class. It is [`PoolError::UsedUp`] only where the stock was empty
     /// then; [`PoolError::NoMemory`] only where the system refused the memory for a new buffer.
     pub fn alloc<R: Wait>(&mut self, rt: &R, size: usize) -> Result<Buffer<'r, J>, PoolError>
         ensures { Serves J.names self.old size result self.new }
@@ -126,15 +155,22 @@ impl<
         let Some(class) = self.station.digits().profile().class_for(size) else {
             return self.ask(size);
         };
+        if self.is_to_look() {
+            return self.ask_after_taking(rt, class, size);
+        }
         match self.ask(size) {
             Ok(buffer) => Ok(buffer),
-            Err(PoolError::UsedUp) => self.ask_after_taking(rt, class, size),
+            Err(PoolError::UsedUp) => {
+                self.post_from = 0;
+                self.ask_after_taking(rt, class, size)
+            }
             Err(error) => Err(error),
         }
     }
 
     // Posts all that is cached, unless a post was refused and little has come since. A refused one
-    // costs as much as the cache is long, so the cache grows by a quarter before the next.
+    // costs as much as the cache is long, so the cache grows by a quarter before the next. Before it
+    // takes what came, which may have to go on to others.
     fn post_again<R: Wait>(&mut self, rt: &R)
         ensures { Keeps J.names self.old self.new }
     {
@@ -142,6 +178,7 @@ impl<
         if self.station.cached_bytes() < self.post_from {
             return;
         }
+        self.look(rt);
         self.station.post(rt, self.fabric);
         let left = self.station.cached_bytes();
         self.post_from = left.saturating_add(left / 4);
@@ -150,8 +187,8 @@ impl<
     /// Takes a buffer back, and posts all that is cached where that is due.
     ///
     /// Where an inbox refuses a batch, the rest stays cached, and the worker goes on. It tries again
-    /// when the cache is due and has grown by a quarter, or once [`Allocator::alloc`] has looked into
-    /// its own inbox: so the posts that are refused cost a constant time a buffer, over many.
+    /// when the cache is due and has grown by a quarter, or once [`Allocator::alloc`] found no slot at
+    /// home and looked into its own inbox: so the posts that are refused cost a constant time a buffer, over many.
     pub fn free<R: Wait>(&mut self, rt: &R, buffer: Buffer<'r, J>)
         ensures desk { SameDesk J.names self.old self.new }
         ensures lent { self.new.lent ≡ self.old.lent }
@@ -179,6 +216,7 @@ impl<
             alloc: _,
             worker,
             calls: _,
+            since_look: _,
             post_from: _,
             mut station,
         } = self;
@@ -259,6 +297,7 @@ impl<
             alloc,
             worker,
             calls: 0,
+            since_look: 0,
             post_from: 0,
             station,
         }
