@@ -9,9 +9,9 @@ ghost use Rattle.poolctl.specs.Works.{counts_text, work_text};
 use crate::asked::Work;
 use crate::lines::{push_number, push_word};
 use crate::outcome::Outcome;
-use batch_inbox::{Inbox, SendSeat, TakeSeat};
+use link_inbox::{LinkInbox, SendSeat, TakeSeat};
 use pool_fabric::Opening;
-use pool_jobs::{Counts, JobError, NoGate, Plan, Tally, Workload, work};
+use pool_jobs::{Counts, JobError, NoGate, Plan, Tally, Workload, work_linked};
 use rand_pcg::Pcg32;
 use region_cut::{CHUNK, cut};
 use std::alloc::{AllocError, Global};
@@ -88,7 +88,7 @@ fn tally_over<'r, H: Threads + Wait + Sync>(
     let Ok(parts) = cut(alloc, region) else {
         return Err(JobError::NoMemory);
     };
-    let opening = Opening::<'r, Inbox<'r>, TakeSeat<'r>, SendSeat<'r>>::new(
+    let opening = Opening::<'r, LinkInbox<'r>, TakeSeat<'r>, SendSeat<'r>>::new(
         alloc,
         parts,
         asked.threads as u16,
@@ -104,7 +104,14 @@ fn tally_over<'r, H: Threads + Wait + Sync>(
         seed: asked.seed,
         drop_first: asked.drop_first,
     };
-    let ended = work::<NoGate, Pcg32, H>(rt, alloc, opening, &NoGate, asked.workload, &plan)?;
+    let ended = work_linked::<NoGate, Pcg32, H>(
+        rt,
+        alloc,
+        opening,
+        &NoGate,
+        asked.workload,
+        &plan,
+    )?;
     Ok(ended.tally)
 }
 
