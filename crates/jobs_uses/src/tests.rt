@@ -2,6 +2,7 @@
 
 mod alone;
 mod meeting;
+mod passing;
 mod refused;
 mod tasks;
 mod unheard;

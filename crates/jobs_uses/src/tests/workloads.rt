@@ -121,3 +121,32 @@ fn a_worker_without_a_partner(rt: HostRuntime) -> Result<(), Fail> {
     }
     Ok(())
 }
+
+// Two workers in five rounds, whose caches are always or soon due: more batches go to each desk in a
+// round than its inbox holds of one sender, so that a post is refused at the end of many rounds. The
+// station comes back through the join then, and a worker of the next round goes on with it.
+#[test]
+fn a_refused_post_at_the_end_of_a_round(rt: HostRuntime) -> Result<(), Fail> {
+    for inboxes in BOTH {
+        for limit in [0, 64] {
+            let ground = Ground {
+                chunks: 1_024,
+                desks: 2,
+                width: 1,
+                limit,
+                inboxes,
+            };
+            let plan = Plan {
+                count: 400,
+                rounds: 5,
+                seed: 1,
+                drop_first: false,
+            };
+            let tally = tally_of(&rt, &NoGate, ground, Workload::Replace, &plan)?;
+            assert!(rt; tally.counts.allocated == 4_032 && tally.counts.freed == 4_032);
+            assert!(rt; tally.counts.starved == 0 && tally.counts.lost == 0);
+            assert!(rt; tally.audit.is_ok());
+        }
+    }
+    Ok(())
+}
