@@ -1,12 +1,15 @@
 """Bars as SVG: a group for each workload, a bar for each allocator, shorter is better."""
 
 HEIGHT, GAP, LEFT, WIDTH = 16, 14, 150, 520
-COLORS = {"desk": "#b5472a"}
+OURS = "#b5472a"
+COLORS = {"desk": OURS, "Inbox": OURS, "LinkInbox": OURS}
 OTHER = "#8a97a8"
 
+LOOP = "Nanoseconds for one buffer lent and freed, without the loop; shorter is better"
 
-def bars(groups, names):
-    """The picture of nanoseconds by group and name."""
+
+def bars(groups, names, words=LOOP):
+    """The picture of nanoseconds by group and name, under these words."""
     most = max(values[name] for values in groups.values() for name in names)
     parts, y = [], 30
     for group, values in groups.items():
@@ -15,7 +18,6 @@ def bars(groups, names):
             parts.append(bar(y, name, values[name], values[name] / most * WIDTH))
             y += HEIGHT
         y += GAP
-    words = "Nanoseconds for one buffer lent and freed, without the loop; shorter is better"
     head = text(10, 18, words, "start", "normal")
     size = f'width="{LEFT + WIDTH + 60}" height="{y}"'
     opening = f'<svg xmlns="http://www.w3.org/2000/svg" {size} font-family="sans-serif" font-size="12">'

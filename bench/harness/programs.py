@@ -43,6 +43,12 @@ def cpp_bench():
     return compiled("cpp_bench", [*folder.iterdir()], ["g++", *flags, folder / "cpp_bench.cpp"])
 
 
+def threads_bench():
+    folder = HERE / "cpp"
+    flags = ["-std=c++17", "-O2", "-Wall", "-Wextra", "-fno-builtin-malloc", "-pthread"]
+    return compiled("threads_bench", [*folder.iterdir()], ["g++", *flags, folder / "threads_bench.cpp"])
+
+
 def parse():
     source = HERE / "replay" / "parse.c"
     return compiled("parse", [source], ["gcc", "-O2", "-Wall", "-Wextra", source])
@@ -55,8 +61,8 @@ def listed(file):
 
 
 def further():
-    """The programs of crates.txt.in beside the one that the tables are of: each prints a table of its own."""
-    return [name for name in listed(HERE / "crates.txt.in") if name != "desk_bench"]
+    """The programs of crates.txt.in beside those that the tables are of: each prints a table of its own."""
+    return [name for name in listed(HERE / "crates.txt.in") if name not in ("desk_bench", "jobs_bench")]
 
 
 def needed(name, lines):
@@ -110,6 +116,10 @@ def rattle_program(name, words):
 
 def desk_bench():
     return rattle_program("desk_bench", ["pair", "1000", "1"])
+
+
+def jobs_bench():
+    return rattle_program("jobs_bench", ["replace1", "1000", "1", "inbox"])
 
 
 def poolctl():

@@ -1,6 +1,4 @@
-"""The main table: one desk beside the allocators that a program would take instead, in one thread.
-
-Rows with threads come with the workers that hold desks."""
+"""The main table: one desk beside the allocators that a program would take instead, in one thread."""
 from . import picture, programs
 from .measure import Column, instructions, least
 from .packages import PEERS, has

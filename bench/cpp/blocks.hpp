@@ -1,0 +1,53 @@
+// Buffers that are handed from thread to thread, in blocks, so that the hand-over costs little beside the allocator.
+#pragma once
+#include <cstddef>
+#include <cstdlib>
+#include <mutex>
+#include <utility>
+#include <vector>
+
+// how many buffers go at once
+constexpr size_t BLOCK = 64;
+
+template <class Lent> using Block = std::vector<Lent>;
+
+// blocks under a lock, the oldest first
+template <class Lent> class alignas(128) Queue {
+  std::mutex lock;
+  std::vector<Block<Lent>> blocks;
+  size_t first = 0;
+  size_t length = 0;
+
+public:
+  explicit Queue(size_t most) : blocks(most) {}
+
+  void push(Block<Lent> block) {
+    std::lock_guard<std::mutex> guard(lock);
+    if (length == blocks.size()) abort();
+    blocks[(first + length++) % blocks.size()] = std::move(block);
+  }
+
+  bool pop(Block<Lent> &block) {
+    std::lock_guard<std::mutex> guard(lock);
+    if (length == 0) return false;
+    block = std::move(blocks[first]);
+    first = (first + 1) % blocks.size();
+    length--;
+    return true;
+  }
+};
+
+// The way from one thread to another: full blocks go, and empty ones come back. There are so many blocks that no more
+// than a window of buffers is under way.
+template <class Lent> struct Way {
+  Queue<Lent> full;
+  Queue<Lent> empty;
+
+  explicit Way(size_t window) : full(window / BLOCK), empty(window / BLOCK) {
+    for (size_t i = 0; i < window / BLOCK; i++) {
+      Block<Lent> block;
+      block.reserve(BLOCK);
+      empty.push(std::move(block));
+    }
+  }
+};

@@ -1,0 +1,164 @@
+"""The table with threads: workers of a pool, over each of the two inboxes, beside the allocators that a program would
+take instead. Nothing is pinned."""
+import os
+import subprocess
+from dataclasses import dataclass, field
+
+from . import picture, programs
+from .measure import TURNS, Column, Times
+from .packages import PEERS
+from .text import aligned, number
+
+REPLACE = ["replace1", "replace2", "replace3", "replace4"]
+WORKLOADS = [*REPLACE, "prodcons", "ring"]
+
+# Each inbox with the word by which the program knows it.
+INBOXES = {"Inbox": "inbox", "LinkInbox": "linked"}
+
+# Buffers are handed over so many at a time.
+BLOCK = 64
+
+# A run that takes longer is stuck.
+SECONDS = 300
+
+
+@dataclass
+class Pool:
+    """What the runs of a workload said of their pools: the most chunks that one drew, of how many, and how often no
+    buffer was to be had."""
+
+    drawn: int = 0
+    chunks: int = 0
+    starved: int = 0
+
+    def note(self, starved, drawn, chunks):
+        self.drawn = max(self.drawn, drawn)
+        self.chunks = chunks
+        self.starved += starved
+
+
+@dataclass
+class Measured:
+    times: Times = field(default_factory=Times)
+    pools: dict = field(default_factory=dict)
+
+
+@dataclass(frozen=True)
+class Columns:
+    peers: list
+    workers: list
+    # the loop and the hand-over alone, in C++ and in Rattle
+    alone: Column
+    workers_alone: Column
+
+    def every(self):
+        return [self.alone, *self.peers, self.workers_alone, *self.workers]
+
+    def pairs(self):
+        """Each allocator with what is subtracted from it."""
+        return [(it, self.alone) for it in self.peers] + [(it, self.workers_alone) for it in self.workers]
+
+
+def columns():
+    cpp, jobs = programs.threads_bench(), programs.jobs_bench()
+    installed = [peer for peer in PEERS if peer.path() is not None]
+    return Columns(
+        peers=[Column(peer.name, cpp, behind=("malloc",), preload=peer.path()) for peer in installed],
+        workers=[Column(name, jobs, behind=(word,)) for name, word in INBOXES.items()],
+        alone=Column("hand-over", cpp, behind=("nothing",)),
+        workers_alone=Column("our hand-over", jobs, behind=("nothing",)),
+    )
+
+
+def run(column, workload, count, measured):
+    env = {**os.environ, "LD_PRELOAD": column.preload}
+    command = column.command(workload, count, TURNS)
+    ran = subprocess.run(command, env=env, stdout=subprocess.PIPE, text=True, check=True, timeout=SECONDS)
+    _workload, nanos, total, *of_pool = ran.stdout.split()
+    if of_pool:
+        pool = measured.pools.setdefault((workload, column.name), Pool())
+        pool.note(*map(int, of_pool))
+        if pool.starved:
+            # less was lent than the others lent: the time is noted, and the sum isn't comparable
+            key = workload, column.name
+            measured.times.least[key] = min(float(nanos), measured.times.least.get(key, float(nanos)))
+            return
+    measured.times.note(workload, column, float(nanos), int(total))
+
+
+def least(cells, given):
+    """Runs each cell, a workload and a column, in turn, as often as there are rounds."""
+    measured = Measured()
+    count = max(BLOCK, given.count - given.count % BLOCK)
+    for _round in range(given.rounds):
+        for workload, column in cells:
+            run(column, workload, count, measured)
+    return measured
+
+
+def net_of(times, all_columns):
+    """Nanoseconds without the loop and the hand-over, by workload and column."""
+    return {
+        workload: {it.name: times[workload, it.name] - times[workload, alone.name] for it, alone in all_columns.pairs()}
+        for workload in WORKLOADS
+    }
+
+
+def measured_rows(times, all_columns):
+    every = all_columns.every()
+    rows = [["ns", *(it.name for it in every)]]
+    rows += [[workload, *(number(times[workload, it.name]) for it in every)] for workload in WORKLOADS]
+    return aligned(rows)
+
+
+def net_rows(nets, all_columns):
+    peers = [it.name for it in all_columns.peers]
+    head = ["ns without the hand-over", *peers]
+    for name in INBOXES:
+        head += [name, "to the best"]
+    rows = [head]
+    for workload, net in nets.items():
+        best = min(net[name] for name in peers)
+        row = [workload, *(number(net[name]) for name in peers)]
+        for name in INBOXES:
+            row += [number(net[name]), f"{net[name] / best:.2f}"]
+        rows.append(row)
+    return aligned(rows)
+
+
+def scaling_rows(times, all_columns):
+    """What a buffer of `replace` takes beside other threads, as a multiple of one thread's, with the loop."""
+    every = all_columns.every()
+    rows = [["to one thread's", *(it.name for it in every)]]
+    for workload in REPLACE[1:]:
+        ratios = [times[workload, it.name] / times[REPLACE[0], it.name] for it in every]
+        rows.append([workload, *(f"{ratio:.2f}" for ratio in ratios)])
+    return aligned(rows)
+
+
+def pool_rows(pools):
+    rows = [["most chunks drawn", *INBOXES, "of", *(f"{name}: no buffer" for name in INBOXES)]]
+    for workload in WORKLOADS:
+        of_each = [pools[workload, name] for name in INBOXES]
+        drawn, starved = ([str(it.drawn) for it in of_each], [str(it.starved) for it in of_each])
+        rows.append([workload, *drawn, str(of_each[0].chunks), *starved])
+    return aligned(rows)
+
+
+def measure(given):
+    all_columns = columns()
+    cells = [(workload, it) for workload in WORKLOADS for it in all_columns.every()]
+    measured = least(cells, given)
+    nets = net_of(measured.times, all_columns)
+    tables = [
+        measured_rows(measured.times, all_columns),
+        net_rows(nets, all_columns),
+        scaling_rows(measured.times, all_columns),
+        pool_rows(measured.pools),
+    ]
+    text = "\n\n".join(tables) + "\n"
+    (programs.OUT / "threads.txt").write_text(text)
+    names = [it.name for it in [*all_columns.peers, *all_columns.workers]]
+    words = "Nanoseconds for one buffer of a thread, without the loop and the hand-over; shorter is better"
+    (programs.OUT / "threads.svg").write_text(picture.bars(nets, names, words))
+    return f"{text}\nbars: {programs.OUT / 'threads.svg'}\n"
