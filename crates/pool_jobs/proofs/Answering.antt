@@ -37,12 +37,12 @@ took old inside mid k is same takes = record {
   freed = ap (λ (s : StationState). s.freed) same ∙ ap (λ (s : StationState). s.freed) is;
 }
 
--- the same, in the words of the contracts
+-- what a contract says to be kept is kept in a step
 pub kept : (names : Names) (old mid : StationState) → Keeps names old mid → Step old mid
 kept names old mid k = record { number = k.desk.number; lent = k.lent; freed = k.freed }
 
--- what a call keeps after such a step
-pub keeps_after : (names : Names) (old mid new : StationState) → Step old mid → Keeps names mid new → Keeps names old new
+-- what is kept after such a step
+keeps_after : (names : Names) (old mid new : StationState) → Step old mid → Keeps names mid new → Keeps names old new
 keeps_after names old mid new s k = record {
   desk = record { number = k.desk.number ∙ s.number; digits = k.desk.digits };
   lent = k.lent ∙ s.lent;

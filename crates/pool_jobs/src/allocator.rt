@@ -145,9 +145,9 @@ impl<
     /// Gives a buffer of at least `size` bytes. Nothing of it is cleared.
     ///
     /// It asks its desk, then takes at most 64 batches from its inbox and asks again, then claims a
-    /// chunk of the stock and asks again. It looks into its inbox at each 64th call as well, so that
-    /// no sender waits for it to run out of a class. It is [`PoolError::UsedUp`] only where the stock was empty
-    /// then; [`PoolError::NoMemory`] only where the system refused the memory for a new buffer.
+    /// chunk of the stock and asks again. At each 64th call it takes first, so that no sender waits
+    /// for it to run out of a class. It is [`PoolError::UsedUp`] only where the stock was empty then;
+    /// [`PoolError::NoMemory`] only where the system refused the memory for a new buffer.
     pub fn alloc<R: Wait>(&mut self, rt: &R, size: usize) -> Result<Buffer<'r, J>, PoolError>
         ensures { Serves J.names self.old size result self.new }
     {
@@ -169,8 +169,8 @@ impl<
     }
 
     // Posts all that is cached, unless a post was refused and little has come since. A refused one
-    // costs as much as the cache is long, so the cache grows by a quarter before the next. Before it
-    // takes what came, which may have to go on to others.
+    // costs as much as the cache is long, so the cache grows by a quarter before the next. What came
+    // is taken first, since it may have to go on to others.
     fn post_again<R: Wait>(&mut self, rt: &R)
         ensures { Keeps J.names self.old self.new }
     {
@@ -188,7 +188,8 @@ impl<
     ///
     /// Where an inbox refuses a batch, the rest stays cached, and the worker goes on. It tries again
     /// when the cache is due and has grown by a quarter, or once [`Allocator::alloc`] found no slot at
-    /// home and looked into its own inbox: so the posts that are refused cost a constant time a buffer, over many.
+    /// home and looked into its own inbox: so the posts that are refused cost a constant time a
+    /// buffer, over many.
     pub fn free<R: Wait>(&mut self, rt: &R, buffer: Buffer<'r, J>)
         ensures desk { SameDesk J.names self.old self.new }
         ensures lent { self.new.lent ≡ self.old.lent }

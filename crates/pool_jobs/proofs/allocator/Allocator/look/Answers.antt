@@ -1,5 +1,4 @@
-use Rattle.pool_jobs.proofs.Answering.{Step, took}
-use Rattle.pool_jobs.specs.Serving.{Keeps}
+use Rattle.pool_jobs.proofs.Answering.{took}
 use Rattle.pool_jobs.proofs.allocator.Allocator.look.Goals as goal
 
 pub returns : goal.returns
