@@ -233,57 +233,49 @@ fn run_threads<'r, R: Abort + Threads + Wait + Sync>(
     Ok(freed)
 }
 
-// The receiver's seat is kept: what was posted is found.
+// What was posted is found where the receiver's seat is kept. Where it is dropped with the desk, the
+// inbox goes with its batches.
 fn leaves<'r, R: Abort + Threads + Wait + Sync>(
     rt: &R,
     alloc: Global,
     digits: Digits,
     owner: Desk<'r>,
+    drops_seat: bool,
 ) -> Result<(), Fail>
     requires { digits ≡ supplied_digits }
 {
     let (inbox, take, mut seats) = Inbox::new(alloc, 1, digits, 1)?;
     let seat = take_last_seat(&inbox, &mut seats).ok_or("a seat")?;
+    if drops_seat {
+        let freed = run_threads(rt, alloc, digits, owner, Some(take), &inbox, seat)?;
+        assert!(rt; freed.posted == 2 && freed.is_empty);
+        return Ok(());
+    }
     let freed = run_threads(rt, alloc, digits, owner, None, &inbox, seat)?;
     let batches = drained(rt, alloc, inbox, take, seats, freed);
     audited(rt, alloc, batches)
 }
 
-#[test]
-fn a_desk_is_dropped_while_another_posts(rt: HostRuntime) -> Result<(), Fail> {
+// In each run an owner with a region of its own is dropped.
+fn leaves_often<R: Abort + AllocGlobal + Threads + Wait + Sync>(
+    rt: &R,
+    drops_seat: bool,
+) -> Result<(), Fail> {
     let digits = Digits::new(2).ok_or("two bits")?;
     for _ in 0..RUNS {
         let mut region = Vec::from_elem(rt.alloc(), 0u8, CHUNK)?;
-        let owner = owner_of(&rt, rt.alloc(), digits, region.as_mut_slice());
-        leaves(&rt, rt.alloc(), digits, owner)?;
+        let owner = owner_of(rt, rt.alloc(), digits, region.as_mut_slice());
+        leaves(rt, rt.alloc(), digits, owner, drops_seat)?;
     }
     Ok(())
 }
 
-// The receiver's seat is dropped as well: the inbox goes with its batches.
-fn leaves_with_its_seat<'r, R: Abort + Threads + Wait + Sync>(
-    rt: &R,
-    alloc: Global,
-    digits: Digits,
-    owner: Desk<'r>,
-) -> Result<(), Fail>
-    requires { digits ≡ supplied_digits }
-{
-    let (inbox, take, mut seats) = Inbox::new(alloc, 1, digits, 1)?;
-    let seat = take_last_seat(&inbox, &mut seats).ok_or("a seat")?;
-    let freed = run_threads(rt, alloc, digits, owner, Some(take), &inbox, seat)?;
-    assert!(rt; freed.posted == 2 && freed.is_empty);
-    drop(inbox);
-    Ok(())
+#[test]
+fn a_desk_is_dropped_while_another_posts(rt: HostRuntime) -> Result<(), Fail> {
+    leaves_often(&rt, false)
 }
 
 #[test]
 fn posts_are_answered_with_no_receiver(rt: HostRuntime) -> Result<(), Fail> {
-    let digits = Digits::new(2).ok_or("two bits")?;
-    for _ in 0..RUNS {
-        let mut region = Vec::from_elem(rt.alloc(), 0u8, CHUNK)?;
-        let owner = owner_of(&rt, rt.alloc(), digits, region.as_mut_slice());
-        leaves_with_its_seat(&rt, rt.alloc(), digits, owner)?;
-    }
-    Ok(())
+    leaves_often(&rt, true)
 }
