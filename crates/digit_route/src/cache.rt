@@ -1,9 +1,9 @@
 //! The cache of a desk.
 ghost use Rattle.std.specs.Prelude.{◌≡◌, ◌-◌, ◌*◌, ◌^◌, ◌<◌, ◌≤◌, ◌↔◌, ◌⊎◌, [], ◌∷◌, ◌++◌, length, map, All, Some};
 ghost use Rattle.std.specs.Prelude.{None, MatchOption, MatchResult, IsTrue, IsPermutation, OnOk, OnErr};
-ghost use Rattle.slot_chain.specs.Buffer.{ended_of};
+ghost use Rattle.slot_chain.specs.Buffer.{Buffer, ended_of};
 ghost use Rattle.slot_chain.specs.Counts.{capped, sizes};
-ghost use Rattle.digit_route.specs.Digits.{Scheme, IsScheme, count};
+ghost use Rattle.digit_route.specs.Digits.{Scheme, IsScheme, common, count};
 ghost use Rattle.digit_route.specs.Limits.{largest_limit};
 ghost use Rattle.digit_route.specs.Posts.{Moved, Posts, shared};
 ghost use Rattle.digit_route.specs.Route.{IsCached, RouteFault};
@@ -218,20 +218,27 @@ impl<'r> Cache<'r> {
         ensures value { MatchOption result ((self.old.items ≡ []) × (self.new.items ≡ []))
             (λ b. GivesBucket self.old.digits self.old.number self.old.items b self.new.items) }
     {
-        if let Some(batch) = self.next_near() {
+        if let Some(batch) = self.next_of_first_round() {
             return Some(batch);
         }
         if self.row.is_empty() {
             return None;
         }
-        self.next_far()
+        self.next_of_later_rounds()
     }
 
-    // Takes out the bucket for some owner with another first digit, or says that there is none.
-    fn next_near(&mut self) -> Option<Batch<'r>>
+    /// Takes out the bucket for some owner whose first digit isn't the desk's, as the first round
+    /// of a posting does, or says that all that are left share it. The cache stays where it is.
+    ///
+    /// Numbers below 2 to the power of the digits' width all differ in the first digit: where all
+    /// desks have such, this gives all of the cache.
+    pub fn next_of_first_round(&mut self) -> Option<Batch<'r>>
         ensures same { self.new ≡ record self.old { items = self.new.items } }
         ensures value { MatchOption result (self.new.items ≡ self.old.items)
             (λ b. GivesBucket self.old.digits self.old.number self.old.items b self.new.items) }
+        ensures round { MatchOption result
+            (All (λ (x : Buffer). 0 < common self.old.digits x.owner self.old.number) self.old.items)
+            (λ b. All (λ (x : Buffer). common self.old.digits x.owner self.old.number ≡ 0) b.items) }
     {
         match self.row.take_other() {
             Some(batch) => {
@@ -245,7 +252,7 @@ impl<'r> Cache<'r> {
     // Takes out the bucket for some owner, in whichever round.
     #[cold]
     #[inline(never)]
-    fn next_far(&mut self) -> Option<Batch<'r>>
+    fn next_of_later_rounds(&mut self) -> Option<Batch<'r>>
         ensures same { self.new ≡ record self.old { items = self.new.items } }
         ensures value { MatchOption result ((self.old.items ≡ []) × (self.new.items ≡ []))
             (λ b. GivesBucket self.old.digits self.old.number self.old.items b self.new.items) }

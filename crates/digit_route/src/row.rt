@@ -3,7 +3,7 @@ ghost use Rattle.std.specs.Prelude.{◌≡◌, ◌≢◌, ℕ, ◌+◌, ◌^◌,
 ghost use Rattle.std.specs.Prelude.{All, Any, IsPermutation, IsTrue, OnOk, OnErr};
 ghost use Rattle.slot_chain.specs.Buffer.{Buffer, ended_of};
 ghost use Rattle.slot_chain.specs.Counts.{capped, sizes};
-ghost use Rattle.digit_route.specs.Digits.{digit};
+ghost use Rattle.digit_route.specs.Digits.{common, digit};
 ghost use Rattle.digit_route.specs.Route.{IsWellRouted, RouteFault, TakesBucket};
 ghost use Rattle.digit_route.specs.Rows.{IsLeft, Keeps};
 ghost use Rattle.slot_chain.specs.Slots.{AddsSlots, slot_of};
@@ -208,12 +208,15 @@ impl<'r> Row<'r> {
         take_at(&mut self.chains, k as usize)
     }
 
-    /// Takes out a batch of this round, or says that all owners that are left have the desk's own
-    /// digit, and changes nothing.
+    /// Takes out a batch of this round: the bucket for an owner whose digit isn't the desk's own.
+    /// Where all that are left have the desk's own, it says so, and changes nothing.
     pub(crate) fn take_other(&mut self) -> Option<Batch<'r>>
         ensures same { self.new ≡ record self.old { items = self.new.items } }
         ensures value { MatchOption result (self.new.items ≡ self.old.items)
             (λ b. GivesBucket self.old.digits self.old.number self.old.items b self.new.items) }
+        ensures round { MatchOption result
+            (All (λ (x : Buffer). self.old.round < common self.old.digits x.owner self.old.number) self.old.items)
+            (λ b. All (λ (x : Buffer). common self.old.digits x.owner self.old.number ≡ self.old.round) b.items) }
     {
         match self.find_other() {
             Some(k) => {

@@ -2,9 +2,9 @@
 ghost use Rattle.std.specs.Prelude.{◌≡◌, ◌≢◌, ◌<◌, ◌≤◌, ◌^◌, ◌↔◌, [], ◌++◌, length, map, All, IsTrue, IsPermutation};
 ghost use Rattle.std.specs.Prelude.{Some, None, MatchBool, MatchOption, MatchResult, OnOk, OnErr};
 ghost use Rattle.region_cut.specs.Classes.{classes_of};
-ghost use Rattle.slot_chain.specs.Buffer.{ended_of};
+ghost use Rattle.slot_chain.specs.Buffer.{Buffer, ended_of};
 ghost use Rattle.slot_chain.specs.Counts.{capped, sizes};
-ghost use Rattle.digit_route.specs.Digits.{IsScheme};
+ghost use Rattle.digit_route.specs.Digits.{IsScheme, common};
 ghost use Rattle.digit_route.specs.Limits.{largest_limit};
 ghost use Rattle.digit_route.specs.Route.{IsCached, RouteFault};
 ghost use Rattle.slot_chain.specs.Slots.{AddsSlots, slot_of};
@@ -240,6 +240,20 @@ impl<'r> Desk<'r> {
             (λ b. GivesBucket self.old.digits self.old.number self.old.cached b self.new.cached) }
     {
         self.cache.next_batch()
+    }
+
+    /// Takes out of the cache all that goes to some owner whose first digit isn't the desk's, or
+    /// says that all that are left share it. So a cache is posted where it stands, without a
+    /// [`Desk::posting`], as far as the first round goes. Takes no memory.
+    pub fn next_of_first_round(&mut self) -> Option<Batch<'r>>
+        ensures same { self.new ≡ record self.old { cached = self.new.cached } }
+        ensures value { MatchOption result (self.new.cached ≡ self.old.cached)
+            (λ b. GivesBucket self.old.digits self.old.number self.old.cached b self.new.cached) }
+        ensures round { MatchOption result
+            (All (λ (x : Buffer). 0 < common self.old.digits x.owner self.old.number) self.old.cached)
+            (λ b. All (λ (x : Buffer). common self.old.digits x.owner self.old.number ≡ 0) b.items) }
+    {
+        self.cache.next_of_first_round()
     }
 
     /// Takes back into the cache a batch of this desk that could not be posted. Takes no memory.

@@ -1,7 +1,7 @@
 use Rattle.std.proofs.Common.{◌≡◌, ap}
 use Rattle.digit_route.specs.Rows.{Row}
 use Rattle.digit_route.proofs.Loops.{posting_of}
-use Rattle.digit_route.proofs.PostingLaws.{Turns-none, Taken-from, taken_some}
+use Rattle.digit_route.proofs.PostingLaws.{Turns-none, Taken-from, taken_some, later_rounds}
 use Rattle.digit_route.proofs.row.Row.take_other.Goals as goal
 
 pub some_owner-address-requires : goal.some_owner-address-requires
@@ -25,3 +25,14 @@ returns-in-Some-clause-value c =
     let number : c.take-chain.new.self.number ≡ c.args.self.now.number = ap (λ (r : Row). r.number) c.take-chain.ensures.same in
     let digits : c.take-chain.new.self.digits ≡ c.args.self.now.digits = ap (λ (r : Row). r.digits) c.take-chain.ensures.same in
     rw (c.batch.ensures, number, digits) taken.gives
+
+pub returns-in-Some-clause-round : goal.returns-in-Some-clause-round
+returns-in-Some-clause-round c =
+    let taken =
+    Taken-from (posting_of c.args.self.now 0 0) c.args.self.now c.take-chain.new.self 0 0 _ _ _ (Turns-none _) c.in-Some.ensures.keeps c.take-chain.ensures.same
+    c.take-chain.ensures.items c.take-chain.ensures.only c.take-chain.ensures.all c.in-Some.ensures.value.1 c.some_owner-address.ensures in
+    let round : c.take-chain.new.self.round ≡ c.args.self.now.round = ap (λ (r : Row). r.round) c.take-chain.ensures.same in
+    rw c.batch.ensures (rw round at taken.here)
+
+pub returns-in-None-clause-round : goal.returns-in-None-clause-round
+returns-in-None-clause-round c = later_rounds c.args.self.now c.in-None.ensures.keeps c.in-None.ensures.value
