@@ -214,3 +214,28 @@ written [] (y ∷ ys) n e m = absurd (omega arith)
 written (x ∷ xs) [] n e m = absurd (omega arith)
 written (x ∷ xs) (y ∷ ys) zero e m = absurd (omega arith)
 written (x ∷ xs) (y ∷ ys) (suc n) e m = ap (λ l. x ∷ l) (written xs ys n (omega arith) (omega arith))
+
+sent_all-append : (ss : List SeatState) (bs cs : List BatchState) → sent_all ss (bs ++ cs) ≡ sent_all (sent_all ss bs) cs
+sent_all-append ss [] cs = refl
+sent_all-append ss (b ∷ bs) cs = sent_all-append (sent_at b.address b ss) bs cs
+
+buffers_in-append : (bs cs : List BatchState) → buffers_in (bs ++ cs) ≡ buffers_in bs ++ buffers_in cs
+buffers_in-append [] cs = refl
+buffers_in-append (b ∷ bs) cs = ap (λ l. b.items ++ l) (buffers_in-append bs cs) ∙ sym (append_assoc b.items (buffers_in bs) (buffers_in cs))
+
+-- what was posted first, and then
+pub posts_then : (c c' c'' : List Buffer) (ss ss' ss'' : List SeatState) → Posts c ss c' ss' → Posts c' ss' c'' ss'' → Posts c ss c'' ss''
+posts_then c c' c'' ss ss' ss'' p q = record {
+  posted = p.posted ++ q.posted;
+  together =
+      let first = buffers_in p.posted in
+      let next = buffers_in q.posted in
+      let step = IsPermutation-append_right first c' (next ++ c'') q.together in
+      let all = IsPermutation-trans c (first ++ c') (first ++ (next ++ c'')) p.together step in
+      subst (λ l. IsPermutation c l) (sym (append_assoc first next c'') ∙ ap (λ l. l ++ c'') (sym (buffers_in-append p.posted q.posted))) all;
+  addresses =
+      let n : length ss' ≡ length ss = ap length p.seats_are ∙ length-sent_all ss p.posted in
+      All-append (λ (x : BatchState). x.address < length ss) p.posted q.posted p.addresses
+      (subst (λ m. All (λ (x : BatchState). x.address < m) q.posted) n q.addresses);
+  seats_are = q.seats_are ∙ ap (λ l. sent_all l q.posted) p.seats_are ∙ sym (sent_all-append ss p.posted q.posted);
+}

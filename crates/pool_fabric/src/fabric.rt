@@ -12,11 +12,22 @@ use crate::station::Station;
 use crate::store::Store;
 use batch_inbox::{Mail, Mailbox, Receiver, Sender};
 use digit_route::Batch;
-use pool_desk::Desk;
+use pool_desk::{Desk, IdleDesk};
+use std::mem;
 use std::sync::{Mutex, Wait};
 
 /// How many batches a worker takes at a time.
 pub const MOST_TAKEN: u32 = 64;
+
+// Takes a desk out of its place, where an empty one of its number stands for a moment.
+#[cold]
+#[inline(never)]
+fn taken_out<'r>(place: &mut Desk<'r>) -> Desk<'r>
+    ensures { result ≡ place.old }
+{
+    let empty = IdleDesk::new(place.number(), place.digits(), 0);
+    mem::replace(place, empty.adopt(0))
+}
 
 /// The inboxes, that of each desk at its number, beside the shelf and the stock.
 #[derive(Drop)]
@@ -95,6 +106,46 @@ impl<'r, T: Receiver, S: Sender, M: Mail<'r, TakeSeat = T, SendSeat = S>, J: Nam
             }
         }
         posting.end()
+    }
+
+    // Posts what the desk gives in the first round, where it stands. Says whether no batch was
+    // refused; one that was is back in the cache.
+    fn post_first_round<R: Wait>(&self, rt: &R, desk: &mut Desk<'r>, seats: &mut [S]) -> bool
+        requires digits { desk.old.digits ≡ J.names.digits }
+        requires seats { AreSeatsBy J.names desk.old.number (map (seat_of S.inbox S.number S.sent S.resting) seats.old) }
+        ensures same { desk.new ≡ record desk.old { cached = desk.new.cached } }
+        ensures seats { AreSeatsBy J.names desk.old.number
+            (map (seat_of S.inbox S.number S.sent S.resting) seats.new) }
+        ensures posts { Posts
+            desk.old.cached (map (seat_of S.inbox S.number S.sent S.resting) seats.old)
+            desk.new.cached (map (seat_of S.inbox S.number S.sent S.resting) seats.new) }
+    {
+        while let Some(batch) = desk.next_of_first_round() {
+            if let Err(batch) = self.post_one(rt, seats, batch) {
+                desk.refused(batch);
+                return false;
+            }
+        }
+        true
+    }
+
+    /// Posts all of a desk's cache, as [`Fabric::post_all`] does. The desk is moved only where
+    /// buffers are left whose owners share a digit with it: a desk is some kilobytes, and it is
+    /// posted often.
+    pub(crate) fn post_in_place<R: Wait>(&self, rt: &R, desk: &mut Desk<'r>, seats: &mut [S])
+        requires digits { desk.old.digits ≡ J.names.digits }
+        requires seats { AreSeatsBy J.names desk.old.number (map (seat_of S.inbox S.number S.sent S.resting) seats.old) }
+        ensures same { desk.new ≡ record desk.old { cached = desk.new.cached } }
+        ensures seats { AreSeatsBy J.names desk.old.number
+            (map (seat_of S.inbox S.number S.sent S.resting) seats.new) }
+        ensures posts { Posts
+            desk.old.cached (map (seat_of S.inbox S.number S.sent S.resting) seats.old)
+            desk.new.cached (map (seat_of S.inbox S.number S.sent S.resting) seats.new) }
+    {
+        if self.post_first_round(rt, desk, seats) && desk.cached_bytes() > 0 {
+            let moved = taken_out(desk);
+            *desk = self.post_all(rt, moved, seats);
+        }
     }
 
     /// Takes batches from the desk's inbox and handles each, until it is given none, but not more

@@ -10,18 +10,8 @@ use crate::fabric::Fabric;
 use crate::held::HeldStation;
 use crate::naming::Naming;
 use batch_inbox::{Mail, Receiver, Sender};
-use pool_desk::{Desk, IdleDesk};
 use region_cut::Class;
-use std::mem;
 use std::sync::Wait;
-
-// Takes a desk out of its place, where an empty one of its number stands for a moment.
-fn taken_out<'r>(place: &mut Desk<'r>) -> Desk<'r>
-    ensures { result ≡ place.old }
-{
-    let empty = IdleDesk::new(place.number(), place.digits(), 0);
-    mem::replace(place, empty.adopt(0))
-}
 
 impl<'r, T: Receiver, S: Sender, J: Naming> HeldStation<'r, T, S, J> {
     /// Takes what is in the desk's inbox, at most 64 batches, and handles it. Says how many.
@@ -46,8 +36,7 @@ impl<'r, T: Receiver, S: Sender, J: Naming> HeldStation<'r, T, S, J> {
         ensures desk { self.new.desk ≡ record self.old.desk { cached = self.new.desk.cached } }
         ensures posts { Posts self.old.desk.cached self.old.seats self.new.desk.cached self.new.seats }
     {
-        let desk = taken_out(&mut self.desk);
-        self.desk = fabric.post_all(rt, desk, self.seats.as_mut_slice());
+        fabric.post_in_place(rt, &mut self.desk, self.seats.as_mut_slice());
     }
 
     /// Claims a part of the stock for a class that has no slot at home, or says that the stock is
