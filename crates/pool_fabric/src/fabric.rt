@@ -20,8 +20,6 @@ use std::sync::{Mutex, Wait};
 pub const MOST_TAKEN: u32 = 64;
 
 // Takes a desk out of its place, where an empty one of its number stands for a moment.
-#[cold]
-#[inline(never)]
 fn taken_out<'r>(place: &mut Desk<'r>) -> Desk<'r>
     ensures { result ≡ place.old }
 {
@@ -129,6 +127,24 @@ impl<'r, T: Receiver, S: Sender, M: Mail<'r, TakeSeat = T, SendSeat = S>, J: Nam
         true
     }
 
+    // Posts all of a desk's cache, which is moved out of its place for that time. By itself, since
+    // what it has on its stack would else be cleared at every post.
+    #[cold]
+    #[inline(never)]
+    fn post_moved<R: Wait>(&self, rt: &R, desk: &mut Desk<'r>, seats: &mut [S])
+        requires digits { desk.old.digits ≡ J.names.digits }
+        requires seats { AreSeatsBy J.names desk.old.number (map (seat_of S.inbox S.number S.sent S.resting) seats.old) }
+        ensures same { desk.new ≡ record desk.old { cached = desk.new.cached } }
+        ensures seats { AreSeatsBy J.names desk.old.number
+            (map (seat_of S.inbox S.number S.sent S.resting) seats.new) }
+        ensures posts { Posts
+            desk.old.cached (map (seat_of S.inbox S.number S.sent S.resting) seats.old)
+            desk.new.cached (map (seat_of S.inbox S.number S.sent S.resting) seats.new) }
+    {
+        let moved = taken_out(desk);
+        *desk = self.post_all(rt, moved, seats);
+    }
+
     /// Posts all of a desk's cache, as [`Fabric::post_all`] does. The desk is moved only where
     /// buffers are left whose owners share a digit with it: a desk is some kilobytes, and it is
     /// posted often.
@@ -143,8 +159,7 @@ impl<'r, T: Receiver, S: Sender, M: Mail<'r, TakeSeat = T, SendSeat = S>, J: Nam
             desk.new.cached (map (seat_of S.inbox S.number S.sent S.resting) seats.new) }
     {
         if self.post_first_round(rt, desk, seats) && desk.cached_bytes() > 0 {
-            let moved = taken_out(desk);
-            *desk = self.post_all(rt, moved, seats);
+            self.post_moved(rt, desk, seats);
         }
     }
 
