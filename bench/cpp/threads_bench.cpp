@@ -3,11 +3,12 @@
 //
 //   threads_bench WORKLOAD COUNT TURNS LENDER
 //
-// LENDER is malloc, or nothing for the loop and the hand-over alone. Each thread runs TURNS turns of COUNT buffers, and
+// LENDER is malloc, nothing for the loop and the hand-over alone, or one of the pools of pools.hpp: boxes or slots. Each thread runs TURNS turns of COUNT buffers, and
 // the workload, the nanoseconds and the sum of the sizes of all threads are printed.
 #include "blocks.hpp"
 #include "lenders.hpp"
 #include "pcg32.hpp"
+#include "pools.hpp"
 #include <algorithm>
 #include <atomic>
 #include <chrono>
@@ -193,6 +194,8 @@ int main(int count, char **words) {
   uint64_t buffers = std::stoull(words[2]), turns = std::stoull(words[3]);
   if (lender == "malloc") return measured<Malloc>(workload, buffers, turns);
   if (lender == "nothing") return measured<Nothing>(workload, buffers, turns);
+  if (lender == "boxes") return measured<Pooled<InBoxes>>(workload, buffers, turns);
+  if (lender == "slots") return measured<Pooled<InSlots>>(workload, buffers, turns);
   fprintf(stderr, "no lender %s\n", lender.c_str());
   return 2;
 }

@@ -23,5 +23,5 @@ def described(given):
     return (
         f"{datetime.date.today()}, {commit()}, {processor()}, {os.cpu_count()} cores, load {load:.1f}, "
         f"pinned to core {given.core} but for what has threads\n"
-        f"least of {given.rounds} runs of 3 turns of {given.count} buffers, in turn"
+        f"{given.rounds} runs of 3 turns of {given.count} buffers, in turn"
     )

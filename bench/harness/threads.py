@@ -1,11 +1,12 @@
 """The table with threads: workers of a pool, over each of the two inboxes, beside the allocators that a program would
 take instead. Nothing is pinned."""
 import os
+import statistics
 import subprocess
 from dataclasses import dataclass, field
 
 from . import picture, programs
-from .measure import TURNS, Column, Times
+from .measure import TURNS, Column
 from .packages import PEERS
 from .text import aligned, number
 
@@ -14,6 +15,9 @@ WORKLOADS = [*REPLACE, "prodcons", "ring"]
 
 # Each inbox with the word by which the program knows it.
 INBOXES = {"Inbox": "inbox", "LinkInbox": "linked"}
+
+# Each pool in C++ with the word by which the program knows it: what a pool of this shape can cost.
+SHAPES = {"C++ boxes": "boxes", "C++ slots": "slots"}
 
 # Buffers are handed over so many at a time.
 BLOCK = 64
@@ -39,24 +43,37 @@ class Pool:
 
 @dataclass
 class Measured:
-    times: Times = field(default_factory=Times)
+    """What the runs said, by workload and column: nanoseconds for one buffer, the best turn of each run."""
+
+    nanos: dict = field(default_factory=dict)
+    sums: dict = field(default_factory=dict)
     pools: dict = field(default_factory=dict)
+
+    def note(self, workload, column, nanos, total):
+        self.nanos.setdefault((workload, column.name), []).append(nanos)
+        if total is not None and self.sums.setdefault(workload, total) != total:
+            raise SystemExit(f"bench: {column.name} didn't lend in {workload} what the others lent")
+
+    def by(self, which):
+        return {key: which(nanos) for key, nanos in self.nanos.items()}
 
 
 @dataclass(frozen=True)
 class Columns:
     peers: list
     workers: list
+    shapes: list
     # the loop and the hand-over alone, in C++ and in Rattle
     alone: Column
     workers_alone: Column
 
     def every(self):
-        return [self.alone, *self.peers, self.workers_alone, *self.workers]
+        return [self.alone, *self.peers, *self.shapes, self.workers_alone, *self.workers]
 
     def pairs(self):
         """Each allocator with what is subtracted from it."""
-        return [(it, self.alone) for it in self.peers] + [(it, self.workers_alone) for it in self.workers]
+        pairs = [(it, self.alone) for it in [*self.peers, *self.shapes]]
+        return pairs + [(it, self.workers_alone) for it in self.workers]
 
 
 def columns():
@@ -65,6 +82,7 @@ def columns():
     return Columns(
         peers=[Column(peer.name, cpp, behind=("malloc",), preload=peer.path()) for peer in installed],
         workers=[Column(name, jobs, behind=(word,)) for name, word in INBOXES.items()],
+        shapes=[Column(name, cpp, behind=(word,)) for name, word in SHAPES.items()],
         alone=Column("hand-over", cpp, behind=("nothing",)),
         workers_alone=Column("our hand-over", jobs, behind=("nothing",)),
     )
@@ -79,14 +97,12 @@ def run(column, workload, count, measured):
         pool = measured.pools.setdefault((workload, column.name), Pool())
         pool.note(*map(int, of_pool))
         if pool.starved:
-            # less was lent than the others lent: the time is noted, and the sum isn't comparable
-            key = workload, column.name
-            measured.times.least[key] = min(float(nanos), measured.times.least.get(key, float(nanos)))
-            return
-    measured.times.note(workload, column, float(nanos), int(total))
+            # less was lent than the others lent, so the sum isn't comparable
+            total = None
+    measured.note(workload, column, float(nanos), total and int(total))
 
 
-def least(cells, given):
+def measured_by_turns(cells, given):
     """Runs each cell, a workload and a column, in turn, as often as there are rounds."""
     measured = Measured()
     count = max(BLOCK, given.count - given.count % BLOCK)
@@ -104,22 +120,22 @@ def net_of(times, all_columns):
     }
 
 
-def measured_rows(times, all_columns):
+def measured_rows(what, times, all_columns):
     every = all_columns.every()
-    rows = [["ns", *(it.name for it in every)]]
+    rows = [[f"ns, {what}", *(it.name for it in every)]]
     rows += [[workload, *(number(times[workload, it.name]) for it in every)] for workload in WORKLOADS]
     return aligned(rows)
 
 
-def net_rows(nets, all_columns):
+def net_rows(what, nets, all_columns):
     peers = [it.name for it in all_columns.peers]
-    head = ["ns without the hand-over", *peers]
+    head = [f"{what}, without the hand-over", *peers, *SHAPES]
     for name in INBOXES:
         head += [name, "to the best"]
     rows = [head]
     for workload, net in nets.items():
         best = min(net[name] for name in peers)
-        row = [workload, *(number(net[name]) for name in peers)]
+        row = [workload, *(number(net[name]) for name in [*peers, *SHAPES])]
         for name in INBOXES:
             row += [number(net[name]), f"{net[name] / best:.2f}"]
         rows.append(row)
@@ -148,17 +164,15 @@ def pool_rows(pools):
 def measure(given):
     all_columns = columns()
     cells = [(workload, it) for workload in WORKLOADS for it in all_columns.every()]
-    measured = least(cells, given)
-    nets = net_of(measured.times, all_columns)
-    tables = [
-        measured_rows(measured.times, all_columns),
-        net_rows(nets, all_columns),
-        scaling_rows(measured.times, all_columns),
-        pool_rows(measured.pools),
-    ]
+    measured = measured_by_turns(cells, given)
+    times = {"median": measured.by(statistics.median), "least": measured.by(min)}
+    nets = {what: net_of(it, all_columns) for what, it in times.items()}
+    tables = [measured_rows(what, it, all_columns) for what, it in times.items()]
+    tables += [net_rows(what, it, all_columns) for what, it in nets.items()]
+    tables += [scaling_rows(times["median"], all_columns), pool_rows(measured.pools)]
     text = "\n\n".join(tables) + "\n"
     (programs.OUT / "threads.txt").write_text(text)
     names = [it.name for it in [*all_columns.peers, *all_columns.workers]]
-    words = "Nanoseconds for one buffer of a thread, without the loop and the hand-over; shorter is better"
-    (programs.OUT / "threads.svg").write_text(picture.bars(nets, names, words))
+    words = "Nanoseconds for one buffer of a thread, without the loop and the hand-over, median; shorter is better"
+    (programs.OUT / "threads.svg").write_text(picture.bars(nets["median"], names, words))
     return f"{text}\nbars: {programs.OUT / 'threads.svg'}\n"
