@@ -88,6 +88,32 @@ fn passes_buffers_on(rt: HostRuntime) {
     }
 }
 
+// The buffers of 7 and 27 go first, since those of 4 and 16 share desk 0's first digit and are left.
+fn give_first_round(rt: &impl Abort, mut at_0: Cache<'_>) {
+    let batch = at_0.next_of_first_round().expect(rt, "a first batch");
+    same(rt, "buffers of the first round", batch.len(), 2);
+    drop(batch);
+    assert!(rt; at_0.next_of_first_round().is_none());
+    same(rt, "buffers left", at_0.len(), 2);
+    drop(take(rt, &mut at_0, 4, 1));
+    drop(take(rt, &mut at_0, 16, 1));
+    assert!(rt; at_0.is_empty());
+}
+
+fn fill_and_give(rt: &impl Abort, alloc: Global) -> Result<(), NoMemory> {
+    let mut region = Vec::from_elem(alloc, 0u8, 4096)?;
+    let owners = [7, 4, 27, 16];
+    give_first_round(rt, filled_in(rt, alloc, &mut region, 15, 2, &owners)?);
+    Ok(())
+}
+
+#[test]
+fn gives_the_first_round_alone(rt: HostRuntime) {
+    if fill_and_give(&rt, rt.alloc()).is_err() {
+        assert!(rt; fill_and_give(&rt, rt.alloc()).is_ok());
+    }
+}
+
 fn check_fault(rt: &impl Abort, fault: Option<RouteError>, t: u16, want: RouteError) {
     assert_eq!(rt; fault, Some(want), "at {t}");
 }
