@@ -1,5 +1,7 @@
 //! What all workers share.
-ghost use Rattle.std.specs.Prelude.{◌≡◌, ◌<◌, [], ◌++◌, map, length, IfErr, IfSome, MatchResult};
+ghost use Rattle.std.specs.Prelude.{◌≡◌, ◌<◌, [], ◌++◌, map, length, All, IsTrue, IfErr, IfSome, MatchResult};
+ghost use Rattle.slot_chain.specs.Buffer.{Buffer};
+ghost use Rattle.digit_route.specs.Digits.{common};
 ghost use Rattle.pool_fabric.specs.Names.{box_at};
 ghost use Rattle.pool_fabric.specs.Seats.{seat_of, AreSeatsBy, AreBoxes};
 ghost use Rattle.pool_fabric.specs.Posts.{Posts, TakesSome, sent_at};
@@ -107,7 +109,7 @@ impl<'r, T: Receiver, S: Sender, M: Mail<'r, TakeSeat = T, SendSeat = S>, J: Nam
     }
 
     // Posts what the desk gives in the first round, where it stands. Says whether no batch was
-    // refused; one that was is back in the cache.
+    // refused, and then what is left goes in later rounds; one that was is back in the cache.
     fn post_first_round<R: Wait>(&self, rt: &R, desk: &mut Desk<'r>, seats: &mut [S]) -> bool
         requires digits { desk.old.digits ≡ J.names.digits }
         requires seats { AreSeatsBy J.names desk.old.number (map (seat_of S.inbox S.number S.sent S.resting) seats.old) }
@@ -117,6 +119,8 @@ impl<'r, T: Receiver, S: Sender, M: Mail<'r, TakeSeat = T, SendSeat = S>, J: Nam
         ensures posts { Posts
             desk.old.cached (map (seat_of S.inbox S.number S.sent S.resting) seats.old)
             desk.new.cached (map (seat_of S.inbox S.number S.sent S.resting) seats.new) }
+        ensures later { IsTrue result
+            → All (λ (x : Buffer). 0 < common desk.new.digits x.owner desk.new.number) desk.new.cached }
     {
         while let Some(batch) = desk.next_of_first_round() {
             if let Err(batch) = self.post_one(rt, seats, batch) {
