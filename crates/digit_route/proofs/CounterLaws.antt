@@ -25,13 +25,18 @@ counted_one old new b before size after h s p a =
     let parts = sum_by-append buffer_size old (b ∷ []) in
     omega arith
 
--- buffers were taken out
-pub counted_left : (old taken new : List Buffer) (before size : ℕ) → before ≡ capped (sizes old) → size ≡ capped (sizes taken)
-    → IsPermutation old (taken ++ new) → (gone : ℕ) × (size ≡ capped gone) × (before ≡ capped (gone + sizes new))
-counted_left old taken new before size h s p =
+-- buffers were taken out: both parts together are counted
+pub counted_parts : (old taken new : List Buffer) (before : ℕ) → before ≡ capped (sizes old) → IsPermutation old (taken ++ new)
+    → before ≡ capped (sizes taken + sizes new)
+counted_parts old taken new before h p =
     let sum = sum_by-IsPermutation buffer_size old (taken ++ new) p in
     let parts = sum_by-append buffer_size taken new in
-    (sizes taken, s, omega arith)
+    omega arith
+
+-- buffers were taken out, and counted
+pub counted_left : (old taken new : List Buffer) (before size : ℕ) → before ≡ capped (sizes old) → size ≡ capped (sizes taken)
+    → IsPermutation old (taken ++ new) → (gone : ℕ) × (size ≡ capped gone) × (before ≡ capped (gone + sizes new))
+counted_left old taken new before size h s p = (sizes taken, s, counted_parts old taken new before h p)
 
 -- a batch was taken out, or there was none
 pub counted_batch : (s : Scheme) (a : ℕ) (old new : List Buffer) (r : Option BatchState) (before size : ℕ) → before ≡ capped (sizes old)

@@ -11,7 +11,7 @@ ghost use Rattle.slot_chain.specs.Slots.{AddsSlots, slot_of};
 ghost use Rattle.digit_route.specs.States.{BatchState};
 ghost use Rattle.digit_route.specs.Route.{GivesBucket};
 
-use crate::counter::bytes_left;
+use crate::counter::{bytes_left, bytes_without};
 use crate::row::Row;
 use crate::{Batch, BatchSink, Digits, Posting, RouteError};
 use region_cut::Slot;
@@ -242,7 +242,7 @@ impl<'r> Cache<'r> {
     {
         match self.row.take_other() {
             Some(batch) => {
-                self.bytes = bytes_left(self.bytes, batch.bytes(), &self.row);
+                self.bytes = bytes_without(&batch, self.bytes, &self.row);
                 Some(batch)
             }
             None => None,
