@@ -1,13 +1,14 @@
 #!/usr/bin/env python3
-"""Tries the edits crates/NAME/must-fail/*.edit that give functions wrong bodies, many in one check.
+"""Tries edits that give functions wrong bodies, many in one check: crates/NAME/must-fail/*.edit, which the gate tries
+too, and crates/NAME/wrong-bodies/*.edit, which it doesn't.
 
     python3 .ci/wrong_bodies.py [--jobs N] [CRATE[:EDIT,..] ..]
 
-`rt ci` tries each edit by a check of its own. This is for who changes a crate and wants to know at once, and by which
-clause each edit is refused. A function is proved from the contracts of those that it calls and never from their
-bodies, so wrong bodies of different functions are tried together. The prover leaves out goals of a function that calls
-one that isn't proved; an edit that nothing is said against is tried again without those that were refused, and in the
-end alone. Edits of anything else, such as a constant, are left to `rt ci`.
+The gate tries an edit by a check of its own, so must-fail/ has those that tell most. This is for who changes a crate:
+it tries all, and says by which clause each is refused. A function is proved from the contracts of those that it calls
+and never from their bodies, so wrong bodies of different functions are tried together. The prover leaves out goals of
+a function that calls one that isn't proved; an edit that nothing is said against is tried again without those that
+were refused, and in the end alone. So is an edit of anything but bodies, such as a constant, a definition or a law.
 
 An edit is refused where the prover says, at a place in this function, which clause it can't prove, or refuses a proof
 written by hand for this function. It says little where such a proof only names what the edit took away, and where
@@ -32,6 +33,8 @@ import tempfile
 import time
 
 TOP = pathlib.Path(__file__).resolve().parent.parent
+FOLDERS = ("must-fail", "wrong-bodies")
+PARTS = ("src", "specs", "proofs")
 FUNCTION = re.compile(r"^( *)(?:(?:pub(?:\([a-z: ]+\))?|const|unsafe) )*fn (\w+)(.*)", re.M)
 SAID = re.compile(r"^(?:note: )?(?:\./)?((?:src|specs|proofs)/\S+?):(\d+):\d+: (.*)")
 UNPROVED = re.compile(r"(?:error: )?(?:it is not proved that|`search` found no proof)")
@@ -65,7 +68,8 @@ class Change:
 
 @dataclasses.dataclass(frozen=True)
 class Edit:
-    """A wrong body: the functions that it changes, mostly one, and its changes."""
+    """A wrong body: the functions that it changes, mostly one, and its changes. One that changes anything but bodies has
+    no function."""
 
     crate: str
     name: str
@@ -96,7 +100,7 @@ def function_at(file, text, start, end):
 
 
 def read(path):
-    """The edit in this file, or None where it changes more than bodies of functions."""
+    """The edit in this file."""
     crate = path.parent.parent
     file, old, changes, functions = None, None, [], set()
     for line in path.read_text().splitlines():
@@ -106,28 +110,28 @@ def read(path):
         elif key == "old":
             old = text
         elif key in ("new", "new:"):
-            if file is None or old is None or not file.startswith("src/") or not (crate / file).is_file():
-                raise BadEdit("it has no line `file: src/..` of the crate, or no line `old:` before this `new:`")
+            if file is None or old is None or not (crate / file).is_file():
+                raise BadEdit("it has no line `file:` of a file of the crate, or no line `old:` before this `new:`")
             source = (crate / file).read_text()
             if source.count(old) != 1:
                 raise BadEdit(f"`{old}` stands in {file} {source.count(old)} times, and not once")
             start, same = source.index(old), len(os.path.commonprefix([old, text]))
             change = Change(file, start + same, start + len(old), text[same:])
-            functions.add(function_at(file, source, change.start, change.end))
+            functions.add(function_at(file, source, change.start, change.end) if file.startswith("src/") else None)
             changes.append(change)
             old = None
-    if not functions or None in functions:
-        return None
-    return Edit(crate.name, path.stem, frozenset(functions), tuple(changes))
+    if not changes:
+        raise BadEdit("it has no lines `old:` and `new:`")
+    return Edit(crate.name, path.stem, frozenset(() if None in functions else functions), tuple(changes))
 
 
 def batch_of(edits):
-    """As many of the edits, in order, as give no function two bodies."""
+    """As many of the edits, in order, as give no function two bodies, or one that changes something else."""
     batch = []
     for edit in edits:
-        if all(edit.functions.isdisjoint(other.functions) for other in batch):
+        if edit.functions and all(edit.functions.isdisjoint(other.functions) for other in batch):
             batch.append(edit)
-    return batch
+    return batch or edits[:1]
 
 
 def copied(crate, room):
@@ -142,22 +146,23 @@ def copied(crate, room):
         shutil.copy2(TOP / name, room / name)
     subprocess.run(["git", "init", "-q", room], check=True)
     for folder in sorted((TOP / "crates").iterdir()):
-        unread = ["must-fail", "must-not-compile", "rlib" if folder.name == crate else "incremental"]
+        unread = [*FOLDERS, "must-not-compile", "rlib" if folder.name == crate else "incremental"]
         shutil.copytree(folder, room / "crates" / folder.name, ignore=shutil.ignore_patterns(*unread),
                         copy_function=shutil.copy2 if folder.name == crate else link)
     return room / "crates" / crate
 
 
 def written(folder, batch):
-    """Gives the crate in this folder the wrong bodies of the batch, and nothing else; answers the texts of its files."""
+    """Gives the crate in this folder the changes of the batch, and nothing else; answers the texts of its files."""
     texts, own = {}, TOP / "crates" / folder.name
-    for path in sorted((own / "src").rglob("*.rt")):
+    for path in sorted(it for part in PARTS for it in (own / part).rglob("*.*t*") if it.is_file()):
         file = str(path.relative_to(own))
         text = path.read_text()
         changes = [change for edit in batch for change in edit.changes if change.file == file]
         for change in sorted(changes, key=lambda it: it.start, reverse=True):
             text = text[: change.start] + change.text + text[change.end :]
-        (folder / file).write_text(text)
+        if (folder / file).read_text() != text:
+            (folder / file).write_text(text)
         texts[file] = text
     return texts
 
@@ -220,13 +225,15 @@ def said_of(folder):
     return [it.groups() for it in map(SAID.match, told.splitlines()) if it] if is_tried else None, told
 
 
-def alone(said, told):
-    """Whether an edit is refused that was tried alone, where nothing is said against its function, and why."""
+def alone(edit, said, told):
+    """Whether an edit is refused that was tried alone, where nothing is said against a function of its, and why."""
     if said is None:
         return False, f"BAD EDIT: {told[-600:]}"
-    if re.search(r"^logic=not-proved", told, re.M):
+    if not re.search(r"^logic=not-proved", told, re.M):
+        return False, "NOT REFUSED"
+    if edit.functions:
         return True, "refused (but nothing is said of the function that it changes)"
-    return False, "NOT REFUSED"
+    return True, f"refused: {next((what[:160] for _, _, what in said if 'error' in what or UNPROVED.match(what)), '')}"
 
 
 def tried(crate, edits):
@@ -241,7 +248,7 @@ def tried(crate, edits):
             said, told = said_of(folder)
             checks += 1
             found = [(edit, *answer(edit, texts, said or [])) for edit in batch]
-            found = [it for it in found if it[1]] or [(it, *alone(said, told)) for it in batch if len(batch) == 1]
+            found = [it for it in found if it[1]] or [(it, *alone(it, said, told)) for it in batch if len(batch) == 1]
             # where nothing of a batch is refused they are tried one by one
             size = len(waiting) if found else 1
             answers += found
@@ -257,13 +264,12 @@ def main():
     given = parser.parse_args()
     wanted = {name: set(filter(None, names.split(","))) for name, _, names in (it.partition(":") for it in given.crates)}
     of_crate, bad = collections.defaultdict(list), 0
-    for path in sorted(TOP.glob("crates/*/must-fail/*.edit")):
+    for path in sorted(it for folder in FOLDERS for it in TOP.glob(f"crates/*/{folder}/*.edit")):
         crate = path.parent.parent.name
         if wanted and (crate not in wanted or wanted[crate] and path.stem not in wanted[crate]):
             continue
         try:
-            if edit := read(path):
-                of_crate[crate].append(edit)
+            of_crate[crate].append(read(path))
         except BadEdit as why:
             print(f"{crate}/{path.name}: BAD EDIT: {why}")
             bad += 1
