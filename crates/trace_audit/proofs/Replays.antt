@@ -1,15 +1,14 @@
 -- What a replay comes to behind its header.
-use Rattle.std.proofs.Common.{◌≡◌, inl, inr, ℕ, ◌+◌, ◌≤◌, List, [], ◌++◌, length, Option, Some, None, Result, Ok, Err, Bool, true, false, refl, sym, ◌∙◌, ap, subst, arith, append_assoc, append-nil, length-append}
+use Rattle.std.proofs.Common.{◌≡◌, inr, ℕ, ◌+◌, ◌≤◌, List, [], ◌++◌, length, Option, Some, None, Result, Ok, Err, Bool, true, false, refl, sym, ◌∙◌, ap, subst, arith, append_assoc, append-nil, length-append}
 use Rattle.std.specs.List.{flat_map}
 use Rattle.std.specs.Io.KnownBytes.{Appends, Consumes, IsAtEnd}
 use Rattle.std.proofs.KnownBytes.{Appends-trans, Consumes-nil, Consumes-trans}
 use Rattle.std.proofs.lemmas.Grind.{flat_map-append}
 use Rattle.event_floor.specs.Floors.{FloorState}
 use Rattle.pool_machine.specs.Laws.{RequestsAreAnswered}
-use Rattle.pool_machine.specs.State.{State}
 use Rattle.trace_audit.specs.Grammar.{IsHeader}
 use Rattle.trace_audit.specs.Machine.{Opens, Tally, opening_of, told, told_of}
-use Rattle.trace_audit.specs.Report.{Verdict, answer_line, audit_line}
+use Rattle.trace_audit.specs.Report.{Verdict, answer_line}
 use Rattle.trace_audit.specs.Trace.{EndsTrace, header_line, request_line}
 use Rattle.trace_audit.specs.Replay.{AnswersLines, Failures, FailsBehind, HoldsOfAll, IsAudited, ReportsTrace, with_audit}
 use Rattle.trace_audit.specs.Steps.{ReportsLines, tail_text, BeginsReport, Driven, EndsSo, Finishes, IsAsked, Played, Replayed, Stopped, WritesOnly, audit_lines}

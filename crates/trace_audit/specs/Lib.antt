@@ -1,3 +1,4 @@
+pub mod Limits
 pub mod Wire
 pub mod Grammar
 pub mod Trace

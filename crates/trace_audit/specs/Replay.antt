@@ -6,6 +6,7 @@ use Rattle.std.specs.Io.KnownBytes.{Consumes, IsAtEnd}
 use Rattle.pool_machine.specs.State.{State}
 use Rattle.pool_machine.specs.Steps.{Answer, Run}
 use Rattle.pool_machine.specs.declared.request.Request.{Request}
+use Rattle.trace_audit.specs.Limits.{line_limit, request_limit}
 use Rattle.trace_audit.specs.Grammar.{Lacks}
 use Rattle.trace_audit.specs.Machine.{opening_of, told_of}
 use Rattle.trace_audit.specs.Trace.{BeginsWithHeader, IsTrace}
@@ -54,14 +55,14 @@ Reports left0 left P end = HoldsOfAll [] left0 left (λ bytes. ReportsTrace byte
 
 -- the beginning of a line of which it is not yet known that it is bad
 abbrev pub IsPartial : List ℕ → Type 0
-IsPartial bytes = Lacks 10 bytes × (length bytes ≤ 64)
+IsPartial bytes = Lacks 10 bytes × (length bytes ≤ line_limit)
 
 -- No bad line is known in the bytes, and P holds of the lines of the answers to all whole request lines; of no line
 -- where not even a header line is whole.
 abbrev pub AnswersLines : List ℕ → (List ℕ → Type 0) → Type 0
 AnswersLines bytes P = (IsPartial bytes × P [])
     ⊎ ((whole : List ℕ) × (rest : List ℕ) × (bytes ≡ whole ++ rest) × IsPartial rest
-    × Answered whole Whole (λ requests lines now. (length requests ≡ 999999 → rest ≡ []) × P lines))
+    × Answered whole Whole (λ requests lines now. (length requests ≡ request_limit → rest ≡ []) × P lines))
 
 -- Read: the lines of these answers were written, and no closing line. Write: P holds of the report of all bytes, whose
 -- end is P's too.

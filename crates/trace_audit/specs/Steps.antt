@@ -12,6 +12,7 @@ use Rattle.pool_machine.specs.State.{State}
 use Rattle.pool_machine.specs.Steps.{Answer, Run}
 use Rattle.pool_machine.specs.Listing.{Shown}
 use Rattle.region_cut.specs.declared.slot.Slot.{Slot}
+use Rattle.trace_audit.specs.Limits.{held_limit, request_limit}
 use Rattle.trace_audit.specs.Machine.{Tally, told, told_of}
 use Rattle.trace_audit.specs.Report.{answer_line, audit_line, bad_line, closing, Verdict}
 use Rattle.trace_audit.specs.Trace.{request_line, BeginsWithHeader, BeginsWithRequest}
@@ -41,7 +42,7 @@ ReportsLines bytes P end = Answered bytes end (λ requests lines now. P (lines +
 abbrev pub Took : List ℕ → List ℕ → Type 0 → Next → Type 0
 Took bytes held at_end (Text text) = (bytes ≡ text.items ++ 10 ∷ held) × Lacks 10 text.items
 Took bytes held at_end Over = (bytes ≡ []) × (held ≡ []) × at_end
-Took bytes held at_end Bad = (bytes ≡ held) × Lacks 10 held × ((65 ≤ length held) ⊎ ((0 < length held) × at_end))
+Took bytes held at_end Bad = (bytes ≡ held) × Lacks 10 held × ((held_limit ≤ length held) ⊎ ((0 < length held) × at_end))
 
 -- no good header line stands at the front, however the input goes on, or as it ends here
 abbrev pub IsBadHeader : List ℕ → Type 0 → Type 0
@@ -89,8 +90,8 @@ pub record Played (left0 left : Option (List ℕ)) (held0 rest : List ℕ) (star
 
 -- how the bytes given end behind a header and n request lines
 abbrev pub EndsSo : ℕ → List ℕ → Type 0 → End → Type 0
-EndsSo n rest at_end Whole = (n ≤ 999999) × (rest ≡ []) × at_end
-EndsSo n rest at_end (BadLine k) = (n ≤ 999999) × (rest ≢ []) × (k ≡ n + 2) × (IsBadFront rest at_end ⊎ (n ≡ 999999))
+EndsSo n rest at_end Whole = (n ≤ request_limit) × (rest ≡ []) × at_end
+EndsSo n rest at_end (BadLine k) = (n ≤ request_limit) × (rest ≢ []) × (k ≡ n + 2) × (IsBadFront rest at_end ⊎ (n ≡ request_limit))
 EndsSo n rest at_end NoRoom = ⊥
 
 -- all request lines were read and answered, and how they end was found
@@ -103,10 +104,10 @@ Driven left0 left held0 start now out0 out end = (n : ℕ) × (rest : List ℕ)
 abbrev pub Stopped : Option (List ℕ) → Option (List ℕ) → List ℕ → FloorState → Option (List ℕ) → Option (List ℕ)
     → ReplayError → Type 0
 Stopped left0 left held0 start out0 out Read = (now : FloorState) × (n : ℕ) × (rest : List ℕ)
-    × Played left0 left held0 rest start now n [] (Appends out0 out) × (n ≤ 999999) × IsPartial rest
-    × (n ≡ 999999 → rest ≡ [])
+    × Played left0 left held0 rest start now n [] (Appends out0 out) × (n ≤ request_limit) × IsPartial rest
+    × (n ≡ request_limit → rest ≡ [])
 Stopped left0 left held0 start out0 out Write = (now : FloorState) × (n : ℕ) × (rest : List ℕ)
-    × Played left0 left held0 rest start now n [] (Begins out0 out) × (n ≤ 999999)
+    × Played left0 left held0 rest start now n [] (Begins out0 out) × (n ≤ request_limit)
 
 -- what is answered of an audit that is asked for; nothing where none is
 abbrev pub IsTold : Bool → Option Verdict → Type 0

@@ -3,6 +3,7 @@ use Rattle.std.specs.Prelude.{ℕ, ◌≡◌, ◌≢◌, ◌⊎◌, ◌+◌, ◌
 use Rattle.std.specs.List.{flat_map, AllByRecursion}
 use Rattle.pool_machine.specs.declared.request.Request.{Request}
 use Rattle.trace_audit.specs.Grammar.{spelling, IsRequest, header_text, IsHeader}
+use Rattle.trace_audit.specs.Limits.{request_limit}
 use Rattle.trace_audit.specs.declared.grammar.header.Header.{Header}
 use Rattle.trace_audit.specs.declared.replaying.ending.End.{End}
 use Rattle.trace_audit.specs.declared.replaying.ending.End.TheVariants.{Whole, BadLine, NoRoom}
@@ -29,7 +30,7 @@ BeginsWithRequest bytes = (r : Request) × (more : List ℕ) × IsRequest r × (
 
 abbrev pub EndsTrace : ℕ → List ℕ → End → Type 0
 EndsTrace n rest Whole = rest ≡ []
-EndsTrace n rest (BadLine k) = (rest ≢ []) × (k ≡ n + 2) × ((BeginsWithRequest rest → ⊥) ⊎ (n ≡ 999999))
+EndsTrace n rest (BadLine k) = (rest ≢ []) × (k ≡ n + 2) × ((BeginsWithRequest rest → ⊥) ⊎ (n ≡ request_limit))
 EndsTrace n rest NoRoom = ⊥
 
 pub record IsTrace (bytes : List ℕ) (h : Header) (requests : List Request) (end : End) : Type 0 where
@@ -37,5 +38,5 @@ pub record IsTrace (bytes : List ℕ) (h : Header) (requests : List Request) (en
   pub rest : List ℕ
   pub lines : bytes ≡ header_line h ++ (flat_map request_line requests ++ rest)
   pub good : AllByRecursion IsRequest requests
-  pub few : length requests ≤ 999999
+  pub few : length requests ≤ request_limit
   pub ends : EndsTrace (length requests) rest end

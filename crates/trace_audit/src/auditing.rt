@@ -1,6 +1,7 @@
 //! The audit: whether all slots of the drawn chunks are there, each of them once.
 ghost use Rattle.std.specs.Prelude.{◌≡◌, length, IfOk, IfErr};
 ghost use Rattle.trace_audit.specs.Audit.{FindsEachSlot, IsFault, IsStranger, IsNowhere};
+ghost use Rattle.trace_audit.specs.Limits.{place_limit};
 ghost use Rattle.trace_audit.specs.Tallies.{IsTally};
 
 mod drawn;
@@ -19,7 +20,7 @@ use tallies::{PLACES, least_with, tally, zeros};
 
 /// What the tally says of slots that are all of drawn chunks.
 fn judge(drawn: &Drawn, found: &[Slot], tallied: &[u8]) -> Result<(), Fault>
-    requires length { length tallied.now ≡ 262144 }
+    requires length { length tallied.now ≡ place_limit }
     requires tally { IsTally drawn.now found.now tallied.now }
     requires strangers { IsNowhere (IsStranger drawn.now found.now) }
     ensures ok { IfOk result (λ _. FindsEachSlot drawn.now found.now) }

@@ -7,6 +7,7 @@ ghost use Rattle.std.specs.Prelude.{IsTrue, IfSome, IfNone};
 ghost use Rattle.std.specs.Io.KnownBytes.{Consumes, IsAtEnd, Keeps};
 ghost use Rattle.arrayvec.specs.ArrayVec.{array_vec_len};
 ghost use Rattle.trace_audit.specs.Grammar.{Lacks};
+ghost use Rattle.trace_audit.specs.Limits.{held_limit};
 ghost use Rattle.trace_audit.specs.Replay.{IsPartial};
 ghost use Rattle.trace_audit.specs.Steps.{Took};
 
@@ -14,9 +15,12 @@ use crate::grammar::cut_at;
 use crate::wire::{Failed, Source};
 use arrayvec::ArrayVec;
 
-/// The bytes that were read and belong to no line so far. A good line has at most 64 bytes before its line feed, so
-/// 65 tell a line that is too long.
-pub(crate) type Held = ArrayVec<u8, 65>;
+/// How many bytes may be held. A good line has at most 64 before its line feed, so one more tells a line that is too
+/// long.
+const HELD_LIMIT: usize = 65;
+
+/// The bytes that were read and belong to no line so far.
+pub(crate) type Held = ArrayVec<u8, HELD_LIMIT>;
 
 /// What stands next in a trace.
 #[derive(Drop)]
@@ -31,14 +35,14 @@ pub(crate) enum Next {
 
 /// Adds the bytes.
 fn hold(held: &mut Held, bytes: &[u8])
-    requires { array_vec_len held.old + length bytes.now ≤ 65 }
+    requires { array_vec_len held.old + length bytes.now ≤ held_limit }
     ensures { held.new.items ≡ held.old.items ++ bytes.now }
 {
     let _ = held.try_extend_from_slice(bytes);
 }
 
 fn copied(bytes: &[u8]) -> Held
-    requires { length bytes.now ≤ 65 }
+    requires { length bytes.now ≤ held_limit }
     ensures { result.items ≡ bytes.now }
 {
     let mut held = Held::new();
@@ -65,7 +69,7 @@ fn take_line(held: &mut Held) -> Option<Held>
 
 /// Reads once. False at the end of the input.
 fn refill<R: Source>(held: &mut Held, reader: &mut R) -> Result<bool, Failed>
-    requires room { array_vec_len held.old < 65 }
+    requires room { array_vec_len held.old < held_limit }
     requires down { R.has_failed reader.old ≡ false }
     ensures more { IfOk result (λ more.
         IsTrue more → (given : List ℕ) × (0 < length given)
@@ -79,15 +83,14 @@ fn refill<R: Source>(held: &mut Held, reader: &mut R) -> Result<bool, Failed>
         (R.has_failed reader.new ≡ true) × Keeps (R.remaining reader.old) (R.remaining reader.new)
         × (held.new.items ≡ held.old.items)) }
 {
-    let mut piece = [0u8; 65];
-    let room = 65 - held.len();
-    match reader.read(&mut piece[..room]) {
-        Ok(0) => Ok(false),
-        Ok(count) => {
+    let mut piece = [0u8; HELD_LIMIT];
+    let room = HELD_LIMIT - held.len();
+    match reader.read(&mut piece[..room])? {
+        0 => Ok(false),
+        count => {
             hold(held, &piece[..count]);
             Ok(true)
         }
-        Err(failed) => Err(failed),
     }
 }
 
@@ -110,16 +113,12 @@ pub(crate) fn next_line<R: Source>(held: &mut Held, reader: &mut R) -> Result<Ne
         if held.is_full() {
             return Ok(Next::Bad);
         }
-        match refill(held, reader) {
-            Ok(true) => {}
-            Ok(false) => {
-                return Ok(if held.is_empty() {
-                    Next::Over
-                } else {
-                    Next::Bad
-                });
-            }
-            Err(failed) => return Err(failed),
+        if !refill(held, reader)? {
+            return Ok(if held.is_empty() {
+                Next::Over
+            } else {
+                Next::Bad
+            });
         }
     }
 }

@@ -60,10 +60,9 @@ pub fn write_all<W: Sink>(writer: &mut W, text: &[u8]) -> Result<(), Failed>
 {
     let mut at = 0;
     while at < text.len() {
-        match writer.write(&text[at..]) {
-            Ok(0) => return Err(Failed),
-            Ok(count) => at += count,
-            Err(failed) => return Err(failed),
+        match writer.write(&text[at..])? {
+            0 => return Err(Failed),
+            count => at += count,
         }
     }
     Ok(())

@@ -1,6 +1,7 @@
 //! How often each slot of a drawn chunk is found, counted in one table.
 ghost use Rattle.std.specs.Prelude.{◌≡◌, ◌<◌, ◌+◌, ◌*◌, ℕ, length, slice_index, slice_set, min, IfSome, IfNone, IfOk};
 ghost use Rattle.trace_audit.specs.Audit.{IsDrawnSlot, IsLeast, IsNowhere};
+ghost use Rattle.trace_audit.specs.Limits.{place_limit, slot_limit};
 ghost use Rattle.trace_audit.specs.Tallies.{FitsTable, IsTally, HasCount};
 
 use super::Drawn;
@@ -9,7 +10,7 @@ use region_cut::Slot;
 use std::alloc::{AllocError, Global};
 
 /// The most slots that a chunk has.
-const MAX_SLOTS: usize = 256;
+const MAX_SLOTS: u32 = 256;
 
 /// How many places the table has: one for each slot that a chunk may have.
 pub(crate) const PLACES: usize = 262_144;
@@ -24,13 +25,13 @@ pub(crate) fn zeros(alloc: Global, count: usize) -> Result<Vec<u8>, AllocError>
 
 /// Where the slot is counted, if it is one of a drawn chunk.
 fn place_of(drawn: &Drawn, slot: Slot) -> Option<usize>
-    ensures some { IfSome result (λ at. IsDrawnSlot drawn.now slot × (at ≡ slot.chunk * 256 + slot.index)
-        × (at < 262144)) }
+    ensures some { IfSome result (λ at. IsDrawnSlot drawn.now slot × (at ≡ slot.chunk * slot_limit + slot.index)
+        × (at < place_limit)) }
     ensures none { IfNone result (IsDrawnSlot drawn.now slot → ⊥) }
     ensures fits { FitsTable drawn.now }
 {
     if is_drawn_slot(drawn, slot) {
-        Some(slot.chunk as usize * MAX_SLOTS + slot.index as usize)
+        Some(slot.chunk as usize * MAX_SLOTS as usize + slot.index as usize)
     } else {
         None
     }
@@ -47,7 +48,7 @@ fn count(table: &mut [u8], at: usize)
 
 /// Counts each slot of a drawn chunk.
 pub(crate) fn tally(drawn: &Drawn, found: &[Slot], table: &mut [u8])
-    requires length { length table.old ≡ 262144 }
+    requires length { length table.old ≡ place_limit }
     requires zero { (k : ℕ) → slice_index table.old k ≡ 0 }
     ensures { IsTally drawn.now found.now table.new }
 {
@@ -61,16 +62,16 @@ pub(crate) fn tally(drawn: &Drawn, found: &[Slot], table: &mut [u8])
 
 /// The least slot of a drawn chunk with this count.
 pub(crate) fn least_with(drawn: &Drawn, table: &[u8], count: u8) -> Option<Slot>
-    requires { length table.now ≡ 262144 }
+    requires { length table.now ≡ place_limit }
     ensures some { IfSome result (λ s. IsLeast (HasCount drawn.now table.now count) s) }
     ensures none { IfNone result (IsNowhere (HasCount drawn.now table.now count)) }
 {
-    let places = 256 * drawn.chunks() as u32;
+    let places = MAX_SLOTS * drawn.chunks() as u32;
     for at in 0..places {
         if table[at as usize] == count {
             let slot = Slot {
-                chunk: (at / 256) as u16,
-                index: (at % 256) as u16,
+                chunk: (at / MAX_SLOTS) as u16,
+                index: (at % MAX_SLOTS) as u16,
             };
             if is_drawn_slot(drawn, slot) {
                 return Some(slot);

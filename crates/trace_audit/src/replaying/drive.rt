@@ -10,6 +10,9 @@ use crate::wire::{Sink, Source};
 use event_floor::Floor;
 use std::alloc::Global;
 
+/// The number of the first line that is one too many. The header is line 1.
+const TOO_MANY: u32 = 1_000_001;
+
 /// Reads request lines to the end of the trace, and answers each.
 pub(crate) fn drive<R: Source, W: Sink>(
     alloc: Global,
@@ -29,17 +32,16 @@ pub(crate) fn drive<R: Source, W: Sink>(
         (W.contents writer.new) e) }
     ensures up { IfErr result (λ e. Failures (R.has_failed reader.new) (W.has_failed writer.new) e) }
 {
-    for number in 2..1_000_001u32 {
-        match one_line(alloc, floor, held, reader, writer) {
-            Ok(Turn::Answered) => {}
-            Ok(Turn::Over) => return Ok(End::Whole),
-            Ok(Turn::Bad) => return Ok(End::BadLine(number)),
-            Err(error) => return Err(error),
+    for number in 2..TOO_MANY {
+        match one_line(alloc, floor, held, reader, writer)? {
+            Turn::Answered => {}
+            Turn::Over => return Ok(End::Whole),
+            Turn::Bad => return Ok(End::BadLine(number)),
         }
     }
     match is_over(held, reader) {
         Ok(true) => Ok(End::Whole),
-        Ok(false) => Ok(End::BadLine(1_000_001)),
+        Ok(false) => Ok(End::BadLine(TOO_MANY)),
         Err(_) => Err(ReplayError::Read),
     }
 }

@@ -1,4 +1,4 @@
-use Rattle.std.proofs.Common.{[], Option, subst}
+use Rattle.std.proofs.Common.{Option, subst}
 use Rattle.std.specs.Io.KnownBytes.{Appends}
 use Rattle.trace_audit.specs.Replay.{Reports, with_audit}
 use Rattle.trace_audit.specs.Report.{Verdict}
