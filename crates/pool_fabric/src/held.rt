@@ -78,6 +78,7 @@ impl<'r, T: Receiver, S: Sender, J: Naming> HeldStation<'r, T, S, J> {
     }
 
     /// Gives out a buffer of at least `size` bytes, as [`Desk::alloc`] does.
+    #[inline(always)]
     pub fn alloc(&mut self, alloc: Global, size: usize) -> Result<Buf<'r>, DeskError>
         ensures { Lends self.old size result self.new }
     {
@@ -87,6 +88,7 @@ impl<'r, T: Receiver, S: Sender, J: Naming> HeldStation<'r, T, S, J> {
     }
 
     /// Takes a buffer back, as [`Desk::free`] does.
+    #[inline(always)]
     pub fn free(&mut self, buf: Buf<'r>) -> Freed
         requires { buf.owner < 2 ^ self.old.desk.digits.bits }
         ensures { TakesBack self.old buf.entry result self.new }

@@ -88,6 +88,7 @@ impl<
     }
 
     // Asks the desk. The gate is told.
+    #[inline(always)]
     fn ask(&mut self, size: usize) -> Result<Buffer<'r, J>, PoolError>
         ensures { Serves J.names self.old size result self.new }
     {
@@ -106,6 +107,8 @@ impl<
     }
 
     // Claims a part of the stock for the class, and asks again.
+    #[cold]
+    #[inline(never)]
     fn ask_after_claiming<R: Wait>(
         &mut self,
         rt: &R,
@@ -125,6 +128,8 @@ impl<
     }
 
     // Takes what came in batches, and asks again, at last after a claim.
+    #[cold]
+    #[inline(never)]
     fn ask_after_taking<R: Wait>(
         &mut self,
         rt: &R,
@@ -148,6 +153,7 @@ impl<
     /// chunk of the stock and asks again. At each 64th call it takes first, so that no sender waits
     /// for it to run out of a class. It is [`PoolError::UsedUp`] only where the stock was empty then;
     /// [`PoolError::NoMemory`] only where the system refused the memory for a new buffer.
+    #[inline(always)]
     pub fn alloc<R: Wait>(&mut self, rt: &R, size: usize) -> Result<Buffer<'r, J>, PoolError>
         ensures { Serves J.names self.old size result self.new }
     {
@@ -171,6 +177,8 @@ impl<
     // Posts all that is cached, unless a post was refused and little has come since. A refused one
     // costs as much as the cache is long, so the cache grows by a quarter before the next. What came
     // is taken first, since it may have to go on to others.
+    #[cold]
+    #[inline(never)]
     fn post_again<R: Wait>(&mut self, rt: &R)
         ensures { Keeps J.names self.old self.new }
     {
@@ -190,6 +198,7 @@ impl<
     /// when the cache is due and has grown by a quarter, or once [`Allocator::alloc`] found no slot at
     /// home and looked into its own inbox: so the posts that are refused cost a constant time a
     /// buffer, over many.
+    #[inline(always)]
     pub fn free<R: Wait>(&mut self, rt: &R, buffer: Buffer<'r, J>)
         ensures desk { SameDesk J.names self.old self.new }
         ensures lent { self.new.lent ≡ self.old.lent }
@@ -316,10 +325,12 @@ impl<
 > Heap for Allocator<'a, 'r, M, T, S, G, J> {
     type Buffer = Buffer<'r, J>;
 
+    #[inline]
     fn alloc<R: Wait>(&mut self, rt: &R, size: usize) -> Result<Buffer<'r, J>, PoolError> {
         self.alloc(rt, size)
     }
 
+    #[inline]
     fn free<R: Wait>(&mut self, rt: &R, buffer: Buffer<'r, J>) {
         self.free(rt, buffer);
     }

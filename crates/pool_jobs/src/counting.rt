@@ -80,6 +80,7 @@ impl<
 > Heap for Counting<'a, 'r, M, T, S, G, J> {
     type Buffer = Buffer<'r, J>;
 
+    #[inline]
     fn alloc<R: Wait>(&mut self, rt: &R, size: usize) -> Result<Buffer<'r, J>, PoolError> {
         let answer = self.allocator.alloc(rt, size);
         match &answer {
@@ -89,6 +90,7 @@ impl<
         answer
     }
 
+    #[inline]
     fn free<R: Wait>(&mut self, rt: &R, buffer: Buffer<'r, J>) {
         self.counts.freed = self.counts.freed.saturating_add(1);
         self.allocator.free(rt, buffer);
