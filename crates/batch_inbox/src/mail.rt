@@ -2,7 +2,8 @@
 //!
 //! The ghost members stand on traits of their own, which name no lifetime, so that a struct of seats
 //! can have a model.
-ghost use Rattle.std.specs.Prelude.{◌≡◌, ℕ, true, ◌≤◌, [], ◌∷◌, ◌++◌, length, Some, slice_get, MatchResult, MatchOption};
+ghost use Rattle.std.specs.Prelude.{◌≡◌, ℕ, true, ◌≤◌, [], ◌∷◌, ◌++◌, length};
+ghost use Rattle.std.specs.Prelude.{Some, slice_get, MatchResult, MatchOption};
 ghost use Rattle.batch_inbox.specs.States.{SendState, AreSeatsOf, left};
 ghost use Rattle.batch_inbox.specs.Views.{batches_of, place_of};
 

@@ -1,6 +1,7 @@
 -- The rule of an inbox, between any two steps.
 -- Word 0 is the back, and word n + 1 the next word of the node n. The slot n has the batch of the node n.
-use Rattle.std.specs.Prelude.{◌≡◌, ◌≢◌, ℕ, suc, ◌+◌, ◌*◌, ◌%◌, ◌<◌, ◌≤◌, ◌⊎◌, List, [], ◌∷◌, map, length, take, cond, ◌==◌, Option, Some, None, slice_index_or}
+use Rattle.std.specs.Prelude.{◌≡◌, ◌≢◌, ℕ, suc, ◌+◌, ◌*◌, ◌%◌, ◌<◌, ◌≤◌, ◌⊎◌, ◌==◌, cond, Option, Some, None}
+use Rattle.std.specs.Prelude.{List, [], ◌∷◌, map, length, take, slice_index_or}
 use mathlib.Core.Option.{some}
 use lib.ListN.{get_elem?}
 use Rattle.atomic_table.specs.Table.{State}

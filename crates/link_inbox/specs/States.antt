@@ -1,5 +1,6 @@
 -- What a contract sees of an inbox and of its seats.
-use Rattle.std.specs.Prelude.{◌≡◌, ℕ, suc, ◌+◌, ◌*◌, ◌%◌, ◌<◌, ◌≤◌, Bool, true, false, List, [], ◌∷◌, length, Option, Some, None, slice_get}
+use Rattle.std.specs.Prelude.{◌≡◌, ℕ, suc, ◌+◌, ◌*◌, ◌%◌, ◌<◌, ◌≤◌, Bool, true, false, Option, Some, None}
+use Rattle.std.specs.Prelude.{List, [], ◌∷◌, length, slice_get}
 use Rattle.atomic_table.specs.Seated.{TableId}
 use Rattle.digit_route.specs.States.{BatchState}
 use Rattle.batch_inbox.specs.States.{InboxId}

@@ -1,6 +1,7 @@
 //! What each step on an inbox does to the seat that makes it. These types stand in contracts alone.
 ghost use Rattle.link_inbox.specs.States.{IsFor};
-ghost use Rattle.link_inbox.specs.Steps.{prepares, attaches, links, takes_next, frees, maker, newcomer, gathered, spent};
+ghost use Rattle.link_inbox.specs.Steps.{prepares, attaches, links, takes_next, frees};
+ghost use Rattle.link_inbox.specs.Steps.{maker, newcomer, gathered, spent};
 
 use crate::rule::View;
 use atomic_table::{Join, Play, Split};

@@ -112,7 +112,8 @@ impl<'r, T: Receiver, S: Sender, M: Mail<'r, TakeSeat = T, SendSeat = S>, J: Nam
     // refused, and then what is left goes in later rounds; one that was is back in the cache.
     fn post_first_round<R: Wait>(&self, rt: &R, desk: &mut Desk<'r>, seats: &mut [S]) -> bool
         requires digits { desk.old.digits ≡ J.names.digits }
-        requires seats { AreSeatsBy J.names desk.old.number (map (seat_of S.inbox S.number S.sent S.resting) seats.old) }
+        requires seats { AreSeatsBy J.names desk.old.number
+            (map (seat_of S.inbox S.number S.sent S.resting) seats.old) }
         ensures same { desk.new ≡ record desk.old { cached = desk.new.cached } }
         ensures seats { AreSeatsBy J.names desk.old.number
             (map (seat_of S.inbox S.number S.sent S.resting) seats.new) }
@@ -137,7 +138,8 @@ impl<'r, T: Receiver, S: Sender, M: Mail<'r, TakeSeat = T, SendSeat = S>, J: Nam
     #[inline(never)]
     fn post_moved<R: Wait>(&self, rt: &R, desk: &mut Desk<'r>, seats: &mut [S])
         requires digits { desk.old.digits ≡ J.names.digits }
-        requires seats { AreSeatsBy J.names desk.old.number (map (seat_of S.inbox S.number S.sent S.resting) seats.old) }
+        requires seats { AreSeatsBy J.names desk.old.number
+            (map (seat_of S.inbox S.number S.sent S.resting) seats.old) }
         ensures same { desk.new ≡ record desk.old { cached = desk.new.cached } }
         ensures seats { AreSeatsBy J.names desk.old.number
             (map (seat_of S.inbox S.number S.sent S.resting) seats.new) }
@@ -154,7 +156,8 @@ impl<'r, T: Receiver, S: Sender, M: Mail<'r, TakeSeat = T, SendSeat = S>, J: Nam
     /// posted often.
     pub(crate) fn post_in_place<R: Wait>(&self, rt: &R, desk: &mut Desk<'r>, seats: &mut [S])
         requires digits { desk.old.digits ≡ J.names.digits }
-        requires seats { AreSeatsBy J.names desk.old.number (map (seat_of S.inbox S.number S.sent S.resting) seats.old) }
+        requires seats { AreSeatsBy J.names desk.old.number
+            (map (seat_of S.inbox S.number S.sent S.resting) seats.old) }
         ensures same { desk.new ≡ record desk.old { cached = desk.new.cached } }
         ensures seats { AreSeatsBy J.names desk.old.number
             (map (seat_of S.inbox S.number S.sent S.resting) seats.new) }

@@ -1,8 +1,8 @@
 //! Who has which chunk, over all threads.
 //!
 //! The stock gives chunks out and desks get them, in any order and in any thread. A [`Ledger`] keeps
-//! that what was given is what was got, each chunk for its class. It is a token's matter alone: pages take no memory, and what
-//! is written on them only contracts see.
+//! that what was given is what was got, each chunk for its class. It is a token's matter alone: pages
+//! take no memory, and what is written on them only contracts see.
 ghost use Rattle.std.specs.Prelude.{◌≡◌, ℕ, ◌+◌, ◌-◌, ◌<◌, [], ◌∷◌, ◌++◌, IfOk};
 ghost use Rattle.pool_fabric.specs.Ledgers.{whole};
 ghost use Rattle.pool_fabric.specs.declared.ledger.DrawnChunk.{DrawnChunk};

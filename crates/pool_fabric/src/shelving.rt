@@ -72,7 +72,8 @@ fn shelved<'r, T: Receiver, S: Sender, J: Naming>(
     digits: Digits,
     limit: u64,
 ) -> Result<Shelf<'r, T, S, J>, NoMemory>
-    requires names { (J.names.digits ≡ digits) × (J.names.limit ≡ limit) × (J.names.ledger ≡ ledger.now) × (length takes.items ≡ J.names.count) }
+    requires names { (J.names.digits ≡ digits) × (J.names.limit ≡ limit) × (J.names.ledger ≡ ledger.now)
+        × (length takes.items ≡ J.names.count) }
     requires count { (J.names.count ≤ most_desks) × (J.names.count ≤ 2 ^ digits.bits) }
     requires limit { limit ≤ largest_limit }
     requires takes { AreNewTakes J.names (map (taking_of T.inbox T.senders T.taken) takes.items) }

@@ -30,8 +30,8 @@ WritesReport AuditedReplay left0 left out0 out end =
     × Reports left0 left (with_audit audit (Appends out0 out)) end
 WritesReport _ left0 left out0 out end = ⊥
 
--- all that was asked for was written: the classes of a profile, a route, the report of a whole trace, or what a workload
--- counted and that its audit says yes
+-- all that was asked for was written: the classes of a profile, a route, the report of a whole trace, or what a
+-- workload counted and that its audit says yes
 abbrev pub WritesAll : Asked → Option (List ℕ) → Option (List ℕ) → Option (List ℕ) → Option (List ℕ) → Type 0
 WritesAll (Classes p) left0 left out0 out = Appends out0 out (class_lines (classes_of p))
 WritesAll (Route r) left0 left out0 out = Appends out0 out (route_text r.digits r.from r.owner)

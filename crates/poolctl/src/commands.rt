@@ -17,9 +17,9 @@ use trace_audit::{Sink, Source, replay, replay_audited};
 /// Does what the words ask for. The program's own name stands first among them.
 ///
 /// Nothing is read from the source but by `replay`, and nothing is written after a failed write.
-/// Words that are refused, or that ask for help, are answered with the text for standard error. An audit of a report that
-/// doesn't say yes had no memory, and says so behind the whole report. Only a workload starts threads; all have ended
-/// when the call returns.
+/// Words that are refused, or that ask for help, are answered with the text for standard error. An audit of a report
+/// that doesn't say yes had no memory, and says so behind the whole report. Only a workload starts threads; all have
+/// ended when the call returns.
 pub fn command<R: Source, W: Sink, H: Threads + Wait + Sync>(
     rt: &H,
     alloc: Global,

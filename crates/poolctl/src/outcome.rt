@@ -12,8 +12,8 @@ pub enum Outcome {
     /// The trace has a bad line, or there is no room for its region or floor; the report says so.
     /// Status 1.
     Stopped,
-    /// The audit behind the report, or behind a workload's counts, doesn't say yes; its line says what it found, or that
-    /// there was no memory for it.
+    /// The audit behind the report, or behind a workload's counts, doesn't say yes; its line says what it found, or
+    /// that there was no memory for it.
     /// Status 1.
     AuditFailed,
     /// Want of memory outside a report. Status 1.

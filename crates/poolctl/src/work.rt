@@ -129,8 +129,8 @@ fn tally_of<H: Threads + Wait + Sync>(
     tally_over(rt, alloc, asked, region.as_mut_slice())
 }
 
-/// Runs a workload, and writes what its workers counted and the line of the audit. Nothing is written where the workload
-/// could not be run.
+/// Runs a workload, and writes what its workers counted and the line of the audit. Nothing is written where the
+/// workload could not be run.
 pub fn run_work<W: Sink, H: Threads + Wait + Sync>(
     rt: &H,
     alloc: Global,

@@ -42,7 +42,8 @@ ReportsLines bytes P end = Answered bytes end (λ requests lines now. P (lines +
 abbrev pub Took : List ℕ → List ℕ → Type 0 → Next → Type 0
 Took bytes held at_end (Text text) = (bytes ≡ text.items ++ 10 ∷ held) × Lacks 10 text.items
 Took bytes held at_end Over = (bytes ≡ []) × (held ≡ []) × at_end
-Took bytes held at_end Bad = (bytes ≡ held) × Lacks 10 held × ((held_limit ≤ length held) ⊎ ((0 < length held) × at_end))
+Took bytes held at_end Bad = (bytes ≡ held) × Lacks 10 held
+    × ((held_limit ≤ length held) ⊎ ((0 < length held) × at_end))
 
 -- no good header line stands at the front, however the input goes on, or as it ends here
 abbrev pub IsBadHeader : List ℕ → Type 0 → Type 0
@@ -91,7 +92,8 @@ pub record Played (left0 left : Option (List ℕ)) (held0 rest : List ℕ) (star
 -- how the bytes given end behind a header and n request lines
 abbrev pub EndsSo : ℕ → List ℕ → Type 0 → End → Type 0
 EndsSo n rest at_end Whole = (n ≤ request_limit) × (rest ≡ []) × at_end
-EndsSo n rest at_end (BadLine k) = (n ≤ request_limit) × (rest ≢ []) × (k ≡ n + 2) × (IsBadFront rest at_end ⊎ (n ≡ request_limit))
+EndsSo n rest at_end (BadLine k) = (n ≤ request_limit) × (rest ≢ []) × (k ≡ n + 2)
+    × (IsBadFront rest at_end ⊎ (n ≡ request_limit))
 EndsSo n rest at_end NoRoom = ⊥
 
 -- all request lines were read and answered, and how they end was found
