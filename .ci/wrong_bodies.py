@@ -216,10 +216,17 @@ def answer(edit, texts, said):
     return False, "NOT REFUSED"
 
 
+def check_of(folder):
+    """The command that checks the crate in this folder: with its tests, where all its modules are read for them alone."""
+    root = next(it for it in (folder / "src" / "lib.rt", folder / "src" / "main.rt") if it.is_file()).read_text()
+    is_read = re.search(r"(?<!#\[cfg\(test\)\]\n)^(?:pub )?mod ", root, re.M)
+    return ["rt", "check", *([] if is_read else ["--test"])]
+
+
 def said_of(folder):
     """What a check of the crate in this folder says at places of its files, or None and all that it says where it
     didn't reach the prover."""
-    run = subprocess.run(["rt", "check", "--jobs", "1"], cwd=folder, capture_output=True, text=True)
+    run = subprocess.run([*check_of(folder), "--jobs", "1"], cwd=folder, capture_output=True, text=True)
     told = run.stdout + run.stderr
     is_tried = re.search(r"^logic=(not-)?proved", told, re.M)
     return [it.groups() for it in map(SAID.match, told.splitlines()) if it] if is_tried else None, told
@@ -280,7 +287,8 @@ def main():
     for line in (TOP / "crates.txt").read_text().splitlines():
         name = line.partition(":")[0].partition(" ")[0]
         if name in of_crate and not (TOP / "crates" / name / "out" / "incremental").is_dir():
-            subprocess.run(["rt", "check"], cwd=TOP / "crates" / name, capture_output=True, check=True)
+            folder = TOP / "crates" / name
+            subprocess.run(check_of(folder), cwd=folder, capture_output=True, check=True)
     size = lambda name: sum(it.stat().st_size for it in (TOP / "crates" / name).rglob("*.*tt"))
     with concurrent.futures.ThreadPoolExecutor(given.jobs) as pool:
         runs = [pool.submit(tried, it, of_crate[it]) for it in sorted(of_crate, key=size, reverse=True)]

@@ -3,14 +3,22 @@
 //! The pool itself calls nothing of this crate.
 #![tactic(auto)]
 
+#[cfg(test)]
 mod lacking;
+#[cfg(test)]
 mod lending;
+#[cfg(test)]
 mod refusing;
+#[cfg(test)]
 mod resending;
 #[cfg(test)]
 mod tests;
 
+#[cfg(test)]
 pub use lacking::without_one;
+#[cfg(test)]
 pub use lending::{lend, lend_across};
+#[cfg(test)]
 pub use refusing::Refusing;
+#[cfg(test)]
 pub use resending::{Resent, post_twice};

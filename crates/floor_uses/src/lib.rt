@@ -3,12 +3,18 @@
 //! The pool itself calls nothing of this crate.
 #![tactic(auto)]
 
+#[cfg(test)]
 mod asking;
+#[cfg(test)]
 mod ending;
+#[cfg(test)]
 mod opening;
 #[cfg(test)]
 mod tests;
 
+#[cfg(test)]
 pub use asking::ask;
+#[cfg(test)]
 pub use ending::{Answers, Life, leaves_as_it_was, lives};
+#[cfg(test)]
 pub use opening::open;

@@ -1,8 +1,11 @@
 //! Callers of `digit_route`, and the tests of it that show worked rows.
 #![tactic(auto)]
 
+#[cfg(test)]
 pub mod filling;
+#[cfg(test)]
 pub mod offering;
+#[cfg(test)]
 pub mod shelf;
 #[cfg(test)]
 mod tests;

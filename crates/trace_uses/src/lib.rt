@@ -4,6 +4,7 @@
 //! The pool itself calls nothing of this crate.
 #![tactic(auto)]
 
+#[cfg(test)]
 pub mod memory;
 #[cfg(test)]
 mod tests;
