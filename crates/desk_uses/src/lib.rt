@@ -4,18 +4,12 @@
 //! The pool itself calls nothing of this crate.
 #![tactic(auto)]
 
-#[cfg(test)]
 mod callers;
-#[cfg(test)]
 mod crossing;
-#[cfg(test)]
 mod living;
 #[cfg(test)]
 mod tests;
 
-#[cfg(test)]
 pub use callers::{cached_were_passed_on_few_times, lend_and_take_back, written};
-#[cfg(test)]
 pub use crossing::{desk_crosses, idle_desk_crosses};
-#[cfg(test)]
 pub use living::lives;
