@@ -3,6 +3,7 @@ ghost use Rattle.std.specs.Prelude.{◌≡◌, length, IfOk, IfErr};
 ghost use Rattle.trace_audit.specs.Audit.{FindsEachSlot, IsFault, IsStranger, IsNowhere};
 ghost use Rattle.trace_audit.specs.Limits.{place_limit};
 ghost use Rattle.trace_audit.specs.Tallies.{IsTally};
+ghost use Rattle.trace_audit.specs.declared.auditing.fault.Fault.TheVariants.{NoMemory};
 
 mod drawn;
 mod fault;
@@ -58,6 +59,7 @@ fn judge(drawn: &Drawn, found: &[Slot], tallied: &[u8]) -> Result<(), Fault>
 pub fn audit(alloc: Global, found: &[Slot], drawn: &Drawn) -> Result<(), Fault>
     ensures ok { IfOk result (λ _. FindsEachSlot drawn.now found.now) }
     ensures err { IfErr result (λ fault. IsFault drawn.now found.now fault) }
+    ensures strangers { IfErr result (λ fault. fault ≡ NoMemory → IsNowhere (IsStranger drawn.now found.now)) }
 {
     if let Some(slot) = least_stranger(drawn, found) {
         return Err(Fault::Stranger(slot));

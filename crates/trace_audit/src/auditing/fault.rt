@@ -17,8 +17,8 @@ pub enum Fault {
     /// The slot of a drawn chunk wasn't found. There is no stranger, and no slot is doubled.
     #[error("missing {0}")]
     Missing(Slot),
-    /// The allocator refused the table. Nothing is known of the slots but that no stranger is among
-    /// them.
+    /// The allocator refused the table of an audit, of whose slots it is known then that no stranger is
+    /// among them; or, where the slots were to be listed first, their list.
     #[error("no memory")]
     NoMemory,
 }
