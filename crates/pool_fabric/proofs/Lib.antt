@@ -7,6 +7,7 @@ pub mod Steps
 pub mod Cancels
 pub mod Columns
 pub mod Gathers
+pub mod AllOf
 pub mod Noted
 pub mod Lacking
 pub mod Accounting

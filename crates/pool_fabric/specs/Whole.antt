@@ -9,6 +9,7 @@ use Rattle.trace_audit.specs.Audit.{class_at}
 use Rattle.pool_desk.specs.Desks.{DeskState}
 use Rattle.pool_fabric.specs.Weights.{weigh}
 use Rattle.pool_fabric.specs.Accounts.{of_buffer, of_batch, of_part, held, owed, drawn_by}
+use Rattle.pool_fabric.specs.Stations.{StationState}
 
 -- However slots are weighed: those found at home, in caches and in batches, with those that were lent,
 -- are all slots of the drawn chunks, with those that were freed.
@@ -20,6 +21,13 @@ pub record IsWhole
       → weigh (held h) desks + weigh (of_batch h) batches + weigh (of_buffer h) lent
       ≡ weigh (owed h) desks + weigh (of_buffer h) freed
   pub chunks : (g : ℕ → ℕ) → weigh (drawn_by g) desks + weigh (of_part g) parts ≡ weigh g chunks_there
+
+-- These are the desks of the stations, all that they lent and all that was freed to them, and nothing else, however
+-- desks and buffers are weighed.
+pub record IsAllOf (stations : List StationState) (desks : List DeskState) (lent freed : List Buffer) : Type 0 where
+  pub every_desk : (h : DeskState → ℕ) → weigh h desks ≡ weigh (λ (s : StationState). h s.desk) stations
+  pub all_lent : (h : Buffer → ℕ) → weigh h lent ≡ weigh (λ (s : StationState). weigh h s.lent) stations
+  pub all_freed : (h : Buffer → ℕ) → weigh h freed ≡ weigh (λ (s : StationState). weigh h s.freed) stations
 
 -- so many desks, each at its number: none is missing, and none is there twice
 pub record IsEachDesk (count : ℕ) (desks : List DeskState) : Type 0 where

@@ -1,5 +1,5 @@
 //! What all workers share.
-ghost use Rattle.std.specs.Prelude.{◌≡◌, ◌<◌, [], ◌++◌, map, length, All, IsTrue, IfErr, IfSome, MatchResult};
+ghost use Rattle.std.specs.Prelude.{◌≡◌, ◌<◌, ◌≤◌, [], ◌++◌, map, length, All, IsTrue, IfErr, IfSome, MatchResult};
 ghost use Rattle.slot_chain.specs.Buffer.{Buffer};
 ghost use Rattle.digit_route.specs.Digits.{common};
 ghost use Rattle.pool_fabric.specs.Names.{box_at};
@@ -175,7 +175,8 @@ impl<'r, T: Receiver, S: Sender, M: Mail<'r, TakeSeat = T, SendSeat = S>, J: Nam
     pub fn take_some<R: Wait>(&self, rt: &R, desk: &mut Desk<'r>, seat: &mut T) -> u32
         requires digits { desk.old.digits ≡ J.names.digits }
         requires seat { T.inbox seat.old ≡ box_at J.names desk.old.number }
-        ensures { TakesSome
+        ensures most { result ≤ 64 }
+        ensures takes { TakesSome
             desk.old (record { inbox = T.inbox seat.old; senders = T.senders seat.old; taken = T.taken seat.old })
             result
             desk.new (record { inbox = T.inbox seat.new; senders = T.senders seat.new; taken = T.taken seat.new }) }

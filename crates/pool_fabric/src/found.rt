@@ -1,6 +1,6 @@
 //! All that is found in the end.
-ghost use Rattle.std.specs.Prelude.{◌≡◌, ℕ, ◌+◌, ◌<◌, [], ◌∷◌, length, map, Some, slice_get, IsPermutation};
-ghost use Rattle.std.specs.Prelude.{IfOk, IfErr, MatchOption};
+ghost use Rattle.std.specs.Prelude.{◌≡◌, ℕ, List, ◌+◌, ◌<◌, [], ◌∷◌, ◌++◌, length, map, Some, slice_get};
+ghost use Rattle.std.specs.Prelude.{IsPermutation, IfOk, IfErr, MatchOption};
 ghost use Rattle.pool_fabric.specs.Names.{box_at};
 ghost use Rattle.pool_fabric.specs.Ledgers.{whole};
 ghost use Rattle.pool_fabric.specs.Accounts.{of_part, of_entry};
@@ -8,7 +8,7 @@ ghost use Rattle.pool_fabric.specs.Weights.{weigh};
 ghost use Rattle.pool_fabric.specs.Stations.{StationState};
 ghost use Rattle.pool_fabric.specs.Stocks.{AreTold};
 ghost use Rattle.pool_fabric.specs.Faults.{LacksNumber, IsGatherFault};
-ghost use Rattle.pool_fabric.specs.Whole.{IsWhole, IsEachDesk, AreNoted};
+ghost use Rattle.pool_fabric.specs.Whole.{IsWhole, IsAllOf, IsEachDesk, AreNoted};
 
 use crate::fabric::Fabric;
 use crate::gathered::Gathered;
@@ -100,6 +100,7 @@ fn add_all<'r, T: Receiver, S: Sender, J: Naming, R: Wait>(
     ensures columns { IfOk result (λ g.
         (g.columns ≡ columns) × (length g.takes ≡ columns) × (length g.rows ≡ columns)) }
     ensures page { IfOk result (λ g. (g.page.parts ≡ whole) × (g.page.gave ≡ page.gave)) }
+    ensures stations { IfOk result (λ g. IsAllOf stations.entry.items g.desks g.lent g.freed) }
     ensures fault { IfErr result (IsGatherFault columns stations.entry.items) }
 {
     let mut stations = stations;
@@ -137,8 +138,10 @@ fn close_all<
     requires columns { (gathered.columns ≡ length inboxes.items) × (length gathered.takes ≡ length inboxes.items)
         × (length gathered.rows ≡ J.names.count) }
     requires inboxes { (k : ℕ) (i : M) → slice_get inboxes.items k ≡ Some i → M.id i ≡ box_at J.names k }
-    ensures { IfOk result (λ g. (g.columns ≡ 0) × (length g.takes ≡ 0) × (length g.rows ≡ J.names.count)
+    ensures ended { IfOk result (λ g. (g.columns ≡ 0) × (length g.takes ≡ 0) × (length g.rows ≡ J.names.count)
         × (g.page ≡ gathered.entry.page)) }
+    ensures same { IfOk result (λ g. (g.desks ≡ gathered.entry.desks) × (g.lent ≡ gathered.entry.lent)
+        × (g.freed ≡ gathered.entry.freed)) }
 {
     let mut gathered = gathered;
     let mut inboxes = inboxes;
@@ -159,6 +162,8 @@ impl<'r, T: Receiver, S: Sender, J: Naming> Gathered<'r, T, S, J> {
         ensures whole { IsWhole result.desks.items result.batches.items result.lent.items result.freed.items
             result.parts.items J.names.chunks }
         ensures desks { IsEachDesk J.names.count result.desks.items }
+        ensures same { (result.desks.items ≡ self.entry.desks) × (result.lent.items ≡ self.entry.lent)
+            × (result.freed.items ≡ self.entry.freed) }
         ensures drawn { AreNoted result.desks.items result.drawn }
     {
         let Gathered {
@@ -190,8 +195,9 @@ fn all_of<'r, T: Receiver, S: Sender, J: Naming>(
     shelf: Shelf<'r, T, S, J>,
     held: Vec<HeldStation<'r, T, S, J>>,
 ) -> Result<Vec<HeldStation<'r, T, S, J>>, AllocError>
-    ensures { IfOk result (λ v. (a : ℕ) → LacksNumber a v.items
+    ensures numbers { IfOk result (λ v. (a : ℕ) → LacksNumber a v.items
         → LacksNumber a shelf.entry × LacksNumber a held.entry.items) }
+    ensures held { IfOk result (λ v. (others : List StationState) × (v.items ≡ held.entry.items ++ others)) }
 {
     let mut shelf = shelf;
     let mut stations = held;
@@ -207,7 +213,8 @@ fn all_of<'r, T: Receiver, S: Sender, J: Naming>(
 /// Whatever the schedule was, and whatever was done with the buffers, nothing is lost and nothing is
 /// there twice: all slots found, with all that was lent, are all slots of the drawn chunks, with all
 /// that was freed. Each desk is found once, and the chunks told as drawn are those that the desks
-/// drew, each for its class.
+/// drew, each for its class. Of the stations that are handed in, all is found as it was: their desks,
+/// what they lent and what was freed to them, each buffer with its bytes.
 ///
 /// A want of memory is told as [`GatherError::NoMemory`], a desk whose station did not come back as
 /// [`GatherError::Missing`].
@@ -227,6 +234,8 @@ pub fn gather<
     ensures whole { IfOk result (λ f.
         IsWhole f.desks.items f.batches.items f.lent.items f.freed.items f.parts.items J.names.chunks) }
     ensures desks { IfOk result (λ f. IsEachDesk J.names.count f.desks.items) }
+    ensures stations { IfOk result (λ f. (others : List StationState)
+        × IsAllOf (held.entry.items ++ others) f.desks.items f.lent.items f.freed.items) }
     ensures drawn { IfOk result (λ f. AreNoted f.desks.items f.drawn) }
     ensures missing { IfErr result (IsGatherFault J.names.count held.entry.items) }
 {

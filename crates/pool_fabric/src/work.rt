@@ -1,5 +1,5 @@
 //! What a worker does with its station at a fabric.
-ghost use Rattle.std.specs.Prelude.{◌≡◌, ◌<◌, MatchBool};
+ghost use Rattle.std.specs.Prelude.{◌≡◌, ◌<◌, ◌≤◌, MatchBool};
 ghost use Rattle.region_cut.specs.Classes.{classes_of};
 ghost use Rattle.pool_desk.specs.HomesState.{LacksClass};
 ghost use Rattle.pool_desk.specs.Desks.{profile_at};
@@ -21,6 +21,7 @@ impl<'r, T: Receiver, S: Sender, J: Naming> HeldStation<'r, T, S, J> {
         fabric: &Fabric<'r, M, T, S, J>,
     ) -> u32
         ensures same { self.new ≡ record self.old { desk = self.new.desk; take = self.new.take } }
+        ensures most { result ≤ 64 }
         ensures takes { TakesSome self.old.desk self.old.take result self.new.desk self.new.take }
     {
         fabric.take_some(rt, &mut self.desk, &mut self.take)

@@ -1,4 +1,5 @@
 use Rattle.std.proofs.Common.{◌+◌, ap, ◌∙◌, arith}
+use Rattle.pool_fabric.proofs.AllOf.{one_more}
 use Rattle.pool_fabric.proofs.Lacking.{lacks_before}
 use Rattle.pool_fabric.proofs.found.add_all.Goals as goal
 
@@ -22,6 +23,7 @@ loop-number-preserved g c =
       rows = e.rows ∙ ap (λ k. k + 1) i.rows;
       parts = omega arith;
       gave = e.gave ∙ i.gave;
+      all = one_more _ _ _ c.in-Some.station _ _ c.in-Some.ensures.1 e i.all;
       lacks = λ a less l.
           i.lacks a (omega arith)
           (lacks_before a c.loop-number.stations.items c.out_of.new.stations.items c.in-Some.station c.in-Some.ensures.1 (λ e. absurd (omega arith)) l);

@@ -20,4 +20,7 @@ loop-inbox-preserved g c =
       rows = z.rows ∙ i.rows;
       boxes = λ k x at. i.boxes k x (ap (λ s. slice_get s k) e ∙ get_front c.pop.new.self.items (c.in-Some.inbox ∷ []) k x at);
       page = z.page ∙ i.page;
+      desks = z.desks ∙ i.desks;
+      lent = z.lent ∙ i.lent;
+      freed = z.freed ∙ i.freed;
     }

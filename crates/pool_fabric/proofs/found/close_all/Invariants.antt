@@ -10,6 +10,9 @@ invariant-loop-inbox g l = record {
   rows : length l.gathered.rows ≡ g.J.Naming.names.count;
   boxes : (k : ℕ) (i : g.row.M.Denot) → slice_get l.inboxes.items k ≡ Some i → g.M.Mailbox.id i ≡ box_at g.J.Naming.names k;
   page : l.gathered.page ≡ l.fn.gathered.page;
+  desks : l.gathered.desks ≡ l.fn.gathered.desks;
+  lent : l.gathered.lent ≡ l.fn.gathered.lent;
+  freed : l.gathered.freed ≡ l.fn.gathered.freed;
 }
 
 abbrev pub decreases-loop-inbox : goal.decreases-loop-inbox

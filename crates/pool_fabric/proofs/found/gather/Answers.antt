@@ -4,6 +4,7 @@ use Rattle.pool_fabric.specs.Weights.{weigh}
 use Rattle.pool_fabric.specs.Accounts.{of_entry}
 use Rattle.pool_fabric.specs.Stocks.{AreTold}
 use Rattle.pool_fabric.specs.Faults.{IsGatherFault}
+use Rattle.pool_fabric.proofs.AllOf.{same_all}
 use Rattle.pool_fabric.proofs.Lacking.{lacks_of, passed_on}
 use Rattle.pool_fabric.proofs.Posting.{get_map, length-mapped}
 use Rattle.pool_fabric.proofs.found.gather.Goals as goal
@@ -24,12 +25,12 @@ close_all-requires g c =
 
 pub finish-requires-clause-page : goal.finish-requires-clause-page
 finish-requires-clause-page g c =
-    (c.args.fabric.ledger_is, ap (λ (p : PageState). p.parts) c.in-Ok-close_all.ensures.3 ∙ c.in_ok-gathered.ensures.page.0)
+    (c.args.fabric.ledger_is, ap (λ (p : PageState). p.parts) c.in-Ok-close_all.ensures.ended.3 ∙ c.in_ok-gathered.ensures.page.0)
 
 pub finish-requires-clause-chunks : goal.finish-requires-clause-chunks
 finish-requires-clause-chunks g c w =
     let e = c.in_ok-gathered.ensures in
-    let z = c.in-Ok-close_all.ensures in
+    let z = c.in-Ok-close_all.ensures.ended in
     let gave = ap (λ (p : PageState). weigh (of_entry w) p.gave) z.3 in
     let kept = ap (weigh (of_entry w)) e.page.1 in
     let all = c.stock.invariant.chunks w in
@@ -37,10 +38,17 @@ finish-requires-clause-chunks g c w =
 
 pub finish-requires-clause-told : goal.finish-requires-clause-told
 finish-requires-clause-told g c =
-    subst (λ l. AreTold c.stock.inside.stock.drawn l) (sym (ap (λ (p : PageState). p.gave) c.in-Ok-close_all.ensures.3 ∙ c.in_ok-gathered.ensures.page.1)) c.stock.invariant.told
+    subst (λ l. AreTold c.stock.inside.stock.drawn l) (sym (ap (λ (p : PageState). p.gave) c.in-Ok-close_all.ensures.ended.3 ∙ c.in_ok-gathered.ensures.page.1)) c.stock.invariant.told
 
 pub returns-in_err-gathered-clause-missing : goal.returns-in_err-gathered-clause-missing
 returns-in_err-gathered-clause-missing g c =
     let count = sym (length-mapped g.M.Mailbox.id c.args.fabric.inboxes.items) ∙ c.args.fabric.boxes.count in
     passed_on (IsGatherFault g.J.Naming.names.count c.args.held.items) c.from_residual.result c.in_err-gathered.field-0.0 c.from_residual.ensures
-    (lacks_of _ _ c.in-Ok.stations.items c.args.held.items _ (c.len.ensures ∙ c.args.fabric.inboxes.ok.0 ∙ count) (λ a l. (c.in-Ok.ensures a l).1) c.in_err-gathered.ensures.fault)
+    (lacks_of _ _ c.in-Ok.stations.items c.args.held.items _ (c.len.ensures ∙ c.args.fabric.inboxes.ok.0 ∙ count) (λ a l. (c.in-Ok.ensures.numbers a l).1) c.in_err-gathered.ensures.fault)
+
+pub returns-clause-stations : goal.returns-clause-stations
+returns-clause-stations g c =
+    let h = c.in-Ok.ensures.held in
+    let z = c.in-Ok-close_all.ensures.same in
+    let f = c.finish.ensures.same in
+    (h.0, same_all _ _ _ _ _ _ _ _ h.1 (sym (f.0 ∙ z.0)) (sym (f.1 ∙ z.1)) (sym (f.2 ∙ z.2)) c.in_ok-gathered.ensures.stations)
