@@ -1,5 +1,5 @@
 -- What a replay has written, by how it ends.
-use Rattle.std.proofs.Common.{◌≡◌, ℕ, List, Option, Some, None, Result, Ok, Err, sym, ◌∙◌, subst, inl, inr}
+use Rattle.std.proofs.Common.{◌≡◌, ℕ, List, Option, Some, None, Result, Ok, Err, refl, sym, ◌∙◌, subst, inl, inr}
 use Rattle.std.specs.Prelude.{IfOk}
 use Rattle.std.specs.Io.KnownBytes.{Appends}
 use Rattle.trace_audit.specs.Replay.{Reports, IsAudited, with_audit}
@@ -52,12 +52,12 @@ pub no_memory_told : (left0 left out0 out : Option (List ℕ)) (o : Outcome) (r 
 no_memory_told a b c d o (Ok (Whole, None)) is audit report failed = elim audit [ ]
 no_memory_told a b c d o (Ok (Whole, Some (Ok u))) is audit report failed = let q : Done ≡ AuditFailed = sym is ∙ failed in cc
 no_memory_told a b c d o (Ok (Whole, Some (Err e))) is audit report failed =
-    (Whole, subst (λ f. Reports a b (with_audit (Some (Err f)) (Appends c d)) Whole) audit report)
+    (Whole, refl, subst (λ f. Reports a b (with_audit (Some (Err f)) (Appends c d)) Whole) audit report)
 no_memory_told a b c d o (Ok (BadLine k, None)) is audit report failed = let q : Stopped ≡ AuditFailed = sym is ∙ failed in cc
 no_memory_told a b c d o (Ok (BadLine k, Some (Ok u))) is audit report failed = let q : Stopped ≡ AuditFailed = sym is ∙ failed in cc
 no_memory_told a b c d o (Ok (BadLine k, Some (Err e))) is (inl h) report failed = let q : Some (Err e) ≡ None = h.1 in cc
 no_memory_told a b c d o (Ok (BadLine k, Some (Err e))) is (inr h) report failed =
-    (BadLine k, subst (λ f. Reports a b (with_audit (Some (Err f)) (Appends c d)) (BadLine k)) h.1 report)
+    (BadLine k, inr (h.0, refl), subst (λ f. Reports a b (with_audit (Some (Err f)) (Appends c d)) (BadLine k)) h.1 report)
 no_memory_told a b c d o (Ok (NoRoom, None)) is audit report failed = let q : Stopped ≡ AuditFailed = sym is ∙ failed in cc
 no_memory_told a b c d o (Ok (NoRoom, Some v)) is audit report failed = let q : Some v ≡ None = audit in cc
 no_memory_told a b c d o (Err Read) is audit report failed = let q : ReadFailed ≡ AuditFailed = sym is ∙ failed in cc

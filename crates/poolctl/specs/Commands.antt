@@ -42,11 +42,12 @@ WritesAll replay left0 left out0 out = WritesReport replay left0 left out0 out W
 abbrev pub WritesUpTo : Asked → Option (List ℕ) → Option (List ℕ) → Option (List ℕ) → Option (List ℕ) → Type 0
 WritesUpTo asked left0 left out0 out = (end : End) × (end ≢ Whole) × WritesReport asked left0 left out0 out end
 
--- a report was written, and behind it that there was no memory for its audit; or what a workload counted, and behind it
--- what its audit found
+-- a report was written, and behind its closing lines that there was no memory for its audit; or what a workload
+-- counted, and behind it what its audit found
 abbrev pub TellsFault : Asked → Option (List ℕ) → Option (List ℕ) → Option (List ℕ) → Option (List ℕ) → Type 0
 TellsFault AuditedReplay left0 left out0 out =
-    (end : End) × Reports left0 left (with_audit (Some (Err NoMemory)) (Appends out0 out)) end
+    (end : End) × IsAudited end (Some (Err NoMemory))
+    × Reports left0 left (with_audit (Some (Err NoMemory)) (Appends out0 out)) end
 TellsFault (Work w) left0 left out0 out = (t : Tally) × IsErr t.audit × Appends out0 out (work_text w t)
 TellsFault _ left0 left out0 out = ⊥
 
