@@ -51,6 +51,10 @@ TellsFault AuditedReplay left0 left out0 out =
 TellsFault (Work w) left0 left out0 out = (t : Tally) × IsErr t.audit × Appends out0 out (work_text w t)
 TellsFault _ left0 left out0 out = ⊥
 
+abbrev pub IsWorkload : Asked → Type 0
+IsWorkload (Work w) = ⊤
+IsWorkload _ = ⊥
+
 -- the words ask for what P holds of
 abbrev pub AsksFor : List (List ℕ) → (Asked → Type 0) → Type 0
 AsksFor words P = (asked : Asked) × Asks words asked × P asked

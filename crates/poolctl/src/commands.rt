@@ -1,7 +1,7 @@
 //! What each subcommand does.
 ghost use Rattle.std.specs.Prelude.{◌≡◌, ◌↔◌, false, true, map, string_bytes};
 ghost use Rattle.poolctl.specs.Asked.{AreGood};
-ghost use Rattle.poolctl.specs.Commands.{AsksFor, TellsFault, WritesAll, WritesUpTo};
+ghost use Rattle.poolctl.specs.Commands.{AsksFor, IsWorkload, TellsFault, WritesAll, WritesUpTo};
 
 use crate::asked::Asked;
 use crate::classes::write_classes;
@@ -44,6 +44,9 @@ pub fn command<R: Source, W: Sink, H: Threads + Wait + Sync>(
         AsksFor (map string_bytes words.now) (λ asked.
         TellsFault asked (R.remaining source.old) (R.remaining source.new) (W.contents sink.old)
         (W.contents sink.new)) }
+    // Only a workload wants threads. Where one couldn't be started, nothing is read or written.
+    ensures thread { result ≡ Outcome.NoThread →
+        AsksFor (map string_bytes words.now) IsWorkload × (source.new ≡ source.old) × (sink.new ≡ sink.old) }
     // Words are refused only where they aren't good, and then nothing is read or written.
     ensures refused { (text : _) → result ≡ Outcome.Refused text →
         (AreGood (map string_bytes words.now) → ⊥) × (source.new ≡ source.old) × (sink.new ≡ sink.old) }

@@ -62,6 +62,8 @@ fn write_tally<W: Sink>(alloc: Global, work: &Work, tally: Tally, sink: &mut W) 
         × Appends (W.contents sink.old) (W.contents sink.new) (work_text work.now tally) }
     ensures audit { result ≡ Outcome.AuditFailed → IsErr tally.audit
         × Appends (W.contents sink.old) (W.contents sink.new) (work_text work.now tally) }
+    // No memory is wanted once something was written.
+    ensures memory { result ≡ Outcome.NoMemory → sink.new ≡ sink.old }
     ensures known { (result ≡ Outcome.Done) ⊎ (result ≡ Outcome.AuditFailed) ⊎ (result ≡ Outcome.NoMemory)
         ⊎ (result ≡ Outcome.WriteFailed) }
     ensures write { (W.has_failed sink.new ≡ true) ↔ (result ≡ Outcome.WriteFailed) }
@@ -130,7 +132,7 @@ fn tally_of<H: Threads + Wait + Sync>(
 }
 
 /// Runs a workload, and writes what its workers counted and the line of the audit. Nothing is written where the
-/// workload could not be run.
+/// workload could not be run, or its lines could not be made, for want of memory or of a thread.
 pub fn run_work<W: Sink, H: Threads + Wait + Sync>(
     rt: &H,
     alloc: Global,
@@ -143,6 +145,7 @@ pub fn run_work<W: Sink, H: Threads + Wait + Sync>(
         × Appends (W.contents sink.old) (W.contents sink.new) (work_text asked.now t) }
     ensures audit { result ≡ Outcome.AuditFailed → (t : Counted) × IsErr t.audit
         × Appends (W.contents sink.old) (W.contents sink.new) (work_text asked.now t) }
+    ensures unrun { (result ≡ Outcome.NoMemory) ⊎ (result ≡ Outcome.NoThread) → sink.new ≡ sink.old }
     ensures known { (result ≡ Outcome.Done) ⊎ (result ≡ Outcome.AuditFailed) ⊎ (result ≡ Outcome.NoMemory)
         ⊎ (result ≡ Outcome.NoThread) ⊎ (result ≡ Outcome.WriteFailed) }
     ensures write { (W.has_failed sink.new ≡ true) ↔ (result ≡ Outcome.WriteFailed) }
