@@ -1,5 +1,5 @@
 -- What a command has written, by what was asked for.
-use Rattle.std.specs.Prelude.{ℕ, ◌≢◌, List, Option, Some, None, Ok, Err, IsOk, IsErr, ⊤}
+use Rattle.std.specs.Prelude.{ℕ, ◌≡◌, ◌≢◌, List, Option, Some, None, Ok, Err, IsOk, IsErr, ⊤}
 use Rattle.std.specs.Io.KnownBytes.{Appends}
 use Rattle.region_cut.specs.Classes.{classes_of}
 use Rattle.trace_audit.specs.Replay.{IsAudited, Reports, with_audit}
@@ -31,11 +31,12 @@ WritesReport AuditedReplay left0 left out0 out end =
 WritesReport _ left0 left out0 out end = ⊥
 
 -- all that was asked for was written: the classes of a profile, a route, the report of a whole trace, or what a
--- workload counted and that its audit says yes
+-- workload counted and that its audit says yes; and only a replay reads
 abbrev pub WritesAll : Asked → Option (List ℕ) → Option (List ℕ) → Option (List ℕ) → Option (List ℕ) → Type 0
-WritesAll (Classes p) left0 left out0 out = Appends out0 out (class_lines (classes_of p))
-WritesAll (Route r) left0 left out0 out = Appends out0 out (route_text r.digits r.from r.owner)
-WritesAll (Work w) left0 left out0 out = (t : Tally) × IsOk t.audit × Appends out0 out (work_text w t)
+WritesAll (Classes p) left0 left out0 out = (left ≡ left0) × Appends out0 out (class_lines (classes_of p))
+WritesAll (Route r) left0 left out0 out = (left ≡ left0) × Appends out0 out (route_text r.digits r.from r.owner)
+WritesAll (Work w) left0 left out0 out =
+    (left ≡ left0) × (t : Tally) × IsOk t.audit × Appends out0 out (work_text w t)
 WritesAll replay left0 left out0 out = WritesReport replay left0 left out0 out Whole
 
 -- the report of a trace that isn't whole was written
@@ -48,7 +49,8 @@ abbrev pub TellsFault : Asked → Option (List ℕ) → Option (List ℕ) → Op
 TellsFault AuditedReplay left0 left out0 out =
     (end : End) × IsAudited end (Some (Err NoMemory))
     × Reports left0 left (with_audit (Some (Err NoMemory)) (Appends out0 out)) end
-TellsFault (Work w) left0 left out0 out = (t : Tally) × IsErr t.audit × Appends out0 out (work_text w t)
+TellsFault (Work w) left0 left out0 out =
+    (left ≡ left0) × (t : Tally) × IsErr t.audit × Appends out0 out (work_text w t)
 TellsFault _ left0 left out0 out = ⊥
 
 abbrev pub IsWorkload : Asked → Type 0
