@@ -1,3 +1,4 @@
+mod Begun
 mod ClassLines
 mod Spelled
 mod Written

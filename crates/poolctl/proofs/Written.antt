@@ -1,15 +1,15 @@
 -- What a replay has written, by how it ends.
 use Rattle.std.proofs.Common.{◌≡◌, ℕ, List, Option, Some, None, Result, Ok, Err, refl, sym, ◌∙◌, subst, inl, inr}
-use Rattle.std.specs.Prelude.{IfOk}
+use Rattle.std.specs.Prelude.{IfErr, IfOk}
 use Rattle.std.specs.Io.KnownBytes.{Appends}
-use Rattle.trace_audit.specs.Replay.{Reports, IsAudited, with_audit}
+use Rattle.trace_audit.specs.Replay.{BeginsAudited, Fails, Reports, IsAudited, with_audit}
 use Rattle.trace_audit.specs.Report.{Verdict}
-use Rattle.trace_audit.specs.declared.auditing.fault.Fault.TheVariants.{Stranger, Doubled, Missing, NoMemory}
+use Rattle.trace_audit.specs.Wire.{Begins}
 use Rattle.trace_audit.specs.declared.replaying.ending.End.{End}
 use Rattle.trace_audit.specs.declared.replaying.ending.End.TheVariants.{Whole, BadLine, NoRoom}
 use Rattle.trace_audit.specs.declared.replaying.ending.ReplayError.{ReplayError}
 use Rattle.trace_audit.specs.declared.replaying.ending.ReplayError.TheVariants.{Read, Write}
-use Rattle.poolctl.specs.Commands.{TellsFault, WritesAll, WritesUpTo}
+use Rattle.poolctl.specs.Commands.{BeginsAll, BreaksOff, TellsFault, WritesAll, WritesUpTo}
 use Rattle.poolctl.specs.Outcomes.{audited_outcome_of, outcome_of}
 use Rattle.poolctl.specs.declared.asked.Asked.TheVariants.{Replay, AuditedReplay}
 use Rattle.poolctl.specs.declared.outcome.Outcome.{Outcome}
@@ -79,3 +79,47 @@ plain_up_to a b c d o (Ok (BadLine k)) is report stopped = (BadLine k, (λ q. cc
 plain_up_to a b c d o (Ok NoRoom) is report stopped = (NoRoom, (λ q. cc), report)
 plain_up_to a b c d o (Err Read) is report stopped = let q : ReadFailed ≡ Stopped = sym is ∙ stopped in cc
 plain_up_to a b c d o (Err Write) is report stopped = let q : WriteFailed ≡ Stopped = sym is ∙ stopped in cc
+
+-- a write failed only where the replay says so, and so did a read
+write_failed : (P : ReplayError → Type 0) (o : Outcome) (r : Result End ReplayError) → o ≡ outcome_of r → IfErr r P → o ≡ WriteFailed → P Write
+write_failed P o (Ok Whole) is holds failed = let q : Done ≡ WriteFailed = sym is ∙ failed in cc
+write_failed P o (Ok (BadLine k)) is holds failed = let q : Stopped ≡ WriteFailed = sym is ∙ failed in cc
+write_failed P o (Ok NoRoom) is holds failed = let q : Stopped ≡ WriteFailed = sym is ∙ failed in cc
+write_failed P o (Err Read) is holds failed = let q : ReadFailed ≡ WriteFailed = sym is ∙ failed in cc
+write_failed P o (Err Write) is holds failed = holds
+
+read_failed : (P : ReplayError → Type 0) (o : Outcome) (r : Result End ReplayError) → o ≡ outcome_of r → IfErr r P → o ≡ ReadFailed → P Read
+read_failed P o (Ok Whole) is holds failed = let q : Done ≡ ReadFailed = sym is ∙ failed in cc
+read_failed P o (Ok (BadLine k)) is holds failed = let q : Stopped ≡ ReadFailed = sym is ∙ failed in cc
+read_failed P o (Ok NoRoom) is holds failed = let q : Stopped ≡ ReadFailed = sym is ∙ failed in cc
+read_failed P o (Err Read) is holds failed = holds
+read_failed P o (Err Write) is holds failed = let q : WriteFailed ≡ ReadFailed = sym is ∙ failed in cc
+
+audited_write_failed : (P : ReplayError → Type 0) (o : Outcome) (r : Result (End × Option Verdict) ReplayError) → o ≡ audited_outcome_of r → IfErr r P → o ≡ WriteFailed → P Write
+audited_write_failed P o (Ok (end, None)) is holds failed = write_failed P o (Ok end) is tt failed
+audited_write_failed P o (Ok (end, Some (Ok u))) is holds failed = write_failed P o (Ok end) is tt failed
+audited_write_failed P o (Ok (end, Some (Err e))) is holds failed = let q : AuditFailed ≡ WriteFailed = sym is ∙ failed in cc
+audited_write_failed P o (Err e) is holds failed = write_failed P o (Err e) is holds failed
+
+audited_read_failed : (P : ReplayError → Type 0) (o : Outcome) (r : Result (End × Option Verdict) ReplayError) → o ≡ audited_outcome_of r → IfErr r P → o ≡ ReadFailed → P Read
+audited_read_failed P o (Ok (end, None)) is holds failed = read_failed P o (Ok end) is tt failed
+audited_read_failed P o (Ok (end, Some (Ok u))) is holds failed = read_failed P o (Ok end) is tt failed
+audited_read_failed P o (Ok (end, Some (Err e))) is holds failed = let q : AuditFailed ≡ ReadFailed = sym is ∙ failed in cc
+audited_read_failed P o (Err e) is holds failed = read_failed P o (Err e) is holds failed
+
+-- what was written by then
+pub plain_begun : (left0 left out0 out : Option (List ℕ)) (o : Outcome) (r : Result End ReplayError) → o ≡ outcome_of r
+    → IfErr r (λ e. Fails left0 left (Appends out0 out) (λ end. Begins out0 out) e) → o ≡ WriteFailed → BeginsAll Replay left0 left out0 out
+plain_begun a b c d o r is holds failed = write_failed (λ e. Fails a b (Appends c d) (λ end. Begins c d) e) o r is holds failed
+
+pub plain_broken_off : (left0 left out0 out : Option (List ℕ)) (o : Outcome) (r : Result End ReplayError) → o ≡ outcome_of r
+    → IfErr r (λ e. Fails left0 left (Appends out0 out) (λ end. Begins out0 out) e) → o ≡ ReadFailed → BreaksOff Replay left0 left out0 out Read
+plain_broken_off a b c d o r is holds failed = read_failed (λ e. Fails a b (Appends c d) (λ end. Begins c d) e) o r is holds failed
+
+pub all_begun : (left0 left out0 out : Option (List ℕ)) (o : Outcome) (r : Result (End × Option Verdict) ReplayError) → o ≡ audited_outcome_of r
+    → IfErr r (λ e. Fails left0 left (Appends out0 out) (BeginsAudited out0 out) e) → o ≡ WriteFailed → BeginsAll AuditedReplay left0 left out0 out
+all_begun a b c d o r is holds failed = audited_write_failed (λ e. Fails a b (Appends c d) (BeginsAudited c d) e) o r is holds failed
+
+pub all_broken_off : (left0 left out0 out : Option (List ℕ)) (o : Outcome) (r : Result (End × Option Verdict) ReplayError) → o ≡ audited_outcome_of r
+    → IfErr r (λ e. Fails left0 left (Appends out0 out) (BeginsAudited out0 out) e) → o ≡ ReadFailed → BreaksOff AuditedReplay left0 left out0 out Read
+all_broken_off a b c d o r is holds failed = audited_read_failed (λ e. Fails a b (Appends c d) (BeginsAudited c d) e) o r is holds failed

@@ -2,11 +2,14 @@
 use Rattle.std.specs.Prelude.{ℕ, ◌≡◌, ◌≢◌, List, Option, Some, None, Ok, Err, IsOk, IsErr, ⊤}
 use Rattle.std.specs.Io.KnownBytes.{Appends}
 use Rattle.region_cut.specs.Classes.{classes_of}
-use Rattle.trace_audit.specs.Replay.{IsAudited, Reports, with_audit}
+use Rattle.trace_audit.specs.Replay.{BeginsAudited, Fails, IsAudited, Reports, with_audit}
 use Rattle.trace_audit.specs.Report.{Verdict}
+use Rattle.trace_audit.specs.Wire.{Begins}
 use Rattle.trace_audit.specs.declared.auditing.fault.Fault.TheVariants.{NoMemory}
 use Rattle.trace_audit.specs.declared.replaying.ending.End.{End}
 use Rattle.trace_audit.specs.declared.replaying.ending.End.TheVariants.{Whole}
+use Rattle.trace_audit.specs.declared.replaying.ending.ReplayError.{ReplayError}
+use Rattle.trace_audit.specs.declared.replaying.ending.ReplayError.TheVariants.{Write}
 use Rattle.poolctl.specs.Asked.{Asks}
 use Rattle.poolctl.specs.Classes.{class_lines}
 use Rattle.pool_jobs.specs.declared.tally.Tally.{Tally}
@@ -52,6 +55,25 @@ TellsFault AuditedReplay left0 left out0 out =
 TellsFault (Work w) left0 left out0 out =
     (left ≡ left0) × (t : Tally) × IsErr t.audit × Appends out0 out (work_text w t)
 TellsFault _ left0 left out0 out = ⊥
+
+-- a replay broke off at this error: what it had written by then
+abbrev pub BreaksOff : Asked → Option (List ℕ) → Option (List ℕ) → Option (List ℕ) → Option (List ℕ) → ReplayError
+    → Type 0
+BreaksOff Replay left0 left out0 out e = Fails left0 left (Appends out0 out) (λ end. Begins out0 out) e
+BreaksOff AuditedReplay left0 left out0 out e = Fails left0 left (Appends out0 out) (BeginsAudited out0 out) e
+BreaksOff _ left0 left out0 out e = ⊥
+
+-- a beginning of what was asked for was written, and nothing else; only a replay reads
+abbrev pub BeginsAll : Asked → Option (List ℕ) → Option (List ℕ) → Option (List ℕ) → Option (List ℕ) → Type 0
+BeginsAll (Classes p) left0 left out0 out = (left ≡ left0) × Begins out0 out (class_lines (classes_of p))
+BeginsAll (Route r) left0 left out0 out = (left ≡ left0) × Begins out0 out (route_text r.digits r.from r.owner)
+BeginsAll (Work w) left0 left out0 out = (left ≡ left0) × (t : Tally) × Begins out0 out (work_text w t)
+BeginsAll replay left0 left out0 out = BreaksOff replay left0 left out0 out Write
+
+-- a beginning of the lines of the classes was written
+abbrev pub BeginsClasses : Asked → Option (List ℕ) → Option (List ℕ) → Type 0
+BeginsClasses (Classes p) out0 out = Begins out0 out (class_lines (classes_of p))
+BeginsClasses _ out0 out = ⊥
 
 abbrev pub IsWorkload : Asked → Type 0
 IsWorkload (Work w) = ⊤

@@ -2,6 +2,7 @@
 ghost use Rattle.std.specs.Prelude.{◌≡◌, ◌↔◌, ◌⊎◌, false, true, IfOk, string_bytes};
 ghost use Rattle.std.specs.Io.KnownBytes.{Appends};
 ghost use Rattle.region_cut.specs.Classes.{classes_of};
+ghost use Rattle.trace_audit.specs.Wire.{Begins};
 ghost use Rattle.poolctl.specs.Classes.{class_line, class_lines};
 
 use crate::outcome::Outcome;
@@ -26,6 +27,8 @@ pub fn write_classes<W: Sink>(alloc: Global, profile: Profile, sink: &mut W) -> 
     requires { W.has_failed sink.old ≡ false }
     ensures done { result ≡ Outcome.Done →
         Appends (W.contents sink.old) (W.contents sink.new) (class_lines (classes_of profile)) }
+    // However it ends, a beginning of the lines was written.
+    ensures begun { Begins (W.contents sink.old) (W.contents sink.new) (class_lines (classes_of profile)) }
     ensures known { (result ≡ Outcome.Done) ⊎ (result ≡ Outcome.NoMemory) ⊎ (result ≡ Outcome.WriteFailed) }
     ensures write { (W.has_failed sink.new ≡ true) ↔ (result ≡ Outcome.WriteFailed) }
 {

@@ -1,7 +1,9 @@
 //! What each subcommand does.
-ghost use Rattle.std.specs.Prelude.{◌≡◌, ◌↔◌, false, true, map, string_bytes};
+ghost use Rattle.std.specs.Prelude.{◌≡◌, ◌↔◌, ◌⊎◌, false, true, map, string_bytes};
+ghost use Rattle.trace_audit.specs.declared.replaying.ending.ReplayError.TheVariants.{Read};
 ghost use Rattle.poolctl.specs.Asked.{AreGood};
-ghost use Rattle.poolctl.specs.Commands.{AsksFor, IsWorkload, TellsFault, WritesAll, WritesUpTo};
+ghost use Rattle.poolctl.specs.Commands.{AsksFor, BeginsAll, BeginsClasses, BreaksOff, IsWorkload, TellsFault};
+ghost use Rattle.poolctl.specs.Commands.{WritesAll, WritesUpTo};
 
 use crate::asked::Asked;
 use crate::classes::write_classes;
@@ -44,9 +46,23 @@ pub fn command<R: Source, W: Sink, H: Threads + Wait + Sync>(
         AsksFor (map string_bytes words.now) (λ asked.
         TellsFault asked (R.remaining source.old) (R.remaining source.new) (W.contents sink.old)
         (W.contents sink.new)) }
-    // Only a workload wants threads. Where one couldn't be started, nothing is read or written.
+    // Where a write failed, a beginning of what the words ask for was written, and nothing else.
+    ensures begun { result ≡ Outcome.WriteFailed →
+        AsksFor (map string_bytes words.now) (λ asked.
+        BeginsAll asked (R.remaining source.old) (R.remaining source.new) (W.contents sink.old)
+        (W.contents sink.new)) }
+    // Where a read failed, it was a replay's: the answers to all whole lines were written, and nothing else.
+    ensures broken_off { result ≡ Outcome.ReadFailed →
+        AsksFor (map string_bytes words.now) (λ asked.
+        BreaksOff asked (R.remaining source.old) (R.remaining source.new) (W.contents sink.old)
+        (W.contents sink.new) Read) }
+    // For want of a thread or of memory nothing is read; nothing is written either, except that memory may be refused
+    // behind some lines of the classes.
     ensures thread { result ≡ Outcome.NoThread →
         AsksFor (map string_bytes words.now) IsWorkload × (source.new ≡ source.old) × (sink.new ≡ sink.old) }
+    ensures memory { result ≡ Outcome.NoMemory →
+        (source.new ≡ source.old) × ((sink.new ≡ sink.old) ⊎ AsksFor (map string_bytes words.now) (λ asked.
+        BeginsClasses asked (W.contents sink.old) (W.contents sink.new))) }
     // Words are refused only where they aren't good, and then nothing is read or written.
     ensures refused { (text : _) → result ≡ Outcome.Refused text →
         (AreGood (map string_bytes words.now) → ⊥) × (source.new ≡ source.old) × (sink.new ≡ sink.old) }

@@ -1,6 +1,7 @@
 //! The subcommands `route` and `route2`.
 ghost use Rattle.std.specs.Prelude.{◌≡◌, ◌≤◌, ◌++◌, ◌↔◌, ◌⊎◌, false, true, IfOk, string_bytes};
 ghost use Rattle.std.specs.Io.KnownBytes.{Appends};
+ghost use Rattle.trace_audit.specs.Wire.{Begins};
 ghost use Rattle.poolctl.specs.Routes.{digits_line, route_text};
 
 use crate::asked::Route;
@@ -41,6 +42,10 @@ pub fn write_route<W: Sink>(alloc: Global, route: Route, sink: &mut W) -> Outcom
     requires { W.has_failed sink.old ≡ false }
     ensures done { result ≡ Outcome.Done →
         Appends (W.contents sink.old) (W.contents sink.new)
+        (route_text route.digits route.from route.owner) }
+    ensures memory { result ≡ Outcome.NoMemory → sink.new ≡ sink.old }
+    ensures begun { result ≡ Outcome.WriteFailed →
+        Begins (W.contents sink.old) (W.contents sink.new)
         (route_text route.digits route.from route.owner) }
     ensures known { (result ≡ Outcome.Done) ⊎ (result ≡ Outcome.NoMemory) ⊎ (result ≡ Outcome.WriteFailed) }
     ensures write { (W.has_failed sink.new ≡ true) ↔ (result ≡ Outcome.WriteFailed) }

@@ -1,6 +1,7 @@
 //! The subcommand `work`.
-ghost use Rattle.std.specs.Prelude.{◌≡◌, ◌↔◌, ◌⊎◌, false, true, IfOk, IsErr, IsOk, MatchResult, ◌++◌, string_bytes};
+ghost use Rattle.std.specs.Prelude.{◌≡◌, ◌↔◌, ◌⊎◌, false, true, IfOk, IsErr, IsOk, ◌++◌, string_bytes};
 ghost use Rattle.trace_audit.specs.Report.{audit_line};
+ghost use Rattle.trace_audit.specs.Wire.{Begins, Writes};
 ghost use Rattle.std.specs.Io.KnownBytes.{Appends};
 ghost use Rattle.pool_jobs.specs.declared.tally.Tally.{Tally as Counted};
 ghost use Rattle.poolctl.specs.Asked.{CanRun, workload_name};
@@ -43,13 +44,11 @@ fn counts_text(alloc: Global, work: &Work, counts: Counts) -> Result<String, All
     Ok(text)
 }
 
-// Writes a text, and the line of an audit behind it.
+// Writes a text, and the line of an audit behind it. At an error a beginning of both was written.
 fn write_both<W: Sink>(text: &str, audit: Result<(), Fault>, sink: &mut W) -> Result<(), Failed>
     requires { W.has_failed sink.old ≡ false }
-    ensures { MatchResult result
-        (λ _. Appends (W.contents sink.old) (W.contents sink.new) (text.now ++ audit_line audit)
-        × (W.has_failed sink.new ≡ false))
-        (λ _. W.has_failed sink.new ≡ true) }
+    ensures { Writes (W.contents sink.old) (W.contents sink.new) (W.has_failed sink.new)
+        (text.now ++ audit_line audit) result }
 {
     write_all(sink, text.as_bytes())?;
     write_audit(audit, sink)
@@ -64,6 +63,8 @@ fn write_tally<W: Sink>(alloc: Global, work: &Work, tally: Tally, sink: &mut W) 
         × Appends (W.contents sink.old) (W.contents sink.new) (work_text work.now tally) }
     // No memory is wanted once something was written.
     ensures memory { result ≡ Outcome.NoMemory → sink.new ≡ sink.old }
+    ensures begun { result ≡ Outcome.WriteFailed →
+        Begins (W.contents sink.old) (W.contents sink.new) (work_text work.now tally) }
     ensures known { (result ≡ Outcome.Done) ⊎ (result ≡ Outcome.AuditFailed) ⊎ (result ≡ Outcome.NoMemory)
         ⊎ (result ≡ Outcome.WriteFailed) }
     ensures write { (W.has_failed sink.new ≡ true) ↔ (result ≡ Outcome.WriteFailed) }
@@ -146,6 +147,8 @@ pub fn run_work<W: Sink, H: Threads + Wait + Sync>(
     ensures audit { result ≡ Outcome.AuditFailed → (t : Counted) × IsErr t.audit
         × Appends (W.contents sink.old) (W.contents sink.new) (work_text asked.now t) }
     ensures unrun { (result ≡ Outcome.NoMemory) ⊎ (result ≡ Outcome.NoThread) → sink.new ≡ sink.old }
+    ensures begun { result ≡ Outcome.WriteFailed → (t : Counted)
+        × Begins (W.contents sink.old) (W.contents sink.new) (work_text asked.now t) }
     ensures known { (result ≡ Outcome.Done) ⊎ (result ≡ Outcome.AuditFailed) ⊎ (result ≡ Outcome.NoMemory)
         ⊎ (result ≡ Outcome.NoThread) ⊎ (result ≡ Outcome.WriteFailed) }
     ensures write { (W.has_failed sink.new ≡ true) ↔ (result ≡ Outcome.WriteFailed) }

@@ -1,5 +1,5 @@
 use Rattle.poolctl.proofs.Spelled.{asked_can_run}
-use Rattle.poolctl.proofs.Written.{all_written, no_memory_told, plain_all, plain_up_to, written_up_to}
+use Rattle.poolctl.proofs.Written.{all_begun, all_broken_off, all_written, no_memory_told, plain_all, plain_begun, plain_broken_off, plain_up_to, written_up_to}
 use Rattle.poolctl.specs.declared.asked.Asked.TheVariants.{Replay, AuditedReplay}
 use Rattle.poolctl.proofs.commands.command.Goals as goal
 
@@ -41,3 +41,31 @@ returns-in-Ok-AuditedReplay-clause-audit g c = λ failed. (
 pub run_work-requires-clause-runs : goal.run_work-requires-clause-runs
 run_work-requires-clause-runs g c κs within =
     asked_can_run _ c.in-Ok-Work.work (rw c.in-Ok-Work.field-0-is at c.in-Ok-Work.ensures.asked)
+
+pub returns-in-Ok-Replay-clause-begun : goal.returns-in-Ok-Replay-clause-begun
+returns-in-Ok-Replay-clause-begun g c = λ failed. (
+  Replay,
+  (rw c.in-Ok-Replay.field-0-is at c.in-Ok-Replay.ensures.asked),
+  plain_begun _ _ _ _ _ _ c.replayed.ensures c.replay.ensures.failed failed,
+)
+
+pub returns-in-Ok-AuditedReplay-clause-begun : goal.returns-in-Ok-AuditedReplay-clause-begun
+returns-in-Ok-AuditedReplay-clause-begun g c = λ failed. (
+  AuditedReplay,
+  (rw c.in-Ok-AuditedReplay.field-0-is at c.in-Ok-AuditedReplay.ensures.asked),
+  all_begun _ _ _ _ _ _ c.audited.ensures c.replay_audited.ensures.failed failed,
+)
+
+pub returns-in-Ok-Replay-clause-broken_off : goal.returns-in-Ok-Replay-clause-broken_off
+returns-in-Ok-Replay-clause-broken_off g c = λ failed. (
+  Replay,
+  (rw c.in-Ok-Replay.field-0-is at c.in-Ok-Replay.ensures.asked),
+  plain_broken_off _ _ _ _ _ _ c.replayed.ensures c.replay.ensures.failed failed,
+)
+
+pub returns-in-Ok-AuditedReplay-clause-broken_off : goal.returns-in-Ok-AuditedReplay-clause-broken_off
+returns-in-Ok-AuditedReplay-clause-broken_off g c = λ failed. (
+  AuditedReplay,
+  (rw c.in-Ok-AuditedReplay.field-0-is at c.in-Ok-AuditedReplay.ensures.asked),
+  all_broken_off _ _ _ _ _ _ c.audited.ensures c.replay_audited.ensures.failed failed,
+)
