@@ -1,4 +1,5 @@
 //! Standard input and standard output, each behind a buffer.
+ghost use Rattle.std.specs.Prelude.{◌≡◌, ◌⊎◌};
 
 use crate::{Outcome, command};
 use std::alloc::Global;
@@ -38,7 +39,9 @@ fn refused(alloc: Global, text: &str) -> Outcome {
 
 /// Writes what the writer still holds back, unless a write failed before: then nothing more is
 /// written, and what is held back is let go.
-pub fn settled<W: Write + Drop>(outcome: Outcome, writer: BufWriter<W>) -> Outcome {
+pub fn settled<W: Write + Drop>(outcome: Outcome, writer: BufWriter<W>) -> Outcome
+    ensures { (result ≡ outcome) ⊎ (result ≡ Outcome.WriteFailed) }
+{
     if outcome == Outcome::WriteFailed {
         let _unwritten = writer.into_parts();
         return outcome;
