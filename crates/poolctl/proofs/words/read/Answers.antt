@@ -1,4 +1,4 @@
-use Rattle.std.proofs.Common.{◌≡◌, ◌∙◌, ap, map, string_bytes, subst, true, sym}
+use Rattle.std.proofs.Common.{◌∙◌, ap, map, string_bytes, subst, sym}
 use Rattle.clap.specs.Words.{App, is_simple, subcommand_of, takes}
 use Rattle.poolctl.specs.Asked.{AskedBy, NamesWorkload}
 use Rattle.poolctl.proofs.words.read.Goals as goal
