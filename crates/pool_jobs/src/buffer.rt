@@ -93,6 +93,8 @@ impl<'r, J: Naming> Buffer<'r, J> {
 impl<'r, J: Naming> Bytes for Buffer<'r, J> {
     ghost size = { λ b. size_of b.class };
 
+    ghost held = { λ b. b.bytes.now };
+
     fn len(&self) -> usize {
         self.len()
     }

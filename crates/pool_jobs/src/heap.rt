@@ -1,15 +1,18 @@
 //! What a worker sees of its allocator. These traits name no lifetime, so a thread may run over them.
-ghost use Rattle.std.specs.Prelude.{◌≡◌, ◌<◌, ◌≤◌, length, IfOk};
+ghost use Rattle.std.specs.Prelude.{◌≡◌, ◌<◌, ◌≤◌, length, replicate, slice_set, IfOk};
 
 use crate::error::PoolError;
 use std::sync::Wait;
 
 /// A buffer whose bytes can be read and written.
 pub trait Bytes: Drop {
-    ghost use Rattle.std.specs.Prelude.{ℕ};
+    ghost use Rattle.std.specs.Prelude.{ℕ, List};
 
     /// How many bytes it has.
     ghost size: { Self → ℕ };
+
+    /// The bytes that it holds.
+    ghost held: { Self → List ℕ };
 
     /// How many bytes it has.
     fn len(&self) -> usize
@@ -17,16 +20,19 @@ pub trait Bytes: Drop {
 
     /// Its bytes.
     fn bytes(&self) -> &[u8]
-        ensures { length result.now ≡ size self.now };
+        ensures value { result.now ≡ held self.now }
+        ensures size { length result.now ≡ size self.now };
 
     /// Writes one byte.
     fn set(&mut self, at: usize, byte: u8)
         requires { at < size self.old }
-        ensures { size self.new ≡ size self.old };
+        ensures value { held self.new ≡ slice_set (held self.old) at byte }
+        ensures size { size self.new ≡ size self.old };
 
     /// Writes each byte.
     fn fill(&mut self, byte: u8)
-        ensures { size self.new ≡ size self.old };
+        ensures value { held self.new ≡ replicate (size self.old) byte }
+        ensures size { size self.new ≡ size self.old };
 }
 
 /// An allocator in the hands of a worker.
@@ -35,7 +41,7 @@ pub trait Heap: Drop {
 
     /// A buffer of at least `size` bytes.
     fn alloc<R: Wait>(&mut self, rt: &R, size: usize) -> Result<Self::Buffer, PoolError>
-        ensures { IfOk result (λ b. size ≤ Self.Buffer.size b) };
+        ensures large_enough { IfOk result (λ b. size ≤ Self.Buffer.size b) };
 
     /// Takes a buffer back, whichever allocator of the pool gave it.
     fn free<R: Wait>(&mut self, rt: &R, buffer: Self::Buffer);
