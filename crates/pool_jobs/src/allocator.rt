@@ -1,5 +1,6 @@
 //! The allocator that a worker holds.
-ghost use Rattle.std.specs.Prelude.{◌≡◌, [], ◌∷◌, ◌++◌, IfSome};
+ghost use Rattle.std.specs.Prelude.{◌≡◌, ◌≤◌, [], ◌∷◌, ◌++◌, IfSome, IfOk};
+ghost use Rattle.region_cut.specs.Classes.{size_of};
 ghost use Rattle.pool_desk.specs.HomesState.{LacksClass};
 ghost use Rattle.pool_jobs.specs.Serving.{IsClassFor, Keeps, SameDesk, Serves};
 
@@ -326,12 +327,19 @@ impl<
     type Buffer = Buffer<'r, J>;
 
     #[inline]
-    fn alloc<R: Wait>(&mut self, rt: &R, size: usize) -> Result<Buffer<'r, J>, PoolError> {
+    fn alloc<R: Wait>(&mut self, rt: &R, size: usize) -> Result<Buffer<'r, J>, PoolError>
+        ensures large_enough { IfOk result (λ b. size ≤ size_of b.class) }
+        ensures serves { Serves J.names self.old size result self.new }
+    {
         self.alloc(rt, size)
     }
 
     #[inline]
-    fn free<R: Wait>(&mut self, rt: &R, buffer: Buffer<'r, J>) {
+    fn free<R: Wait>(&mut self, rt: &R, buffer: Buffer<'r, J>)
+        ensures desk { SameDesk J.names self.old self.new }
+        ensures lent { self.new.lent ≡ self.old.lent }
+        ensures freed { self.new.freed ≡ self.old.freed ++ buffer.entry ∷ [] }
+    {
         self.free(rt, buffer);
     }
 }

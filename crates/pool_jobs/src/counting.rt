@@ -1,6 +1,8 @@
 //! An allocator that counts its calls.
-ghost use Rattle.std.specs.Prelude.{◌≤◌, IfOk};
+ghost use Rattle.std.specs.Prelude.{◌≡◌, ◌≤◌, ◌+◌, [], ◌∷◌, ◌++◌, IfOk, IfSome, MatchResult};
 ghost use Rattle.region_cut.specs.Classes.{size_of};
+ghost use Rattle.slot_chain.specs.Counts.{capped};
+ghost use Rattle.pool_jobs.specs.Serving.{Keeps, SameDesk, Serves};
 
 use crate::allocator::Allocator;
 use crate::buffer::Buffer;
@@ -38,7 +40,10 @@ impl<'a, 'r, M: Mailbox, T: Receiver, S: Sender, G: Gate, J: Naming> Counting<
     /// Nothing is counted yet.
     pub(crate) fn new(
         allocator: Allocator<'a, 'r, M, T, S, G, J>,
-    ) -> Counting<'a, 'r, M, T, S, G, J> {
+    ) -> Counting<'a, 'r, M, T, S, G, J>
+        ensures same { result.allocator ≡ allocator.entry }
+        ensures counts { result.counts ≡ record { allocated = 0; freed = 0; starved = 0; lost = 0 } }
+    {
         Counting {
             allocator,
             counts: Counts::none(),
@@ -46,7 +51,10 @@ impl<'a, 'r, M: Mailbox, T: Receiver, S: Sender, G: Gate, J: Naming> Counting<
     }
 
     /// Drops a buffer, and counts it.
-    pub(crate) fn lose(&mut self, buffer: Buffer<'r, J>) {
+    pub(crate) fn lose(&mut self, buffer: Buffer<'r, J>)
+        ensures same { self.new.allocator ≡ self.old.allocator }
+        ensures counted { self.new.counts ≡ record self.old.counts { lost = capped (self.old.counts.lost + 1) } }
+    {
         self.counts.lost = self.counts.lost.saturating_add(1);
         drop(buffer);
     }
@@ -62,7 +70,10 @@ impl<
     J: Naming,
 > Counting<'a, 'r, M, T, S, G, J> {
     /// Ends the work.
-    pub(crate) fn end<R: Wait>(self, rt: &R) -> Done<'r, T, S, J> {
+    pub(crate) fn end<R: Wait>(self, rt: &R) -> Done<'r, T, S, J>
+        ensures counts { result.counts ≡ self.entry.counts }
+        ensures station { IfSome result.station (λ s. Keeps J.names self.entry.allocator s) }
+    {
         let Counting { allocator, counts } = self;
         let station = allocator.retire(rt);
         Done { station, counts }
@@ -81,7 +92,13 @@ impl<
     type Buffer = Buffer<'r, J>;
 
     #[inline]
-    fn alloc<R: Wait>(&mut self, rt: &R, size: usize) -> Result<Buffer<'r, J>, PoolError> {
+    fn alloc<R: Wait>(&mut self, rt: &R, size: usize) -> Result<Buffer<'r, J>, PoolError>
+        ensures large_enough { IfOk result (λ b. size ≤ size_of b.class) }
+        ensures serves { Serves J.names self.old.allocator size result self.new.allocator }
+        ensures counted { let counts = self.old.counts in MatchResult result
+            (λ _. self.new.counts ≡ record counts { allocated = capped (counts.allocated + 1) })
+            (λ _. self.new.counts ≡ record counts { starved = capped (counts.starved + 1) }) }
+    {
         let answer = self.allocator.alloc(rt, size);
         match &answer {
             Ok(_) => self.counts.allocated = self.counts.allocated.saturating_add(1),
@@ -91,7 +108,12 @@ impl<
     }
 
     #[inline]
-    fn free<R: Wait>(&mut self, rt: &R, buffer: Buffer<'r, J>) {
+    fn free<R: Wait>(&mut self, rt: &R, buffer: Buffer<'r, J>)
+        ensures desk { SameDesk J.names self.old.allocator self.new.allocator }
+        ensures lent { self.new.allocator.lent ≡ self.old.allocator.lent }
+        ensures freed { self.new.allocator.freed ≡ self.old.allocator.freed ++ buffer.entry ∷ [] }
+        ensures counted { self.new.counts ≡ record self.old.counts { freed = capped (self.old.counts.freed + 1) } }
+    {
         self.counts.freed = self.counts.freed.saturating_add(1);
         self.allocator.free(rt, buffer);
     }
