@@ -1,8 +1,8 @@
 //! The end of all work.
-ghost use Rattle.std.specs.Prelude.{◌≡◌, IfOk};
+ghost use Rattle.std.specs.Prelude.{◌≡◌, IfOk, IfErr};
 ghost use Rattle.pool_fabric.specs.Whole.{IsWhole, IsEachDesk, AreNoted};
 ghost use Rattle.pool_fabric.specs.Audited.{Audited};
-ghost use Rattle.pool_jobs.specs.Ends.{slots_found};
+ghost use Rattle.pool_jobs.specs.Ends.{slots_found, IsEndFault};
 
 use crate::error::JobError;
 use crate::tally::{Counts, Tally};
@@ -57,6 +57,7 @@ pub fn settle<
     ensures audit { IfOk result (λ e. Audited (slots_found e.found.desks.items e.found.batches.items)
         e.found.drawn e.tally.audit) }
     ensures counts { IfOk result (λ e. e.tally.counts ≡ counts) }
+    ensures missing { IfErr result (IsEndFault J.names.count held.entry.items) }
 {
     match gather(rt, alloc, fabric, held) {
         Ok(found) => {
