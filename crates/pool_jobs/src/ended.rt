@@ -1,6 +1,7 @@
 //! The end of all work.
-ghost use Rattle.std.specs.Prelude.{◌≡◌, IfOk, IfErr};
-ghost use Rattle.pool_fabric.specs.Whole.{IsWhole, IsEachDesk, AreNoted};
+ghost use Rattle.std.specs.Prelude.{◌≡◌, List, ◌++◌, IfOk, IfErr};
+ghost use Rattle.pool_fabric.specs.Stations.{StationState};
+ghost use Rattle.pool_fabric.specs.Whole.{IsWhole, IsAllOf, IsEachDesk, AreNoted};
 ghost use Rattle.pool_fabric.specs.Audited.{Audited};
 ghost use Rattle.pool_jobs.specs.Ends.{slots_found, IsEndFault};
 
@@ -53,6 +54,8 @@ pub fn settle<
     ensures whole { IfOk result (λ e. IsWhole e.found.desks.items e.found.batches.items e.found.lent.items
         e.found.freed.items e.found.parts.items J.names.chunks) }
     ensures desks { IfOk result (λ e. IsEachDesk J.names.count e.found.desks.items) }
+    ensures stations { IfOk result (λ e. (others : List StationState) × IsAllOf (held.entry.items ++ others)
+        e.found.desks.items e.found.lent.items e.found.freed.items) }
     ensures drawn { IfOk result (λ e. AreNoted e.found.desks.items e.found.drawn) }
     ensures audit { IfOk result (λ e. Audited (slots_found e.found.desks.items e.found.batches.items)
         e.found.drawn e.tally.audit) }
