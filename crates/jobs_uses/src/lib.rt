@@ -2,6 +2,8 @@
 #![tactic(auto)]
 
 #[cfg(test)]
+mod again;
+#[cfg(test)]
 mod alone;
 #[cfg(test)]
 mod passing;
@@ -10,6 +12,8 @@ mod tests;
 #[cfg(test)]
 mod unheard;
 
+#[cfg(test)]
+pub use again::enter_again;
 #[cfg(test)]
 pub use alone::work_alone;
 #[cfg(test)]

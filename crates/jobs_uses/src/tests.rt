@@ -1,10 +1,13 @@
 //! Tests of allocators: alone, and in threads.
 
+mod again;
 mod alone;
+mod handed;
 mod meeting;
 mod passing;
 mod refused;
 mod tasks;
+mod told;
 mod unheard;
 mod workloads;
 
