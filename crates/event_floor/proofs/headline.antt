@@ -18,6 +18,7 @@ pub mod Apart
 pub mod Handed
 pub mod Keeping
 pub mod Found
+pub mod Lacks
 pub mod Ends
 pub mod Listed
 pub mod Stands

@@ -3,6 +3,7 @@ pub mod ListsSlots
 pub mod Listing
 pub mod Whole
 pub mod Names
+pub mod Memory
 pub mod Lying
 pub mod Headline
 pub mod EndsKnown

@@ -1,5 +1,6 @@
 //! The floor.
 ghost use Rattle.std.specs.Prelude.{ℕ, List, [], ◌≡◌, ◌≤◌, ◌^◌, ◌++◌, length, flat_map, IfOk, IfErr, OnErr};
+ghost use Rattle.std.specs.Prelude.{Err};
 ghost use Rattle.region_cut.specs.Parts.{bytes_of};
 ghost use Rattle.digit_route.specs.Limits.{largest_limit};
 ghost use Rattle.event_floor.specs.Chunks.{AreNumbered};
@@ -9,7 +10,9 @@ ghost use Rattle.event_floor.specs.headline.Bytes.{Holds, KeepsBytes, EndsAsHeld
 ghost use Rattle.event_floor.specs.headline.Headline.{Applies, Headline, Shows};
 ghost use Rattle.event_floor.specs.headline.EndsKnown.{EndsKnown};
 ghost use Rattle.event_floor.specs.headline.Listing.{listing_of};
+ghost use Rattle.event_floor.specs.headline.Memory.{MayLackMemory};
 ghost use Rattle.event_floor.specs.headline.Names.{IsNamed};
+ghost use Rattle.pool_machine.specs.declared.refusal.Refusal.TheVariants.{NoMemory as RefusedForMemory};
 ghost use Rattle.pool_machine.specs.Listing.{Shown};
 ghost use Rattle.pool_machine.specs.State.{opening as machine_opening};
 
@@ -100,7 +103,9 @@ impl<'r> Floor<'r> {
     /// grows. `Take` goes over the buffers of its batch. `Link` looks the number up by its hash, and then takes a time
     /// that grows with the logarithm of how many batches wait in that inbox. All other requests take constant time.
     pub fn apply(&mut self, alloc: Global, request: Request) -> Result<Reply, Refusal>
+        ensures shows { Shows self.old }
         ensures applies { Applies self.old request result self.new }
+        ensures memory { result ≡ Err RefusedForMemory → MayLackMemory self.old request }
         ensures named { IsNamed self.new }
         ensures bytes { KeepsBytes self.old self.new }
         ensures unchanged { OnErr result (self.new ≡ self.old) }

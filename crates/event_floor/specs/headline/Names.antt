@@ -81,6 +81,6 @@ pub record AreNames (names : List Carved) (v : FloorState) : Type 0 where
   pub lent : (i : ℕ) → IfSome (slice_index_or v.lent i None) (HasName names)
   pub queued : (b : ℕ) → All (λ (p : QueuedState). All (HasName names) p.buffers) (inbox_at v.inboxes b)
 
--- no two buffers have one name of a chunk: each has that of its place
+-- some list is that of the floor's drawn chunks, by which each buffer has the name of its place
 unfoldable pub IsNamed : FloorState → Type 0
 IsNamed v = (names : List Carved) × AreNames names v
