@@ -6,8 +6,8 @@ use Rattle.std.proofs.lemmas.Option.{slice_get-get_or}
 use Rattle.std.proofs.lemmas.List.{reverse-append, map-append, length-map, length-reverse, length_push}
 use Rattle.region_cut.specs.declared.part.Part.{Part}
 use Rattle.region_cut.specs.Endings.{EndingsState}
-use Rattle.region_cut.specs.Parts.{number_of, name_of, bytes_of, numbers_from}
-use Rattle.event_floor.specs.Chunks.{AreNumbered, AreUndrawn, stacked, ended_part, ended_parts}
+use Rattle.region_cut.specs.Parts.{AreNumbered, number_of, name_of, bytes_of, numbers_from}
+use Rattle.event_floor.specs.Chunks.{AreUndrawn, stacked, ended_part, ended_parts}
 
 reverse_cons : {X : Type 0} (x : X) (xs : List X) → reverse (x ∷ xs) ≡ reverse xs ++ x ∷ []
 reverse_cons x xs = reverse-append (x ∷ []) xs

@@ -1,11 +1,10 @@
 -- The chunks of a region, drawn and undrawn.
-use Rattle.std.specs.Prelude.{ℕ, zero, suc, ◌≡◌, ◌≤◌, ◌+◌, List, [], ◌∷◌, ◌++◌, length, map, drop, reverse, Option}
+use Rattle.std.specs.Prelude.{ℕ, zero, suc, ◌≡◌, ◌+◌, List, [], ◌∷◌, ◌++◌, length, map, drop, reverse, Option}
 use Rattle.std.specs.Prelude.{option_map, slice_get}
 use Rattle.std.specs.Borrow.{GName}
-use Rattle.region_cut.specs.Limits.{chunk_limit}
 use Rattle.region_cut.specs.declared.part.Part.{Part}
 use Rattle.region_cut.specs.Endings.{Ended}
-use Rattle.region_cut.specs.Parts.{number_of, name_of, bytes_of, numbers_from}
+use Rattle.region_cut.specs.Parts.{number_of, name_of, bytes_of}
 use Rattle.pool_machine.specs.declared.chunk.DrawnChunk.{DrawnChunk}
 
 -- the names of the parts of all chunks, the chunks that are drawn, and the bytes of the parts of the others, all in the
@@ -14,10 +13,6 @@ pub record ChunksState : Type 0 where
   pub parts : List GName
   pub drawn : List DrawnChunk
   pub undrawn : List (List ℕ)
-
--- the parts are numbered from 0, no more of them than a region has chunks, as a cut gives them
-abbrev pub AreNumbered : List Part → Type 0
-AreNumbered parts = (n : ℕ) × (n ≤ chunk_limit) × (map number_of parts ≡ numbers_from 0 n)
 
 -- n numbers from `least` on, the least of them last
 abbrev pub stacked : ℕ → ℕ → List ℕ

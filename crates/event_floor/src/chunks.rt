@@ -1,8 +1,8 @@
 //! The chunks of a region: those that are drawn, and the parts of those that aren't.
 ghost use Rattle.std.specs.Prelude.{◌≡◌, ◌<◌, ◌∷◌, ◌++◌, [], length, IfOk, IfErr, MatchOption};
 ghost use Rattle.std.specs.Prelude.{Some, drop, map, option_map, slice_get};
-ghost use Rattle.event_floor.specs.Chunks.{AreNumbered, class_drawn, ended_part, ended_parts};
-ghost use Rattle.region_cut.specs.Parts.{name_of, bytes_of};
+ghost use Rattle.event_floor.specs.Chunks.{class_drawn, ended_part, ended_parts};
+ghost use Rattle.region_cut.specs.Parts.{AreNumbered, name_of, bytes_of};
 ghost use Rattle.region_cut.specs.declared.part.Part.{Part};
 
 use crate::part_names::{PartNames, names_of};

@@ -1,9 +1,8 @@
 //! The floor.
 ghost use Rattle.std.specs.Prelude.{ℕ, List, [], ◌≡◌, ◌≤◌, ◌^◌, ◌++◌, length, flat_map, IfOk, IfErr, OnErr};
 ghost use Rattle.std.specs.Prelude.{Err};
-ghost use Rattle.region_cut.specs.Parts.{bytes_of};
+ghost use Rattle.region_cut.specs.Parts.{AreNumbered, bytes_of};
 ghost use Rattle.digit_route.specs.Limits.{largest_limit};
-ghost use Rattle.event_floor.specs.Chunks.{AreNumbered};
 ghost use Rattle.event_floor.specs.Floors.{desk_count, opening};
 ghost use Rattle.event_floor.specs.Steps.{Answers};
 ghost use Rattle.event_floor.specs.headline.Bytes.{Holds, KeepsBytes, EndsAsHeld};

@@ -3,7 +3,7 @@ ghost use Rattle.std.specs.Prelude.{◌≡◌, ◌≤◌, ◌*◌, ◌^◌, [], 
 ghost use Rattle.region_cut.specs.Limits.{chunk_limit};
 ghost use Rattle.slot_chain.specs.Buffer.{owner_limit};
 ghost use Rattle.digit_route.specs.Limits.{largest_limit};
-ghost use Rattle.event_floor.specs.Chunks.{AreNumbered};
+ghost use Rattle.region_cut.specs.Parts.{AreNumbered};
 ghost use Rattle.event_floor.specs.Floors.{desk_count, opening, IsFloor};
 ghost use Rattle.event_floor.specs.Lent.{chunk_places};
 ghost use Rattle.event_floor.specs.Desks.{new_desks};

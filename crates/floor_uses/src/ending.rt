@@ -5,8 +5,7 @@ ghost use Rattle.std.specs.List.{Contains};
 ghost use Rattle.region_cut.specs.Endings.{Ended, IsKnown, end_in};
 ghost use Rattle.region_cut.specs.Laws.{StandsAt};
 ghost use Rattle.region_cut.specs.Limits.{chunk_size};
-ghost use Rattle.region_cut.specs.Parts.{name_of, bytes_of};
-ghost use Rattle.event_floor.specs.Chunks.{AreNumbered};
+ghost use Rattle.region_cut.specs.Parts.{AreNumbered, name_of, bytes_of};
 
 use digit_route::Digits;
 use event_floor::{Floor, Refusal, Reply, Request, end_parts};

@@ -1,8 +1,7 @@
 //! All that a fabric is made of.
 ghost use Rattle.std.specs.Prelude.{◌≡◌, ◌≤◌, ◌^◌, map, IfOk};
-ghost use Rattle.region_cut.specs.Parts.{number_of};
+ghost use Rattle.region_cut.specs.Parts.{AreNumbered, number_of};
 ghost use Rattle.digit_route.specs.Limits.{largest_limit};
-ghost use Rattle.event_floor.specs.Chunks.{AreNumbered};
 ghost use Rattle.pool_fabric.specs.Opened.{most_desks};
 
 use crate::boxes::{Boxes, open_boxes};
