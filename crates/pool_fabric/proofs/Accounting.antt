@@ -4,9 +4,9 @@ use Rattle.std.specs.Prelude.{Option, Result, Ok, Err, IfOk, IfErr}
 use Rattle.std.proofs.lemmas.List.Sorted.{IsPermutation-refl, IsPermutation-append}
 use Rattle.region_cut.specs.declared.slot.Slot.{Slot}
 use Rattle.slot_chain.specs.Slots.{AddsSlots}
-use Rattle.trace_audit.specs.Audit.{FindsEachSlot, IsFault}
-use Rattle.trace_audit.specs.declared.auditing.fault.Fault.{Fault}
-use Rattle.trace_audit.specs.declared.auditing.fault.Fault.TheVariants.{Stranger, Doubled, Missing, NoMemory}
+use Rattle.slot_audit.specs.Audit.{FindsEachSlot, IsFault}
+use Rattle.slot_audit.specs.declared.fault.Fault.{Fault}
+use Rattle.slot_audit.specs.declared.fault.Fault.TheVariants.{Stranger, Doubled, Missing, NoMemory}
 use Rattle.pool_fabric.specs.Audited.{listed, Audited}
 
 pub adds_none : {A : Type 0} (f : A → List Slot) (xs : List A) (old : List Slot) → AddsSlots (listed f (take 0 xs)) old old

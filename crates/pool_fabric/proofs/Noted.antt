@@ -4,7 +4,7 @@ use Rattle.std.proofs.Math.Dec.{eqb}
 use Rattle.std.proofs.lemmas.Bool.Decides.{eqb_tells}
 use Rattle.std.specs.Prelude.{Option, true, false, slice_get, ◌==◌}
 use Rattle.pool_desk.specs.Desks.{DeskState}
-use Rattle.trace_audit.specs.Audit.{class_at}
+use Rattle.slot_audit.specs.Audit.{class_at}
 use Rattle.pool_fabric.specs.declared.ledger.DrawnChunk.{DrawnChunk}
 use Rattle.pool_fabric.specs.Weights.{weigh}
 use Rattle.pool_fabric.specs.Pages.{drawn_for}

@@ -7,7 +7,7 @@ use Rattle.std.proofs.lemmas.List.{get_or-reverse, length-reverse}
 use Rattle.std.proofs.lemmas.Option.{get_or_from_slice_get, slice_get_within, slice_get_read}
 use Rattle.region_cut.specs.declared.part.Part.{Part}
 use Rattle.region_cut.specs.Parts.{AreNumbered, number_of, numbers_from}
-use Rattle.trace_audit.specs.Audit.{class_at}
+use Rattle.slot_audit.specs.Audit.{class_at}
 use Rattle.pool_fabric.specs.declared.ledger.DrawnChunk.{DrawnChunk}
 use Rattle.pool_fabric.specs.Pages.{drawn_for}
 use Rattle.pool_fabric.specs.Stocks.{StockState, IsRising, AreChunks, AreApart, AreUndrawn, AreTold, IsFull, GivesPart}

@@ -14,7 +14,7 @@ use Rattle.slot_chain.specs.contracts.buf.Buf as Buf
 use Rattle.digit_route.proofs.Travels.{buf_send, batch_send, cache_send}
 use Rattle.pool_desk.proofs.Travels.{homes_send, desk_send}
 use Rattle.pool_desk.specs.contracts.idle.IdleDesk as IdleDesk
-use Rattle.trace_audit.specs.contracts.auditing.drawn.Drawn as Drawn
+use Rattle.slot_audit.specs.contracts.drawn.Drawn as Drawn
 use Rattle.batch_inbox.specs.declared.mail.Mailbox as Mailbox
 use Rattle.batch_inbox.specs.declared.mail.Receiver as Receiver
 use Rattle.batch_inbox.specs.declared.mail.Sender as Sender

@@ -5,9 +5,9 @@ use Rattle.digit_route.specs.States.{BatchState}
 use Rattle.pool_desk.specs.Desks.{DeskState, IdleState}
 use Rattle.pool_desk.specs.Slots.{slots_in}
 use Rattle.slot_chain.specs.Slots.{slot_of}
-use Rattle.trace_audit.specs.Audit.{FindsEachSlot, IsFault}
-use Rattle.trace_audit.specs.declared.auditing.fault.Fault.{Fault}
-use Rattle.trace_audit.specs.declared.auditing.fault.Fault.TheVariants.{NoMemory}
+use Rattle.slot_audit.specs.Audit.{FindsEachSlot, IsFault}
+use Rattle.slot_audit.specs.declared.fault.Fault.{Fault}
+use Rattle.slot_audit.specs.declared.fault.Fault.TheVariants.{NoMemory}
 
 -- the slots that one desk or batch has
 abbrev pub idle_slots : IdleState → List Slot

@@ -1,7 +1,7 @@
 -- What a contract sees of the stock of chunks.
 use Rattle.std.specs.Prelude.{◌≡◌, ◌≢◌, ℕ, ◌+◌, ◌<◌, ◌≤◌, List, [], ◌∷◌, ◌++◌, Option, Some, None, slice_get}
 use Rattle.region_cut.specs.declared.part.Part.{Part}
-use Rattle.trace_audit.specs.Audit.{class_at}
+use Rattle.slot_audit.specs.Audit.{class_at}
 use Rattle.pool_fabric.specs.Weights.{weigh}
 use Rattle.pool_fabric.specs.declared.ledger.DrawnChunk.{DrawnChunk}
 use Rattle.pool_fabric.specs.Accounts.{of_part, of_entry}

@@ -5,7 +5,7 @@ use Rattle.region_cut.specs.declared.slot.Slot.{Slot}
 use Rattle.region_cut.specs.declared.part.Part.{Part}
 use Rattle.slot_chain.specs.Buffer.{Buffer}
 use Rattle.digit_route.specs.States.{BatchState}
-use Rattle.trace_audit.specs.Audit.{class_at}
+use Rattle.slot_audit.specs.Audit.{class_at}
 use Rattle.pool_desk.specs.Desks.{DeskState}
 use Rattle.pool_fabric.specs.Weights.{weigh}
 use Rattle.pool_fabric.specs.Accounts.{of_buffer, of_batch, of_part, held, owed, drawn_by}

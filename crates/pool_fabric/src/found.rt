@@ -23,10 +23,10 @@ use batch_inbox::{Mail, Receiver, Sender};
 use digit_route::Batch;
 use pool_desk::Desk;
 use region_cut::Part;
+use slot_audit::Drawn;
 use slot_chain::Buf;
 use std::alloc::{AllocError, Global};
 use std::sync::Wait;
-use trace_audit::Drawn;
 
 /// Why nothing was gathered. What was handed in is then given up.
 #[derive(Clone, Copy, Debug, PartialEq, Eq)]

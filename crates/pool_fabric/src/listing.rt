@@ -6,9 +6,9 @@ ghost use Rattle.pool_fabric.specs.Audited.{idle_slots, held_slots, batch_slots,
 use digit_route::Batch;
 use pool_desk::{Desk, IdleDesk};
 use region_cut::Slot;
+use slot_audit::{Drawn, Fault, audit};
 use slot_chain::NoMemory;
 use std::alloc::Global;
-use trace_audit::{Drawn, Fault, audit};
 
 // Adds the slots of idle desks.
 fn list_idle(desks: &[IdleDesk<'_>], slots: &mut Vec<Slot>) -> Result<(), NoMemory>

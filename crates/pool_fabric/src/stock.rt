@@ -1,11 +1,11 @@
 //! The chunks that nobody drew yet.
 ghost use Rattle.std.specs.Prelude.{◌≡◌, ℕ, ◌<◌, [], ◌∷◌, ◌++◌, length, reverse, None, MatchOption};
-ghost use Rattle.trace_audit.specs.Audit.{class_at};
+ghost use Rattle.slot_audit.specs.Audit.{class_at};
 ghost use Rattle.pool_fabric.specs.Stocks.{IsRising, AreChunks, GivesPart, IsLeast};
 
 use region_cut::{Class, Part};
+use slot_audit::Drawn;
 use std::marker::Model;
-use trace_audit::Drawn;
 
 /// The parts of a region that no desk drew yet, and which chunks were drawn for which class.
 #[derive(Drop)]

@@ -2,7 +2,7 @@
 ghost use Rattle.std.specs.Prelude.{◌≡◌, ◌+◌, ◌-◌};
 ghost use Rattle.slot_chain.specs.Counts.{capped};
 
-use trace_audit::Fault;
+use slot_audit::Fault;
 
 /// What workers counted. Each count stops at the greatest `u64`.
 #[derive(Clone, Copy, Debug, PartialEq, Eq)]

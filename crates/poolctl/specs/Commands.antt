@@ -5,7 +5,7 @@ use Rattle.region_cut.specs.Classes.{classes_of}
 use Rattle.trace_audit.specs.Replay.{BeginsAudited, Fails, IsAudited, Reports, with_audit}
 use Rattle.trace_audit.specs.Report.{Verdict}
 use Rattle.trace_audit.specs.Wire.{Begins}
-use Rattle.trace_audit.specs.declared.auditing.fault.Fault.TheVariants.{NoMemory}
+use Rattle.slot_audit.specs.declared.fault.Fault.TheVariants.{NoMemory}
 use Rattle.trace_audit.specs.declared.replaying.ending.End.{End}
 use Rattle.trace_audit.specs.declared.replaying.ending.End.TheVariants.{Whole}
 use Rattle.trace_audit.specs.declared.replaying.ending.ReplayError.{ReplayError}

@@ -13,5 +13,4 @@ mod Tallies
 mod Goings
 mod Runs
 mod Replays
-mod Undrawn
 mod OnceOnFloors

@@ -11,12 +11,12 @@ use Rattle.pool_machine.specs.Laws.{ReachedIsSound}
 use Rattle.pool_machine.specs.Slots.{same_slot, times, one_if, has_index, is_drawn_slot}
 use Rattle.event_floor.specs.Floors.{FloorState}
 use Rattle.event_floor.specs.headline.ListsSlots.{FloorsListSlots, ListsSlots, slots_on, slots_with}
-use Rattle.trace_audit.specs.Audit.{class_at, slots_for, IsDrawnSlot, FindsEachSlot, IsFault}
+use Rattle.slot_audit.specs.Audit.{class_at, slots_for, IsDrawnSlot, FindsEachSlot, IsFault}
 use Rattle.trace_audit.specs.FloorSlots.{IsFaultOn, ShowsPool, TellsDrawn}
 use Rattle.trace_audit.specs.Replay.{FindsNothing}
 use Rattle.trace_audit.specs.Report.{Verdict}
-use Rattle.trace_audit.specs.declared.auditing.fault.Fault.{Fault}
-use Rattle.trace_audit.specs.declared.auditing.fault.Fault.TheVariants.{Stranger, Doubled, Missing, NoMemory}
+use Rattle.slot_audit.specs.declared.fault.Fault.{Fault}
+use Rattle.slot_audit.specs.declared.fault.Fault.TheVariants.{Stranger, Doubled, Missing, NoMemory}
 
 times_permuted : (s : Slot) (xs ys : List Slot) → IsPermutation xs ys → times s ys ≡ times s xs
 times_permuted s xs ys p = sum_by-IsPermutation (λ r. cond (same_slot s r) 1 0) xs ys p

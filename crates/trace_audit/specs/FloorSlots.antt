@@ -7,8 +7,8 @@ use Rattle.event_floor.specs.Chunks.{class_drawn}
 use Rattle.event_floor.specs.Floors.{FloorState}
 use Rattle.event_floor.specs.headline.Listing.{listing_of}
 use Rattle.event_floor.specs.headline.ListsSlots.{slots_on}
-use Rattle.trace_audit.specs.Audit.{FindsEachSlot, IsFault, class_at}
-use Rattle.trace_audit.specs.declared.auditing.fault.Fault.{Fault}
+use Rattle.slot_audit.specs.Audit.{FindsEachSlot, IsFault, class_at}
+use Rattle.slot_audit.specs.declared.fault.Fault.{Fault}
 
 -- of each chunk of a region, the class that the floor drew it for
 pub record TellsDrawn (v : FloorState) (drawn : List (Option ℕ)) : Type 0 where

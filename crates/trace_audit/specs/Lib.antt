@@ -7,6 +7,4 @@ pub mod Report
 pub mod Replay
 pub mod Steps
 pub mod Laws
-pub mod Audit
 pub mod FloorSlots
-pub mod Tallies

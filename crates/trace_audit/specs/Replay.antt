@@ -12,7 +12,7 @@ use Rattle.trace_audit.specs.Machine.{opening_of, told_of}
 use Rattle.trace_audit.specs.Trace.{BeginsWithHeader, IsTrace}
 use Rattle.trace_audit.specs.Report.{answer_line, bad_line, closing, no_memory_line, Verdict, audit_line}
 use Rattle.trace_audit.specs.Wire.{Begins}
-use Rattle.trace_audit.specs.declared.auditing.fault.Fault.TheVariants.{NoMemory}
+use Rattle.slot_audit.specs.declared.fault.Fault.TheVariants.{NoMemory}
 use Rattle.trace_audit.specs.declared.grammar.header.Header.{Header}
 use Rattle.trace_audit.specs.declared.replaying.ending.End.{End}
 use Rattle.trace_audit.specs.declared.replaying.ending.End.TheVariants.{Whole, BadLine, NoRoom}

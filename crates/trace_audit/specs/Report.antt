@@ -9,8 +9,8 @@ use Rattle.pool_machine.specs.declared.reply.Reply.TheVariants.{Counts as Handle
 use Rattle.pool_machine.specs.declared.refusal.Refusal.{Refusal}
 use Rattle.pool_machine.specs.Steps.{Answer}
 use Rattle.pool_machine.specs.RefusalNames.{refusal_number, refusal_name}
-use Rattle.trace_audit.specs.declared.auditing.fault.Fault.{Fault}
-use Rattle.trace_audit.specs.declared.auditing.fault.Fault.TheVariants.{Stranger, Doubled, Missing, NoMemory}
+use Rattle.slot_audit.specs.declared.fault.Fault.{Fault}
+use Rattle.slot_audit.specs.declared.fault.Fault.TheVariants.{Stranger, Doubled, Missing, NoMemory}
 use Rattle.trace_audit.specs.declared.report.closing.DeskCounts.{DeskCounts}
 use Rattle.trace_audit.specs.Machine.{Tally}
 

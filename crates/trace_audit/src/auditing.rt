@@ -1,76 +1,62 @@
-//! The audit: whether all slots of the drawn chunks are there, each of them once.
-ghost use Rattle.std.specs.Prelude.{◌≡◌, length, IfOk, IfErr};
-ghost use Rattle.trace_audit.specs.Audit.{FindsEachSlot, IsFault, IsStranger, IsNowhere};
-ghost use Rattle.trace_audit.specs.Limits.{place_limit};
-ghost use Rattle.trace_audit.specs.Tallies.{IsTally};
-ghost use Rattle.trace_audit.specs.declared.auditing.fault.Fault.TheVariants.{NoMemory};
+//! The audit of a floor.
+ghost use Rattle.std.specs.Prelude.{◌<◌, IfOk, IfErr, IsPermutation};
+ghost use Rattle.event_floor.specs.Floors.{desk_count};
+ghost use Rattle.event_floor.specs.headline.ListsSlots.{slots_on, slots_with};
+ghost use Rattle.trace_audit.specs.FloorSlots.{HasEachOnce, IsFaultOn, TellsDrawn};
 
-mod drawn;
-mod fault;
-mod floors;
-mod strangers;
-mod tallies;
-
-pub use drawn::Drawn;
-pub use fault::Fault;
-pub(crate) use floors::audit_floor;
-use region_cut::Slot;
+use event_floor::Floor;
+use region_cut::{MAX_CHUNKS, Slot};
+use slot_audit::{Drawn, Fault, audit};
+use slot_chain::NoMemory;
 use std::alloc::Global;
-use strangers::least_stranger;
-use tallies::{PLACES, least_with, tally, zeros};
 
-/// What the tally says of slots that are all of drawn chunks.
-fn judge(drawn: &Drawn, found: &[Slot], tallied: &[u8]) -> Result<(), Fault>
-    requires length { length tallied.now ≡ place_limit }
-    requires tally { IsTally drawn.now found.now tallied.now }
-    requires strangers { IsNowhere (IsStranger drawn.now found.now) }
-    ensures ok { IfOk result (λ _. FindsEachSlot drawn.now found.now) }
-    ensures err { IfErr result (λ fault. IsFault drawn.now found.now fault) }
+/// Which chunks of the floor are drawn.
+fn drawn_on(floor: &Floor<'_>) -> Drawn
+    ensures { TellsDrawn floor.now result }
 {
-    match least_with(drawn, tallied, 2) {
-        Some(slot) => Err(Fault::Doubled(slot)),
-        None => match least_with(drawn, tallied, 0) {
-            Some(slot) => Err(Fault::Missing(slot)),
-            None => Ok(()),
-        },
+    let mut drawn = Drawn::new();
+    for chunk in 0..MAX_CHUNKS as u16 {
+        if let Some(class) = floor.class_of(u32::from(chunk)) {
+            drawn.note(chunk, class);
+        }
     }
+    drawn
 }
 
-/// Whether each slot of each drawn chunk is found once, and nothing else is found.
-///
-/// `found` lists, in any order, all slots that a pool holds somewhere: at home, lent, in caches, in
-/// batches under way. A slot that was lost is missing from it, one that is held twice is doubled.
-/// Where several things are wrong, strangers come first, then doubled slots, then missing ones, and
-/// of each kind the least slot is named, by chunk and then index.
-///
-/// It takes time in the number of slots found, and a table of 262,144 bytes; it answers
-/// [`Fault::NoMemory`] only where that table was refused.
-///
-/// ```
-/// let mut drawn = Drawn::new();
-/// drawn.note(0, class);
-/// let found = [Slot { chunk: 0, index: 1 }, Slot { chunk: 0, index: 0 }];
-/// match audit(alloc, &found, &drawn) {
-///     Ok(()) => println!(rt; "each slot is there once")?,
-///     Err(Fault::Missing(slot)) => println!(rt; "{slot} was lost")?,
-///     Err(fault) => println!(rt; "{fault}")?,
-/// }
-/// ```
-pub fn audit(alloc: Global, found: &[Slot], drawn: &Drawn) -> Result<(), Fault>
-    ensures ok { IfOk result (λ _. FindsEachSlot drawn.now found.now) }
-    ensures err { IfErr result (λ fault. IsFault drawn.now found.now fault) }
-    ensures strangers { IfErr result (λ fault. fault ≡ NoMemory → IsNowhere (IsStranger drawn.now found.now)) }
+/// The slots with a desk: at home, in its cache and in its inbox.
+fn slots_with(alloc: Global, floor: &Floor<'_>, desk: u32) -> Result<Vec<Slot>, NoMemory>
+    requires { desk < desk_count floor.now }
+    ensures { IfOk result (λ slots. IsPermutation (slots_with floor.now desk) slots.items) }
 {
-    if let Some(slot) = least_stranger(drawn, found) {
-        return Err(Fault::Stranger(slot));
+    let mut slots = floor.home(alloc, desk)?;
+    let cached = floor.cached(alloc, desk)?;
+    slots.extend_from_slice(cached.as_slice())?;
+    let queued = floor.queued(alloc, desk)?;
+    slots.extend_from_slice(queued.as_slice())?;
+    Ok(slots)
+}
+
+/// The lent slots, and those with each desk.
+fn slots_on(alloc: Global, floor: &Floor<'_>) -> Result<Vec<Slot>, NoMemory>
+    ensures { IfOk result (λ slots. IsPermutation (slots_on floor.now) slots.items) }
+{
+    let mut slots = floor.lent(alloc)?;
+    let desks = floor.desk_count();
+    for desk in 0..desks {
+        let more = slots_with(alloc, floor, desk)?;
+        slots.extend_from_slice(more.as_slice())?;
     }
-    match zeros(alloc, PLACES) {
-        Ok(table) => {
-            let mut table = table;
-            let tallied = table.as_mut_slice();
-            tally(drawn, found, tallied);
-            judge(drawn, found, tallied)
-        }
+    Ok(slots)
+}
+
+/// Whether each slot of the floor's drawn chunks is in its lists just once: at home, lent, in caches and inboxes.
+pub(crate) fn audit_floor(alloc: Global, floor: &Floor<'_>) -> Result<(), Fault>
+    ensures ok { IfOk result (λ _. HasEachOnce floor.now) }
+    ensures err { IfErr result (λ fault. IsFaultOn floor.now fault) }
+{
+    let drawn = drawn_on(floor);
+    match slots_on(alloc, floor) {
+        Ok(found) => audit(alloc, found.as_slice(), &drawn),
         Err(_) => Err(Fault::NoMemory),
     }
 }

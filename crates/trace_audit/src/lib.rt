@@ -1,8 +1,7 @@
 //! Traces of a buffer pool: [`replay`] reads one, drives a floor with it, and writes a report; [`replay_audited`]
-//! audits the
-//! floor at its end.
+//! audits the floor at its end.
 //!
-//! [`audit`] says whether all slots of the chunks that a pool drew are there, each of them once.
+//! [`audit`], of `slot_audit`, says whether all slots of the chunks that a pool drew are there, each of them once.
 //!
 //! The formats of the trace and of the report stand in `docs/FORMATS.md`. A trace comes from a
 //! [`Source`], a report goes to a [`Sink`]; over readers and writers of std these are
@@ -17,8 +16,8 @@ mod replaying;
 mod report;
 mod wire;
 
-pub use auditing::{Drawn, Fault, audit};
 pub use grammar::Header;
 pub use replaying::{End, ReplayError, replay, replay_audited};
 pub use report::write_audit;
+pub use slot_audit::{Drawn, Fault, audit};
 pub use wire::{Failed, FromReader, Sink, Source, ToWriter, write_all};

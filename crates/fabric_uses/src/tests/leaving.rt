@@ -10,13 +10,13 @@ use inbox_uses::{Worker, deliver, put_seat, run_beside, take_last_seat};
 use pool_desk::{Desk, IdleDesk};
 use pool_fabric::account;
 use region_cut::{CHUNK, Class, Slot, cut};
+use slot_audit::{Drawn, Fault};
 use slot_chain::Buf;
 use std::alloc::Global;
 use std::process::Abort;
 use std::sync::Wait;
 use std::test::Fail;
 use std::thread::Threads;
-use trace_audit::{Drawn, Fault};
 
 // How often a desk is dropped.
 const RUNS: u32 = 20;

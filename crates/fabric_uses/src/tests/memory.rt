@@ -5,10 +5,10 @@ use batch_inbox::{SendSeat, TakeSeat};
 use digit_route::Digits;
 use pool_fabric::{Opening, account};
 use region_cut::{CHUNK, cut};
+use slot_audit::Fault;
 use std::alloc::Global;
 use std::process::Abort;
 use std::sync::Wait;
-use trace_audit::Fault;
 
 const DESKS: u16 = 4;
 

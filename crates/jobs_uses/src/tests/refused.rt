@@ -6,11 +6,11 @@ use pool_fabric::Opening;
 use pool_jobs::{Ended, NoGate, Plan, Tally, Workload, work};
 use rand_pcg::Pcg32;
 use region_cut::{CHUNK, cut};
+use slot_audit::Fault;
 use std::alloc::Global;
 use std::process::Abort;
 use std::sync::Wait;
 use std::thread::Threads;
-use trace_audit::Fault;
 
 // So many bytes. Where memory for them was refused, the next try works.
 fn bytes_of(rt: &impl Abort, alloc: Global, len: usize) -> Vec<u8> {

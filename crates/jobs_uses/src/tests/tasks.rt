@@ -4,10 +4,10 @@ ghost use Rattle.std.specs.Prelude.{◌≡◌};
 
 use super::{BOTH, Ground, Inboxes, Outcome, outcome_of};
 use pool_jobs::{Bytes, Channels, Heap, PoolError, Task};
+use slot_audit::Fault;
 use std::sync::Wait;
 use std::test::Fail;
 use std::thread;
-use trace_audit::Fault;
 
 // The size of each buffer. A chunk has eight slots of it.
 const SIZE: usize = 512;

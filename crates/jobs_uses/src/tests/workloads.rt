@@ -2,8 +2,8 @@
 
 use super::{BOTH, Ground, tally_of};
 use pool_jobs::{NoGate, Plan, Workload};
+use slot_audit::Fault;
 use std::test::Fail;
-use trace_audit::Fault;
 
 const ALL: [Workload; 3] = [Workload::ProdCons, Workload::Ring, Workload::Replace];
 

@@ -1,0 +1,3 @@
+pub mod Limits
+pub mod Audit
+pub mod Tallies

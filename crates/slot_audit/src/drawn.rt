@@ -1,0 +1,83 @@
+//! Which chunks are drawn.
+ghost use Rattle.std.specs.Prelude.{◌≡◌, ◌≢◌, ◌<◌, ℕ, Some, None, length};
+ghost use Rattle.slot_audit.specs.Audit.{class_at, slots_in};
+ghost use Rattle.slot_audit.specs.Tallies.{FitsTable};
+
+use region_cut::{Class, MAX_CHUNKS};
+use std::marker::Model;
+
+/// Which chunks of a region are drawn, and for which class each of them is. Contracts see it as the
+/// list of the chunks' classes, by the chunk's number.
+#[derive(Debug, Drop)]
+pub struct Drawn {
+    classes: [Option<Class>; MAX_CHUNKS],
+}
+
+impl Model for Drawn {
+    ghost use Rattle.std.specs.Prelude.{ℕ, Option, List};
+    ghost use Rattle.slot_audit.specs.Tallies.{FitsTable};
+
+    ghost Value = { List (Option ℕ) };
+
+    ghost view = { λ d. d.classes };
+
+    ghost invariant = { λ d. FitsTable d.classes };
+}
+
+/// So many chunks, none of them drawn.
+fn undrawn<const N: usize>() -> [Option<Class>; N]
+    ensures len { length result ≡ N }
+    ensures none { (k : ℕ) → class_at result k ≡ None }
+{
+    [None; N]
+}
+
+impl Drawn {
+    /// No chunk is drawn.
+    pub fn new() -> Drawn
+        ensures { (k : ℕ) → class_at result k ≡ None }
+    {
+        Drawn { classes: undrawn() }
+    }
+
+    /// The chunk is drawn for the class.
+    pub fn note(&mut self, chunk: u16, class: Class)
+        requires { chunk < 1024 }
+        ensures noted { class_at self.new chunk ≡ Some class }
+        ensures others { (k : ℕ) → k ≢ chunk → class_at self.new k ≡ class_at self.old k }
+    {
+        self.classes[chunk as usize] = Some(class);
+    }
+
+    /// The class that the chunk is drawn for, or `None` where it isn't drawn.
+    pub fn class_of(&self, chunk: u16) -> Option<Class>
+        ensures { result ≡ class_at self.now chunk }
+    {
+        if (chunk as usize) < MAX_CHUNKS {
+            self.classes[chunk as usize]
+        } else {
+            None
+        }
+    }
+
+    /// How many chunks it tells of.
+    pub(crate) fn chunks(&self) -> usize
+        ensures value { result ≡ 1024 }
+        ensures fits { FitsTable self.now }
+    {
+        let classes = &self.classes;
+        classes.len()
+    }
+
+    /// How many slots the chunk has: none where it isn't drawn.
+    pub(crate) fn slots_in(&self, chunk: u16) -> usize
+        ensures value { result ≡ slots_in self.now chunk }
+        ensures fits { FitsTable self.now }
+    {
+        let _ = &self.classes;
+        match self.class_of(chunk) {
+            Some(class) => class.slots(),
+            None => 0,
+        }
+    }
+}

@@ -1,6 +1,0 @@
-use Rattle.std.proofs.Common.{rules}
-use Rattle.trace_audit.proofs.Undrawn.{undrawn_fits}
-use Rattle.trace_audit.proofs.auditing.drawn.Drawn.new.Goals as goal
-
-pub invariant_of-result : goal.invariant_of-result
-invariant_of-result c = undrawn_fits _ (search rules) c.undrawn.ensures.none

@@ -1,6 +1,0 @@
-use Rattle.std.proofs.Common.{arith}
-use Rattle.std.proofs.lemmas.Grind.{common_steps}
-use Rattle.trace_audit.proofs.auditing.strangers.least_stranger.Goals as goal
-
-pub loop-slot-preserved : goal.loop-slot-preserved
-loop-slot-preserved c = grind (arith, common_steps)

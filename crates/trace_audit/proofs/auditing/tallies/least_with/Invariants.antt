@@ -1,8 +1,0 @@
-use Rattle.std.proofs.Common.{◌<◌, ◌+◌, ◌*◌}
-use Rattle.region_cut.specs.declared.slot.Slot.{Slot}
-use Rattle.trace_audit.specs.Tallies.{HasCount}
-use Rattle.trace_audit.proofs.auditing.tallies.least_with.Given as goal
-
--- no slot of a lesser place has the count
-abbrev pub invariant-loop-at : goal.invariant-loop-at
-invariant-loop-at l = (s : Slot) → s.chunk * 256 + s.index < l.at → HasCount l.drawn l.table l.count s → ⊥

@@ -1,6 +1,0 @@
-use Rattle.std.proofs.Common.{arith}
-use Rattle.std.proofs.lemmas.Grind.{common_steps}
-use Rattle.trace_audit.proofs.auditing.tallies.place_of.Goals as goal
-
-pub returns-then-is_drawn_slot-clause-some : goal.returns-then-is_drawn_slot-clause-some
-returns-then-is_drawn_slot-clause-some c = grind (arith, common_steps)

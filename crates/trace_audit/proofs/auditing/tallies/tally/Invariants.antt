@@ -1,6 +1,0 @@
-use Rattle.std.proofs.Common.{take}
-use Rattle.trace_audit.specs.Tallies.{IsTally}
-use Rattle.trace_audit.proofs.auditing.tallies.tally.Given as goal
-
-abbrev pub invariant-loop-slot : goal.invariant-loop-slot
-invariant-loop-slot l = IsTally l.drawn (take l.slot-index l.found) l.table
