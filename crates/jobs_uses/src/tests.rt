@@ -16,7 +16,7 @@ ghost use Rattle.std.specs.Prelude.{◌≤◌};
 use digit_route::Digits;
 use pool_fabric::Opening;
 use pool_jobs::{
-    Finished, Gate, NoGate, Plan, Tally, Task, Workload, run, run_linked, work, work_linked,
+    Ended, Finished, Gate, NoGate, Plan, Tally, Task, Workload, run, run_linked, work, work_linked,
 };
 use rand_pcg::Pcg32;
 use region_cut::{CHUNK, cut};
@@ -44,7 +44,60 @@ struct Ground {
     inboxes: Inboxes,
 }
 
-// The workload over this ground.
+// The workload over a pool of this region, whose desks have queues, at its end.
+fn over_queues<'r, G: Gate + Sync, R: AllocGlobal + Threads + Wait + Sync>(
+    rt: &R,
+    region: &'r mut Vec<u8>,
+    gate: &G,
+    ground: Ground,
+    workload: Workload,
+    plan: &Plan,
+) -> Result<Ended<'r>, Fail>
+    requires { (1 ≤ ground.desks) × (ground.desks ≤ 64) × (ground.limit ≤ 1048576) }
+{
+    let alloc = rt.alloc();
+    let parts = cut(alloc, region.as_mut_slice())?;
+    let digits = Digits::new(ground.width).ok_or("a width")?;
+    let opening = Opening::new(alloc, parts, ground.desks, digits, ground.limit)?;
+    Ok(work::<G, Pcg32, R>(rt, alloc, opening, gate, workload, plan)?)
+}
+
+// The workload over a pool of this region, whose desks have linked inboxes, at its end.
+fn over_links<'r, G: Gate + Sync, R: AllocGlobal + Threads + Wait + Sync>(
+    rt: &R,
+    region: &'r mut Vec<u8>,
+    gate: &G,
+    ground: Ground,
+    workload: Workload,
+    plan: &Plan,
+) -> Result<Ended<'r>, Fail>
+    requires { (1 ≤ ground.desks) × (ground.desks ≤ 64) × (ground.limit ≤ 1048576) }
+{
+    let alloc = rt.alloc();
+    let parts = cut(alloc, region.as_mut_slice())?;
+    let digits = Digits::new(ground.width).ok_or("a width")?;
+    let opening = Opening::new(alloc, parts, ground.desks, digits, ground.limit)?;
+    Ok(work_linked::<G, Pcg32, R>(rt, alloc, opening, gate, workload, plan)?)
+}
+
+// The workload over this ground, at its end.
+fn ended_over<'r, G: Gate + Sync, R: AllocGlobal + Threads + Wait + Sync>(
+    rt: &R,
+    region: &'r mut Vec<u8>,
+    gate: &G,
+    ground: Ground,
+    workload: Workload,
+    plan: &Plan,
+) -> Result<Ended<'r>, Fail>
+    requires { (1 ≤ ground.desks) × (ground.desks ≤ 64) × (ground.limit ≤ 1048576) }
+{
+    match ground.inboxes {
+        Inboxes::Queues => over_queues(rt, region, gate, ground, workload, plan),
+        Inboxes::Links => over_links(rt, region, gate, ground, workload, plan),
+    }
+}
+
+// What it counted.
 fn tally_of<G: Gate + Sync, R: AllocGlobal + Threads + Wait + Sync>(
     rt: &R,
     gate: &G,
@@ -54,22 +107,8 @@ fn tally_of<G: Gate + Sync, R: AllocGlobal + Threads + Wait + Sync>(
 ) -> Result<Tally, Fail>
     requires { (1 ≤ ground.desks) × (ground.desks ≤ 64) × (ground.limit ≤ 1048576) × (ground.chunks ≤ 1024) }
 {
-    let alloc = rt.alloc();
-    let mut region = Vec::from_elem(alloc, 0u8, ground.chunks * CHUNK)?;
-    let parts = cut(alloc, region.as_mut_slice())?;
-    let digits = Digits::new(ground.width).ok_or("a width")?;
-    match ground.inboxes {
-        Inboxes::Queues => {
-            let opening = Opening::new(alloc, parts, ground.desks, digits, ground.limit)?;
-            let ended = work::<G, Pcg32, R>(rt, alloc, opening, gate, workload, plan)?;
-            Ok(ended.tally)
-        }
-        Inboxes::Links => {
-            let opening = Opening::new(alloc, parts, ground.desks, digits, ground.limit)?;
-            let ended = work_linked::<G, Pcg32, R>(rt, alloc, opening, gate, workload, plan)?;
-            Ok(ended.tally)
-        }
-    }
+    let mut region = Vec::from_elem(rt.alloc(), 0u8, ground.chunks * CHUNK)?;
+    Ok(ended_over(rt, &mut region, gate, ground, workload, plan)?.tally)
 }
 
 // What tasks answered and counted.

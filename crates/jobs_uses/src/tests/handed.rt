@@ -1,10 +1,8 @@
 //! Workloads hand over what they allocate.
 
-use digit_route::Digits;
-use pool_fabric::Opening;
-use pool_jobs::{Gate, Plan, Workload, work};
-use rand_pcg::Pcg32;
-use region_cut::{CHUNK, cut};
+use super::{BOTH, Ground, Inboxes, ended_over};
+use pool_jobs::{Gate, Plan, Workload};
+use region_cut::CHUNK;
 use std::sync::Wait;
 use std::sync::atomic::{AtomicBool, Ordering};
 use std::test::Fail;
@@ -42,15 +40,15 @@ impl Gate for BothAtWork {
 // How many batches two workers leave in their inboxes, whose caches are never due before the end.
 fn batches_left<R: AllocGlobal + Threads + Wait + Sync>(
     rt: &R,
+    inboxes: Inboxes,
     workload: Workload,
 ) -> Result<usize, Fail> {
-    let alloc = rt.alloc();
-    let mut region = Vec::from_elem(alloc, 0u8, 64 * CHUNK)?;
-    let parts = cut(alloc, region.as_mut_slice())?;
-    let digits = Digits::new(2).ok_or("two bits")?;
-    let opening = Opening::new(alloc, parts, 2, digits, 1_048_576)?;
-    let gate = BothAtWork {
-        is_answered: AtomicBool::new(false),
+    let ground = Ground {
+        chunks: 64,
+        desks: 2,
+        width: 2,
+        limit: 1_048_576,
+        inboxes,
     };
     let plan = Plan {
         count: 20,
@@ -58,7 +56,11 @@ fn batches_left<R: AllocGlobal + Threads + Wait + Sync>(
         seed: 1,
         drop_first: false,
     };
-    let ended = work::<BothAtWork, Pcg32, R>(rt, alloc, opening, &gate, workload, &plan)?;
+    let gate = BothAtWork {
+        is_answered: AtomicBool::new(false),
+    };
+    let mut region = Vec::from_elem(rt.alloc(), 0u8, ground.chunks * CHUNK)?;
+    let ended = ended_over(rt, &mut region, &gate, ground, workload, &plan)?;
     Ok(ended.found.batches.len())
 }
 
@@ -67,8 +69,10 @@ fn batches_left<R: AllocGlobal + Threads + Wait + Sync>(
 // its own has nothing to post.
 #[test]
 fn what_is_handed_over_is_posted(rt: HostRuntime) -> Result<(), Fail> {
-    assert_eq!(rt; batches_left(&rt, Workload::ProdCons)?, 1);
-    assert_eq!(rt; batches_left(&rt, Workload::Ring)?, 2);
-    assert_eq!(rt; batches_left(&rt, Workload::Replace)?, 0);
+    for inboxes in BOTH {
+        assert_eq!(rt; batches_left(&rt, inboxes, Workload::ProdCons)?, 1);
+        assert_eq!(rt; batches_left(&rt, inboxes, Workload::Ring)?, 2);
+        assert_eq!(rt; batches_left(&rt, inboxes, Workload::Replace)?, 0);
+    }
     Ok(())
 }
