@@ -10,7 +10,7 @@ what comes out where there is memory. With `--most N` at most N allocations of a
 
 The tests are the built ones, `crates/NAME/out/NAME_tests`, which `rt ci` and `rt test` leave; where a crate has none,
 or one that is older than its sources, `rt test` makes it first. A small library that stands before the C library's
-refuses the allocation; `cc`, or the kit's clang, compiles it.
+refuses the allocation.
 
 Prints a line for each crate, and one for each refusal that a test doesn't bear. The exit status is 1 where there is
 one, and 2 where a test can't be run.
@@ -19,11 +19,12 @@ import argparse
 import concurrent.futures
 import os
 import pathlib
-import shutil
 import subprocess
 import sys
 import tempfile
 import time
+
+import before_libc
 
 TOP = pathlib.Path(__file__).resolve().parent.parent
 SECONDS = 60
@@ -83,19 +84,6 @@ void _exit(int status) {
     __builtin_unreachable();
 }
 """
-
-
-def compiled(folder):
-    """The library, compiled into the folder."""
-    source, library = folder / "refuse.c", folder / "refuse.so"
-    source.write_text(LIBRARY)
-    kit = pathlib.Path(os.path.realpath(shutil.which("rt") or "rt")).parent.parent
-    for compiler in ["cc", "gcc", "clang", str(kit / "toolchain" / "bin" / "clang")]:
-        if shutil.which(compiler):
-            words = [compiler, "-O1", "-shared", "-fPIC", "-o", str(library), str(source), "-ldl"]
-            if subprocess.run(words, capture_output=True).returncode == 0:
-                return library
-    sys.exit("no compiler of C makes the library that refuses an allocation")
 
 
 def is_fresh(program, crate):
@@ -168,7 +156,7 @@ def main():
     names = asked.crates or sorted(path.name for path in (TOP / "crates").glob("*_uses"))
     bad = False
     with tempfile.TemporaryDirectory() as work:
-        library = compiled(pathlib.Path(work))
+        library = before_libc.compiled(LIBRARY, pathlib.Path(work))
         for name in names:
             start = time.monotonic()
             name, _, words = name.partition(":")

@@ -1,18 +1,23 @@
 #!/usr/bin/env python3
-"""Runs the built program `poolctl` for each row of the table of exit statuses in docs/FORMATS.md.
+"""Runs the built program `poolctl` for each row of the table of exit statuses in docs/FORMATS.md: its tests.
 
 Compares the status, the words on standard error and what stands on standard output. Want of memory is had by a limit
 on the program's memory: each limit from where the program starts to where it is done is tried, and whatever it says
-must be one of the table's rows; each row must come up.
+must be one of the table's rows; each row must come up. Reads and writes that fail at a given call are had by a small
+library that stands before the C library's.
 
 The program is `crates/poolctl/out/poolctl`, which `rt ci` and `rt run` leave. Where it is missing, or older than a
 source, `rt run` makes it first. Prints a line for each row; the exit status is 1 where one is not as it should be.
 """
+import errno
 import os
 import pathlib
 import resource
 import subprocess
 import sys
+import tempfile
+
+import before_libc
 
 TOP = pathlib.Path(__file__).resolve().parent.parent
 CRATE = TOP / "crates" / "poolctl"
@@ -31,16 +36,96 @@ TRAVEL = (
     b"desk 7 home 8 cached 0 queued 0\ndesk 11 home 8 cached 0 queued 0\n"
     b"desk 27 home 8 cached 0 queued 0\nend chunks 3 lent 0 home 24 cached 0 queued 0\n"
 )
-ROUTE = b"digits 3\nfrom 3 1 0\nowner 3 2 1\ncommon 1\n"
-CLASSES = b"".join(
-    b"%d %d %d %d\n" % row
-    for row in [
-        (0, 16, 256, 0), (1, 32, 128, 0), (2, 48, 85, 16), (3, 64, 64, 0), (4, 80, 51, 16), (5, 96, 42, 64),
-        (6, 112, 36, 64), (7, 128, 32, 0), (8, 160, 25, 96), (9, 192, 21, 64), (10, 224, 18, 64), (11, 256, 16, 0),
-        (12, 320, 12, 256), (13, 384, 10, 256), (14, 448, 9, 64), (15, 512, 8, 0),
-    ]
-)  # fmt: skip
+CLASS_ROWS = [
+    (0, 16, 256, 0), (1, 32, 128, 0), (2, 48, 85, 16), (3, 64, 64, 0), (4, 80, 51, 16), (5, 96, 42, 64),
+    (6, 112, 36, 64), (7, 128, 32, 0), (8, 160, 25, 96), (9, 192, 21, 64), (10, 224, 18, 64), (11, 256, 16, 0),
+    (12, 320, 12, 256), (13, 384, 10, 256), (14, 448, 9, 64), (15, 512, 8, 0), (16, 640, 6, 256), (17, 768, 5, 256),
+    (18, 896, 4, 512), (19, 1024, 4, 0),
+]  # fmt: skip
+CLASSES, CLASSES2 = (b"".join(b"%d %d %d %d\n" % row for row in CLASS_ROWS[:count]) for count in (16, 20))
+# The words of a route, and the digits of both numbers and how many they share.
+ROUTES = [
+    ("route 2 0 27", "0 0 0", "3 2 1", 0),
+    ("route 2 7 27", "3 1 0", "3 2 1", 1),
+    ("route 6 5 5", "5", "5", 1),
+    ("route 4 17 33", "1 1", "1 2", 1),
+    ("route 1 0 32", "0 0 0 0 0 0", "0 0 0 0 0 1", 5),
+    ("route 5 63 31", "31 1", "31 0", 1),
+    ("route2 5 0 4095", "0 0 0", "31 31 3", 0),
+    ("route2 6 65 129", "1 1", "1 2", 1),
+]
+# Words that are refused, and the text: all of it, but for what clap says behind every refusal.
+MORE = "\n\nFor more information, try '--help'.\n"
+REFUSALS = [
+    (
+        "",
+        "error: 'poolctl' requires a subcommand but one was not provided\n"
+        "  [subcommands: classes, classes2, route, route2, replay, work, help]\n\nUsage: poolctl <COMMAND>",
+    ),
+    (
+        "reply",
+        "error: unrecognized subcommand 'reply'\n\n  tip: a similar subcommand exists: 'replay'\n\n"
+        "Usage: poolctl <COMMAND>",
+    ),
+    ("classes 3", "error: unexpected argument '3' found\n\nUsage: poolctl classes"),
+    (
+        "work juggle",
+        "error: no workload has this name [possible values: prodcons, ring, replace]\n\n"
+        "Usage: poolctl work [OPTIONS] <NAME>",
+    ),
+]
+OUT_OF_RANGE = [
+    *("route 0 0 0", "route 7 0 0", "route 2 64 0", "route2 2 0 4096", "route 2 0 x"),
+    *("work ring --threads 1", "work ring --threads 65", "work ring --count 0", "work ring --count 100001"),
+    *("work ring --rounds 0", "work ring --rounds 1001", "work ring --chunks 1025", "work ring --width 0"),
+    *("work ring --width 7", "work ring --limit 1048577", "work ring --seed 4294967296"),
+]
+HELP = {
+    "--help": ["Usage: poolctl <COMMAND>", "  classes   Print the size classes", "  replay    Replay a trace"],
+    "replay --help": ["Usage: poolctl replay [OPTIONS]", "      --audit  Audit the pool at the end"],
+}
 
+# Reads of standard input fail from the call FAIL_READ on, writes to standard output from FAIL_WRITE on, both with the
+# error FAIL_WITH. The file CALLED gets a letter for each such call.
+LIBRARY = r"""
+#define _GNU_SOURCE
+#include <dlfcn.h>
+#include <errno.h>
+#include <fcntl.h>
+#include <stdlib.h>
+#include <unistd.h>
+
+static long reads, writes;
+
+static long number(const char *name) {
+    const char *text = getenv(name);
+    return text ? strtol(text, 0, 10) : 0;
+}
+
+static int fails(long *count, const char *from, const char *letter) {
+    static ssize_t (*next)(int, const void *, size_t);
+    if (!next) next = dlsym(RTLD_NEXT, "write");
+    int file = open(getenv("CALLED"), O_WRONLY | O_CREAT | O_APPEND, 0600);
+    if (file < 0 || next(file, letter, 1) != 1) abort();
+    close(file);
+    *count += 1;
+    if (!number(from) || *count < number(from)) return 0;
+    errno = number("FAIL_WITH");
+    return 1;
+}
+
+ssize_t read(int file, void *piece, size_t size) {
+    static ssize_t (*next)(int, void *, size_t);
+    if (!next) next = dlsym(RTLD_NEXT, "read");
+    return file == 0 && fails(&reads, "FAIL_READ", "r") ? -1 : next(file, piece, size);
+}
+
+ssize_t write(int file, const void *piece, size_t size) {
+    static ssize_t (*next)(int, const void *, size_t);
+    if (!next) next = dlsym(RTLD_NEXT, "write");
+    return file == 1 && fails(&writes, "FAIL_WRITE", "w") ? -1 : next(file, piece, size);
+}
+"""
 
 
 def tally(name, threads, allocated, freed, starved, lost, audit):
@@ -58,15 +143,16 @@ def is_fresh():
     return PROGRAM.exists() and all(path.stat().st_mtime <= PROGRAM.stat().st_mtime for path in sources)
 
 
-def ran(words, given=b"", memory=None, **streams):
-    """The status, standard output and standard error of the program with these words."""
+def ran(words, given=b"", memory=None, more=None, **streams):
+    """The status, standard output and standard error of the program with these words, in an environment with more."""
 
     def limit():
         if memory:
             resource.setrlimit(resource.RLIMIT_AS, (memory, memory))
 
     how = {"stdin": subprocess.PIPE, "stdout": subprocess.PIPE, "stderr": subprocess.PIPE, **streams}
-    started = subprocess.Popen([PROGRAM, *words], preexec_fn=limit, cwd="/", **how)
+    environment = {**os.environ, **(more or {})}
+    started = subprocess.Popen([PROGRAM, *words], preexec_fn=limit, cwd="/", env=environment, **how)
     out, err = started.communicate(given if how["stdin"] == subprocess.PIPE else None, timeout=120)
     return started.returncode, out, err
 
@@ -93,8 +179,13 @@ def is_error(text):
     return text.startswith(b"error: ") and text.endswith(b"For more information, try '--help'.\n")
 
 
-def is_help(text):
-    return b"Usage: poolctl" in text and not text.startswith(b"error: ")
+def is_out_of_range(text):
+    return text.startswith(b"error: invalid value") and is_error(text)
+
+
+def is_help(text, parts):
+    has_parts = all(part.encode() in text for part in parts)
+    return b"Usage: poolctl" in text and not text.startswith(b"error: ") and has_parts
 
 
 def done():
@@ -103,7 +194,10 @@ def done():
     row("0: a whole trace", ran(["replay"], GOOD), 0, REPORT, b"")
     row("0: a whole trace, audited", ran(["replay", "--audit"], GOOD), 0, REPORT + b"audit yes\n", b"")
     row("0: the classes", ran(["classes"]), 0, CLASSES, b"")
-    row("0: a route", ran(["route", "2", "7", "27"]), 0, ROUTE, b"")
+    row("0: all classes", ran(["classes2"]), 0, CLASSES2, b"")
+    for words, one, other, common in ROUTES:
+        text = f"digits {len(one.split())}\nfrom {one}\nowner {other}\ncommon {common}\n"
+        row(f"0: {words}", ran(words.split()), 0, text.encode(), b"")
 
 
 def worked():
@@ -129,15 +223,20 @@ def worked():
 def stopped():
     row("1: a bad line", ran(["replay"], CUT), 1, CUT_REPORT, b"")
     row("1: a bad line, audited", ran(["replay", "--audit"], CUT), 1, CUT_REPORT + b"audit yes\n", b"")
-    row("1: a bad header", ran(["replay", "--audit"], b"pool 0 1 2\n"), 1, b"R17 BadLine 1\n", b"")
+    row("1: a bad header", ran(["replay"], b"pool 0 1 2\n"), 1, b"R17 BadLine 1\n", b"")
+    row("1: no audit behind a bad header", ran(["replay", "--audit"], b"pool 0 1 2\n"), 1, b"R17 BadLine 1\n", b"")
 
 
 def refused():
-    for words in [[], ["reply"], ["classes", "3"], ["route", "7", "0", "0"], ["route", "2", "0"], ["replay", "--audits"],
-                  ["work"], ["work", "juggle"], ["work", "ring", "--threads", "1"], ["work", "ring", "--width", "7"]]:
-        row(f"2: {' '.join(words) or 'no words'}", ran(words, GOOD), 2, b"", is_error)
-    for words in [["--help"], ["-h"], ["help"], ["help", "replay"], ["replay", "--help"], ["work", "--help"]]:
-        row(f"2: {' '.join(words)}", ran(words, GOOD), 2, b"", is_help)
+    for words, text in REFUSALS:
+        row(f"2: {words or 'no words'}", ran(words.split(), GOOD), 2, b"", (text + MORE).encode())
+    for words in ["route 2 0", "replay --audits", "work"]:
+        row(f"2: {words}", ran(words.split(), GOOD), 2, b"", is_error)
+    for words in OUT_OF_RANGE:
+        row(f"2: {words}", ran(words.split()), 2, b"", is_out_of_range)
+    for words in ["--help", "-h", "help", "help replay", "replay --help", "work --help"]:
+        parts = HELP.get(words, [])
+        row(f"2: {words}", ran(words.split(), GOOD), 2, b"", lambda text: is_help(text, parts))
     row("2: a word that is no UTF-8", ran([b"\xff"]), 2, b"", b"poolctl: a word is not UTF-8\n")
 
 
@@ -155,6 +254,26 @@ def streams():
     ends = os.pipe()
     os.close(ends[0])
     row("3: nobody reads standard output", ran(["classes"], stdout=ends[1]), 3, None, write)
+
+
+def failing():
+    """Reads and writes that fail at a given call: which calls were made, the last of them the failed one."""
+    read, write = b"poolctl: read failed\n", b"poolctl: write failed\n"
+    replies = REPORT[: REPORT.index(b"desk")]
+    with tempfile.TemporaryDirectory() as folder:
+        folder = pathlib.Path(folder)
+        library, called = before_libc.compiled(LIBRARY, folder), folder / "called"
+        for name, words, fails, with_error, out, err, calls in [
+            ("the rest is written behind a failed read", ["replay"], {"READ": 2}, errno.EIO, replies, read, "rrw"),
+            ("the rest can't be written", ["replay"], {"READ": 2, "WRITE": 1}, errno.EIO, b"", write, "rrw"),
+            ("nothing follows a failed write", ["classes"], {"WRITE": 1}, errno.EPIPE, b"", write, "w"),
+            ("nothing follows a failed write of a report", ["replay"], {"WRITE": 1}, errno.ENOSPC, b"", write, "rrw"),
+        ]:
+            more = {f"FAIL_{kind}": str(call) for kind, call in fails.items()}
+            more |= {"FAIL_WITH": str(with_error), "LD_PRELOAD": str(library), "CALLED": str(called)}
+            called.write_text("")
+            row(f"3: {name}", ran(words, GOOD, more=more), 3, out, err)
+            tell(f"3: {name}: the calls", called.read_text() == calls, called.read_text())
 
 
 def memory():
@@ -195,6 +314,7 @@ def main():
     stopped()
     refused()
     streams()
+    failing()
     memory()
     print(f"{len(failed)} rows of the table failed")
     sys.exit(1 if failed else 0)

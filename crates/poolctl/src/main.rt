@@ -8,8 +8,6 @@ mod lines;
 mod outcome;
 mod route;
 mod streams;
-#[cfg(test)]
-mod tests;
 mod words;
 mod work;
 

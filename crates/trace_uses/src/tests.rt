@@ -1,5 +1,6 @@
 //! Traces and their reports, byte for byte, and what an audit answers.
 
+mod adapters;
 mod audited;
 mod audits;
 mod bad_lines;
