@@ -13,8 +13,9 @@ mod workloads;
 
 ghost use Rattle.std.specs.Prelude.{◌≤◌};
 
+use batch_inbox::{Receiver, Sender};
 use digit_route::Digits;
-use pool_fabric::Opening;
+use pool_fabric::{NewMail, Opening};
 use pool_jobs::{
     Ended, Finished, Gate, NoGate, Plan, Tally, Task, Workload, run, run_linked, work, work_linked,
 };
@@ -44,40 +45,18 @@ struct Ground {
     inboxes: Inboxes,
 }
 
-// The workload over a pool of this region, whose desks have queues, at its end.
-fn over_queues<'r, G: Gate + Sync, R: AllocGlobal + Threads + Wait + Sync>(
+// All that a pool over this ground is made of, in this region.
+fn opening_over<'r, T: Receiver, S: Sender, M: NewMail<T, S>, R: AllocGlobal>(
     rt: &R,
     region: &'r mut Vec<u8>,
-    gate: &G,
     ground: Ground,
-    workload: Workload,
-    plan: &Plan,
-) -> Result<Ended<'r>, Fail>
+) -> Result<Opening<'r, M, T, S>, Fail>
     requires { (1 ≤ ground.desks) × (ground.desks ≤ 64) × (ground.limit ≤ 1048576) }
 {
     let alloc = rt.alloc();
     let parts = cut(alloc, region.as_mut_slice())?;
     let digits = Digits::new(ground.width).ok_or("a width")?;
-    let opening = Opening::new(alloc, parts, ground.desks, digits, ground.limit)?;
-    Ok(work::<G, Pcg32, R>(rt, alloc, opening, gate, workload, plan)?)
-}
-
-// The workload over a pool of this region, whose desks have linked inboxes, at its end.
-fn over_links<'r, G: Gate + Sync, R: AllocGlobal + Threads + Wait + Sync>(
-    rt: &R,
-    region: &'r mut Vec<u8>,
-    gate: &G,
-    ground: Ground,
-    workload: Workload,
-    plan: &Plan,
-) -> Result<Ended<'r>, Fail>
-    requires { (1 ≤ ground.desks) × (ground.desks ≤ 64) × (ground.limit ≤ 1048576) }
-{
-    let alloc = rt.alloc();
-    let parts = cut(alloc, region.as_mut_slice())?;
-    let digits = Digits::new(ground.width).ok_or("a width")?;
-    let opening = Opening::new(alloc, parts, ground.desks, digits, ground.limit)?;
-    Ok(work_linked::<G, Pcg32, R>(rt, alloc, opening, gate, workload, plan)?)
+    Ok(Opening::new(alloc, parts, ground.desks, digits, ground.limit)?)
 }
 
 // The workload over this ground, at its end.
@@ -91,9 +70,16 @@ fn ended_over<'r, G: Gate + Sync, R: AllocGlobal + Threads + Wait + Sync>(
 ) -> Result<Ended<'r>, Fail>
     requires { (1 ≤ ground.desks) × (ground.desks ≤ 64) × (ground.limit ≤ 1048576) }
 {
+    let alloc = rt.alloc();
     match ground.inboxes {
-        Inboxes::Queues => over_queues(rt, region, gate, ground, workload, plan),
-        Inboxes::Links => over_links(rt, region, gate, ground, workload, plan),
+        Inboxes::Queues => {
+            let opening = opening_over(rt, region, ground)?;
+            Ok(work::<G, Pcg32, R>(rt, alloc, opening, gate, workload, plan)?)
+        }
+        Inboxes::Links => {
+            let opening = opening_over(rt, region, ground)?;
+            Ok(work_linked::<G, Pcg32, R>(rt, alloc, opening, gate, workload, plan)?)
+        }
     }
 }
 
@@ -128,15 +114,13 @@ where
 {
     let alloc = rt.alloc();
     let mut region = Vec::from_elem(alloc, 0u8, ground.chunks * CHUNK)?;
-    let parts = cut(alloc, region.as_mut_slice())?;
-    let digits = Digits::new(ground.width).ok_or("a width")?;
     let finished = match ground.inboxes {
         Inboxes::Queues => {
-            let opening = Opening::new(alloc, parts, ground.desks, digits, ground.limit)?;
+            let opening = opening_over(rt, &mut region, ground)?;
             run(rt, alloc, opening, &NoGate, tasks)?
         }
         Inboxes::Links => {
-            let opening = Opening::new(alloc, parts, ground.desks, digits, ground.limit)?;
+            let opening = opening_over(rt, &mut region, ground)?;
             run_linked(rt, alloc, opening, &NoGate, tasks)?
         }
     };
