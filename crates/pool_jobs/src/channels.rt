@@ -1,5 +1,5 @@
 //! The channels between tasks.
-ghost use Rattle.std.specs.Prelude.{◌≡◌, IfErr};
+ghost use Rattle.std.specs.Prelude.{◌≡◌, length, IfOk, IfErr};
 
 use crate::task::Task;
 use crossbeam_channel::{Receiver, Sender};
@@ -48,7 +48,9 @@ impl<B: Drop> Channels<B> {
 pub(crate) fn channels_of<B: Drop, K: Task>(
     alloc: Global,
     tasks: &[K],
-) -> Result<Vec<Channels<B>>, AllocError> {
+) -> Result<Vec<Channels<B>>, AllocError>
+    ensures each { IfOk result (λ all. length all.items ≡ length tasks.now) }
+{
     let mut senders = Vec::new(alloc);
     let mut receivers = Vec::new(alloc);
     for _task in tasks {

@@ -1,4 +1,6 @@
 //! Jobs in threads of their own.
+ghost use Rattle.std.specs.Prelude.{◌≡◌, [], length, None, IfOk};
+
 use crate::error::JobError;
 use std::alloc::Global;
 use std::sync::Wait;
@@ -12,7 +14,7 @@ pub trait Job: Drop {
     fn run<R: Wait>(self, rt: &R) -> Self::Out;
 }
 
-/// Runs each job in a thread of its own, and gives what they gave, in order. All threads that were
+/// Runs each job in a thread of its own, and gives what each gave, in order. All threads that were
 /// started have ended when the call returns; after an error what they gave is let go.
 pub fn crew<J: Job + Send, R: Threads + Wait + Sync>(
     rt: &R,
@@ -21,36 +23,47 @@ pub fn crew<J: Job + Send, R: Threads + Wait + Sync>(
 ) -> Result<Vec<J::Out>, JobError>
 where
     J::Out: Send,
+    ensures each { IfOk result (λ outs. length outs.items ≡ length jobs.items) }
 {
     let Ok(handles) = Vec::with_capacity(alloc, jobs.len()) else {
         return Err(JobError::NoMemory);
     };
-    thread::scope(thread::scope_env(), rt, |scope| {
-        let mut handles = handles;
-        let mut fault = None;
-        for job in jobs {
-            match scope.spawn(move || job.run(rt)) {
-                Ok(handle) => {
-                    if let Err(_full) = handles.push(handle) {
-                        fault = Some(JobError::NoMemory);
+    thread::scope(
+        thread::scope_env(),
+        rt,
+        |scope| -> Result<Vec<J::Out>, JobError>
+            requires { handles.items ≡ [] }
+            ensures { IfOk result (λ outs. length outs.items ≡ length jobs.items) }
+        {
+            let mut handles = handles;
+            let mut fault = None;
+            for job in jobs {
+                match scope.spawn(move || job.run(rt)) {
+                    Ok(handle) => {
+                        if let Err(_full) = handles.push(handle) {
+                            fault = Some(JobError::NoMemory);
+                        }
+                    }
+                    Err(_refused) => {
+                        fault = Some(JobError::NoThread);
                     }
                 }
-                Err(_refused) => {
-                    fault = Some(JobError::NoThread);
-                }
             }
-        }
-        joined::<J, R>(rt, alloc, handles, fault)
-    })
+            joined::<J, R>(rt, alloc, handles, fault)
+        },
+    )
 }
 
-// Joins all threads.
+// Joins all threads. A fault that there was stays.
 fn joined<J: Job, R: Threads>(
     rt: &R,
     alloc: Global,
     handles: Vec<JoinHandle<J::Out>>,
     fault: Option<JobError>,
-) -> Result<Vec<J::Out>, JobError> {
+) -> Result<Vec<J::Out>, JobError>
+    ensures each { IfOk result (λ outs. length outs.items ≡ length handles.items) }
+    ensures fault { IfOk result (λ _. fault ≡ None) }
+{
     let mut outs = Vec::new(alloc);
     let mut fault = fault;
     for handle in handles {

@@ -1,4 +1,6 @@
 //! A worker that does one task.
+ghost use Rattle.std.specs.Prelude.{◌≡◌, length, IfOk};
+
 use crate::allocator::Entrance;
 use crate::buffer::Buffer;
 use crate::channels::{Channels, channels_of};
@@ -133,6 +135,7 @@ where
     H::Buffer: Send,
     H::Left: Send,
     K::Answer: Send,
+    ensures each { IfOk result (λ all. length all.items ≡ length tasks.items) }
 {
     let Ok(channels) = channels_of::<H::Buffer, K>(alloc, &tasks) else {
         return Err(JobError::NoMemory);
@@ -164,7 +167,9 @@ pub(crate) struct Reports<H: Hand, K: Task> {
 pub(crate) fn reports_of<H: Hand, K: Task>(
     alloc: Global,
     all: Vec<Served<H, K>>,
-) -> Result<Reports<H, K>, AllocError> {
+) -> Result<Reports<H, K>, AllocError>
+    ensures each { IfOk result (λ r. length r.answers.items ≡ length all.items) }
+{
     let mut lefts = Vec::new(alloc);
     let mut answers = Vec::new(alloc);
     for served in all {

@@ -1,5 +1,5 @@
 //! Tasks and workloads over the inbox of two atomic steps.
-ghost use Rattle.std.specs.Prelude.{◌≡◌, ◌-◌, IfOk};
+ghost use Rattle.std.specs.Prelude.{◌≡◌, ◌-◌, length, IfOk};
 ghost use Rattle.pool_fabric.specs.Whole.{IsWhole, IsEachDesk, AreNoted};
 ghost use Rattle.pool_fabric.specs.Audited.{Audited};
 ghost use Rattle.pool_jobs.specs.Ends.{slots_found};
@@ -162,6 +162,7 @@ where
     J: Naming + Send + Sync,
     R: Threads + Wait + Sync,
     K::Answer: Send,
+    ensures each { IfOk result (λ answers. length answers.items ≡ length tasks.items) }
 {
     let served = all_served(rt, alloc, hands, tasks)?;
     let Ok(Reports { lefts, answers }) = reports_of(alloc, served) else {
@@ -194,6 +195,7 @@ where
     ensures drawn { IfOk result (λ e. AreNoted e.found.desks.items e.found.drawn) }
     ensures audit { IfOk result (λ e. Audited (slots_found e.found.desks.items e.found.batches.items)
         e.found.drawn e.tally.audit) }
+    ensures answers { IfOk result (λ e. length e.answers.items ≡ length tasks.items) }
     ensures lost { IfOk result (λ e. e.tally.counts.lost ≡ e.tally.counts.allocated - e.tally.counts.freed) }
 {
     let wanted = tasks.len().min(MOST_THREADS as usize) as u32;
@@ -234,6 +236,7 @@ where
     ensures drawn { IfOk result (λ e. AreNoted e.found.desks.items e.found.drawn) }
     ensures audit { IfOk result (λ e. Audited (slots_found e.found.desks.items e.found.batches.items)
         e.found.drawn e.tally.audit) }
+    ensures answers { IfOk result (λ e. length e.answers.items ≡ length tasks.items) }
     ensures lost { IfOk result (λ e. e.tally.counts.lost ≡ e.tally.counts.allocated - e.tally.counts.freed) }
 {
     ran::<G, K, Brand, R>(rt, alloc, opening, gate, tasks)
