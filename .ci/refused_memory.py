@@ -3,10 +3,10 @@
 
     python3 .ci/refused_memory.py [--most N] [CRATE[:WORD,..] ..]
 
-takes the tests of these crates, or of all crates of callers (`NAME_uses`); behind a colon those whose names have one
-of the words. A test has to hold whichever one of its allocations is refused: it ends by itself, and what it compares
-is as it has to be. Of a crate in `WRITTEN_FOR_IT` only the tests with these words are written so; the others compare
-what comes out where there is memory. With `--most N` at most N allocations of a test are refused, spread evenly.
+takes the tests of these crates, or of all that have some; behind a colon those whose names have one of the words.
+A test has to hold whichever one of its allocations is refused: it ends by itself, and what it compares is as it has
+to be. Of a crate in `WRITTEN_FOR_IT` only the tests with these words are written so; the others compare what comes
+out where there is memory. With `--most N` at most N allocations of a test are refused, spread evenly.
 
 The tests are the built ones, `crates/NAME/out/NAME_tests`, which `rt ci` and `rt test` leave; where a crate has none,
 or one that is older than its sources, `rt test` makes it first. A small library that stands before the C library's
@@ -30,9 +30,9 @@ TOP = pathlib.Path(__file__).resolve().parent.parent
 SECONDS = 60
 WRITTEN_FOR_IT = {
     "fabric_uses": "memory::",
-    "inbox_uses": "deep::,dropped::,order::,users::",
+    "inbox_tests": "deep::,dropped::,order::,users::",
     "jobs_uses": "refused::",
-    "link_uses": "deep::,dropped::,half::,nodes::,order::,users::",
+    "link_tests": "deep::,dropped::,half::,nodes::,order::,users::",
     "trace_uses": "growing,each_slot_once,the_least_fault_is_named,the_number_is_not_enough",
 }
 
@@ -151,9 +151,9 @@ def tried(library, program, test, most, counted):
 def main():
     parser = argparse.ArgumentParser(description="Runs tests with each of their allocations refused in turn.")
     parser.add_argument("--most", type=int, help="refuse at most so many allocations of a test")
-    parser.add_argument("crates", nargs="*", help="names of crates; none: all crates of callers")
+    parser.add_argument("crates", nargs="*", help="names of crates; none: all that have tests")
     asked = parser.parse_args()
-    names = asked.crates or sorted(path.name for path in (TOP / "crates").glob("*_uses"))
+    names = asked.crates or sorted(path.parent.parent.name for path in (TOP / "crates").glob("*/src/tests.rt"))
     bad = False
     with tempfile.TemporaryDirectory() as work:
         library = before_libc.compiled(LIBRARY, pathlib.Path(work))

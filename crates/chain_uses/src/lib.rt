@@ -1,5 +1,4 @@
-//! Callers of `region_cut` and `slot_chain` together: what they learn from the contracts, and the
-//! tests that cross the two crates.
+//! Callers of `region_cut` and `slot_chain` together: what they learn from the contracts.
 //!
 //! The pool itself calls nothing of this crate.
 #![tactic(auto)]
@@ -7,8 +6,6 @@
 mod crossing;
 mod filling;
 mod knowing;
-#[cfg(test)]
-mod tests;
 mod walking;
 mod writing;
 

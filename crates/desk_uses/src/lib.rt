@@ -1,5 +1,4 @@
-//! Callers of `pool_desk`: what they learn from its contracts, and the tests that cross it and the
-//! crates below.
+//! Callers of `pool_desk`: what they learn from its contracts.
 //!
 //! The pool itself calls nothing of this crate.
 #![tactic(auto)]
@@ -7,8 +6,6 @@
 mod callers;
 mod crossing;
 mod living;
-#[cfg(test)]
-mod tests;
 
 pub use callers::{cached_were_passed_on_few_times, lend_and_take_back, written};
 pub use crossing::{desk_crosses, idle_desk_crosses};

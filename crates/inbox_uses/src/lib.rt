@@ -1,4 +1,4 @@
-//! Callers of `batch_inbox`: what they learn from its contracts, and its tests, with real threads.
+//! Callers of `batch_inbox`: what they learn from its contracts, and senders and receivers in threads for its tests.
 //!
 //! The pool itself calls nothing of this crate.
 #![tactic(auto)]
@@ -11,8 +11,6 @@ mod seating;
 mod supply;
 mod taking;
 mod tally;
-#[cfg(test)]
-mod tests;
 mod workers;
 
 pub use counting::Counting;

@@ -1,4 +1,4 @@
-//! Callers of `link_inbox`: what they learn from its contracts, and its tests, with real threads.
+//! Callers of `link_inbox`: what they learn from its contracts, and senders and receivers in threads for its tests.
 //!
 //! The pool itself calls nothing of this crate.
 #![tactic(auto)]
@@ -8,8 +8,6 @@ mod ending;
 mod seating;
 mod sending;
 mod taking;
-#[cfg(test)]
-mod tests;
 
 pub use crossing::{
     attached_crosses, inbox_crosses, inbox_is_shared, send_seat_crosses, take_seat_crosses,

@@ -1,5 +1,0 @@
-use Rattle.std.proofs.Common.{length}
-use Rattle.chain_uses.proofs.tests.bytes.mark_each.Given as goal
-
-abbrev pub decreases-loop-buf : goal.decreases-loop-buf
-decreases-loop-buf l = length l.chain

@@ -1,5 +1,0 @@
-use Rattle.std.proofs.Common.{◌≡◌}
-use Rattle.inbox_uses.proofs.tests.order.post_some.Given as goal
-
-abbrev pub invariant-loop-number : goal.invariant-loop-number
-invariant-loop-number g l = (l.seat.inbox ≡ l.initial.seat.inbox) × (l.seat.sender ≡ l.initial.seat.sender)
