@@ -5,8 +5,9 @@
 
 takes the tests of these crates, or of all that have some; behind a colon those whose names have one of the words.
 A test has to hold whichever one of its allocations is refused: it ends by itself, and what it compares is as it has
-to be. Of a crate in `WRITTEN_FOR_IT` only the tests with these words are written so; the others compare what comes
-out where there is memory. With `--most N` at most N allocations of a test are refused, spread evenly.
+to be. Of a crate in `WRITTEN_FOR_IT` only the tests with these words are written so, and of one in
+`NOT_WRITTEN_FOR_IT` none; the others compare what comes out where there is memory. With `--most N` at most N
+allocations of a test are refused, spread evenly.
 
 The tests are the built ones, `crates/NAME/out/NAME_tests`, which `rt ci` and `rt test` leave; where a crate has none,
 or one that is older than its sources, `rt test` makes it first. A small library that stands before the C library's
@@ -35,6 +36,7 @@ WRITTEN_FOR_IT = {
     "link_tests": "deep::,dropped::,half::,nodes::,order::,users::",
     "trace_uses": "growing,each_slot_once,the_least_fault_is_named,the_number_is_not_enough",
 }
+NOT_WRITTEN_FOR_IT = {"work_tests"}
 
 # Counts the allocations, and answers none for the one whose number is in REFUSE. At the end it tells the count.
 LIBRARY = r"""
@@ -153,7 +155,8 @@ def main():
     parser.add_argument("--most", type=int, help="refuse at most so many allocations of a test")
     parser.add_argument("crates", nargs="*", help="names of crates; none: all that have tests")
     asked = parser.parse_args()
-    names = asked.crates or sorted(path.parent.parent.name for path in (TOP / "crates").glob("*/src/tests.rt"))
+    with_tests = {path.parent.parent.name for path in (TOP / "crates").glob("*/src/tests.rt")}
+    names = asked.crates or sorted(with_tests - NOT_WRITTEN_FOR_IT)
     bad = False
     with tempfile.TemporaryDirectory() as work:
         library = before_libc.compiled(LIBRARY, pathlib.Path(work))
