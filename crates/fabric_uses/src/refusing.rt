@@ -3,9 +3,8 @@ ghost use Rattle.std.specs.Prelude.{◌≡◌, ℕ, ◌≤◌, [], ◌++◌, len
 ghost use Rattle.batch_inbox.specs.States.{SendState, AreSeatsOf, left};
 ghost use Rattle.batch_inbox.specs.Views.{batches_of};
 
-use batch_inbox::{Inbox, Mail, Mailbox, PostError, Rest, SendSeat, TakeSeat};
+use batch_inbox::{Inbox, Mail, Mailbox, NewMail, PostError, Rest, SendSeat, TakeSeat};
 use digit_route::{Batch, Digits};
-use pool_fabric::NewMail;
 use slot_chain::NoMemory;
 use std::alloc::Global;
 use std::sync::Wait;

@@ -7,8 +7,10 @@ ghost use Rattle.link_inbox.specs.States.{SendState, AreSeatsOf};
 use crate::inbox::LinkInbox;
 use crate::rest::Rest;
 use crate::seats::{SendSeat, TakeSeat};
-use batch_inbox::{Mail, Mailbox, PostError, Receiver, Remainder, Sender};
-use digit_route::Batch;
+use batch_inbox::{Mail, Mailbox, NewMail, PostError, Receiver, Remainder, Sender};
+use digit_route::{Batch, Digits};
+use slot_chain::NoMemory;
+use std::alloc::Global;
 use std::sync::Wait;
 
 impl<'r> Sender for SendSeat<'r> {
@@ -82,5 +84,16 @@ impl<'r> Mail<'r> for LinkInbox<'r> {
 
     fn sender(seat: &SendSeat<'r>) -> u16 {
         seat.sender()
+    }
+}
+
+impl<'r> NewMail<TakeSeat<'r>, SendSeat<'r>> for LinkInbox<'r> {
+    fn new_mail(
+        alloc: Global,
+        address: u16,
+        digits: Digits,
+        senders: u16,
+    ) -> Result<(LinkInbox<'r>, TakeSeat<'r>, Vec<SendSeat<'r>>), NoMemory> {
+        LinkInbox::new(alloc, address, digits, senders)
     }
 }

@@ -8,7 +8,6 @@ use Rattle.std.proofs.Crossing.{crosses, Vec-send, Vec-sync}
 use Rattle.std.proofs.option.Option.TheSendSync.{the_send as option_send}
 use Rattle.atomic_blocks.proofs.web.Seat.TheSendSync.{the_send as pass_send}
 use Rattle.atomic_blocks.proofs.web.Web.TheSendSync.{the_sync as line_sync}
-use Rattle.atomic_table.proofs.shared.Seat.TheSendSync.{the_send as token_send}
 use Rattle.region_cut.proofs.part.Part.TheSendSync.{the_send as part_send}
 use Rattle.slot_chain.specs.contracts.buf.Buf as Buf
 use Rattle.digit_route.proofs.Travels.{buf_send, batch_send, cache_send}
@@ -21,8 +20,6 @@ use Rattle.batch_inbox.specs.declared.mail.Sender as Sender
 use Rattle.batch_inbox.specs.contracts.inbox.Inbox as Inbox
 use Rattle.batch_inbox.specs.contracts.seats.TakeSeat as TakeSeat
 use Rattle.batch_inbox.specs.contracts.seats.SendSeat as SendSeat
-use Rattle.link_inbox.specs.contracts.seats.TakeSeat as LinkTakeSeat
-use Rattle.link_inbox.specs.contracts.seats.SendSeat as LinkSendSeat
 use Rattle.pool_fabric.specs.declared.naming.Naming as Naming
 use Rattle.pool_fabric.specs.contracts.ledger.Ledger as Ledger
 use Rattle.pool_fabric.specs.contracts.ledger.Page as Page
@@ -45,7 +42,7 @@ send_fields D all = recorded_send (Struct (shape D)) _ D.to D.to_one (struct_sen
 sync_fields : (D : Declared) → AllSync (fields D) → IsSync (row D)
 sync_fields D all = recorded_sync (Struct (shape D)) _ D.to D.to_one (struct_sync (shape D) all)
 
--- the two inboxes and their seats
+-- an inbox and its seats
 
 pub take_send : (a : NamedLft) → IsSend (TakeSeat.the_row a)
 take_send a = search (sendable, crosses, pass_send, option_send, batch_send) depth 40 fits 6000
@@ -55,12 +52,6 @@ seat_send a = search (sendable, crosses, pass_send, option_send, batch_send) dep
 
 pub inbox_sync : (a : NamedLft) → IsSync (Inbox.the_row a)
 inbox_sync a = search (sendable, crosses, line_sync, option_send, batch_send) depth 40 fits 6000
-
-pub link_take_send : (a : NamedLft) → IsSend (LinkTakeSeat.the_row a)
-link_take_send a = search (sendable, crosses, token_send, option_send, batch_send) depth 40 fits 6000
-
-pub link_seat_send : (a : NamedLft) → IsSend (LinkSendSeat.the_row a)
-link_seat_send a = search (sendable, crosses, token_send, option_send, batch_send) depth 40 fits 6000
 
 -- what a station has beside its seats
 

@@ -3,9 +3,8 @@ ghost use Rattle.std.specs.Prelude.{◌≡◌, ◌≤◌, length, map, IfOk};
 ghost use Rattle.pool_fabric.specs.Gathered.{taking_of};
 ghost use Rattle.pool_fabric.specs.Opened.{AreOpened};
 
-use crate::new_mail::NewMail;
 use crate::row::Row;
-use batch_inbox::{Mailbox, Receiver, Sender};
+use batch_inbox::{Mailbox, NewMail, Receiver, Sender};
 use digit_route::Digits;
 use slot_chain::NoMemory;
 use std::alloc::Global;

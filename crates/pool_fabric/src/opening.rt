@@ -6,9 +6,8 @@ ghost use Rattle.pool_fabric.specs.Opened.{most_desks};
 
 use crate::boxes::{Boxes, open_boxes};
 use crate::ledger::{Ledger, Page};
-use crate::new_mail::NewMail;
 use crate::stock::Stock;
-use batch_inbox::{Mailbox, Receiver, Sender};
+use batch_inbox::{Mailbox, NewMail, Receiver, Sender};
 use digit_route::Digits;
 use region_cut::Part;
 use slot_chain::NoMemory;

@@ -8,9 +8,9 @@ mod workloads;
 
 ghost use Rattle.std.specs.Prelude.{◌≤◌};
 
-use batch_inbox::{Receiver, Sender};
+use batch_inbox::{NewMail, Receiver, Sender};
 use digit_route::Digits;
-use pool_fabric::{NewMail, Opening};
+use pool_fabric::Opening;
 use pool_jobs::{
     Ended, Finished, Gate, NoGate, Plan, Tally, Task, Workload, run, run_linked, work, work_linked,
 };

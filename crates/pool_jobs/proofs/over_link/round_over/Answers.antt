@@ -1,17 +1,17 @@
 use denote.Exit.{no}
 use denote.Param.Send.{param_send, param_sync, arg_send}
 use mir.Syntax.{named}
-use Rattle.link_inbox.proofs.Travels.{link_inbox_sync}
-use Rattle.pool_fabric.proofs.Travels.{fabric_sync, link_take_send, link_seat_send}
+use Rattle.link_inbox.proofs.Travels.{link_inbox_sync, take_send, seat_send}
+use Rattle.pool_fabric.proofs.Travels.{fabric_sync}
 use Rattle.pool_jobs.proofs.Travels.{applicant_send, done_send}
 use Rattle.pool_jobs.proofs.over_link.round_over.Goals as goal
 
 pub one_round-requires-send-S : goal.one_round-requires-send-S
 one_round-requires-send-S g c κs within =
     param_send _ _ (arg_send _ no _ (applicant_send (record { mir = named 5; lft = _ }) (record { mir = named 6; lft = _ }) _ _ _ _ _ _ _ _ _ _
-    (fabric_sync (record { mir = named 6; lft = _ }) _ _ _ _ _ _ _ _ (link_inbox_sync (record { mir = named 6; lft = _ })) (link_take_send (record { mir = named 6; lft = _ })) (link_seat_send (record { mir = named 6; lft = _ })))
-    c.type_bounds.sync-G (link_take_send (record { mir = named 6; lft = _ })) (link_seat_send (record { mir = named 6; lft = _ })) c.type_bounds.send-N))
+    (fabric_sync (record { mir = named 6; lft = _ }) _ _ _ _ _ _ _ _ (link_inbox_sync (record { mir = named 6; lft = _ })) (take_send (record { mir = named 6; lft = _ })) (seat_send (record { mir = named 6; lft = _ })))
+    c.type_bounds.sync-G (take_send (record { mir = named 6; lft = _ })) (seat_send (record { mir = named 6; lft = _ })) c.type_bounds.send-N))
 
 pub one_round-requires-send-S-Left : goal.one_round-requires-send-S-Left
 one_round-requires-send-S-Left g c κs within =
-    param_send _ _ (arg_send _ no _ (done_send (record { mir = named 6; lft = _ }) _ _ _ _ _ _ (link_take_send (record { mir = named 6; lft = _ })) (link_seat_send (record { mir = named 6; lft = _ }))))
+    param_send _ _ (arg_send _ no _ (done_send (record { mir = named 6; lft = _ }) _ _ _ _ _ _ (take_send (record { mir = named 6; lft = _ })) (seat_send (record { mir = named 6; lft = _ }))))

@@ -1,17 +1,17 @@
 use denote.Exit.{no}
 use denote.Param.Send.{param_send, arg_send}
 use mir.Syntax.{named}
-use Rattle.link_inbox.proofs.Travels.{link_inbox_sync}
-use Rattle.pool_fabric.proofs.Travels.{fabric_sync, link_take_send, link_seat_send}
+use Rattle.link_inbox.proofs.Travels.{link_inbox_sync, take_send, seat_send}
+use Rattle.pool_fabric.proofs.Travels.{fabric_sync}
 use Rattle.pool_jobs.proofs.Travels.{counting_send, done_send}
 use Rattle.pool_jobs.proofs.over_link.served_over.Goals as goal
 
 pub all_served-requires-send-H : goal.all_served-requires-send-H
 all_served-requires-send-H g c κs within =
     param_send _ _ (arg_send _ no _ (counting_send (record { mir = named 7; lft = _ }) (record { mir = named 8; lft = _ }) _ _ _ _ _ _ _ _ _
-    (fabric_sync (record { mir = named 8; lft = _ }) _ _ _ _ _ _ _ _ (link_inbox_sync (record { mir = named 8; lft = _ })) (link_take_send (record { mir = named 8; lft = _ })) (link_seat_send (record { mir = named 8; lft = _ })))
-    c.type_bounds.sync-G (link_take_send (record { mir = named 8; lft = _ })) (link_seat_send (record { mir = named 8; lft = _ }))))
+    (fabric_sync (record { mir = named 8; lft = _ }) _ _ _ _ _ _ _ _ (link_inbox_sync (record { mir = named 8; lft = _ })) (take_send (record { mir = named 8; lft = _ })) (seat_send (record { mir = named 8; lft = _ })))
+    c.type_bounds.sync-G (take_send (record { mir = named 8; lft = _ })) (seat_send (record { mir = named 8; lft = _ }))))
 
 pub all_served-requires-send-H-Left : goal.all_served-requires-send-H-Left
 all_served-requires-send-H-Left g c κs within =
-    param_send _ _ (arg_send _ no _ (done_send (record { mir = named 8; lft = _ }) _ _ _ _ _ _ (link_take_send (record { mir = named 8; lft = _ })) (link_seat_send (record { mir = named 8; lft = _ }))))
+    param_send _ _ (arg_send _ no _ (done_send (record { mir = named 8; lft = _ }) _ _ _ _ _ _ (take_send (record { mir = named 8; lft = _ })) (seat_send (record { mir = named 8; lft = _ }))))

@@ -1,14 +1,14 @@
 //! Inboxes that can be made new.
 ghost use Rattle.std.specs.Prelude.{◌≡◌, ℕ, true, ◌≤◌, [], length, Some, slice_get, IfOk};
 
-use batch_inbox::{Inbox, Mailbox, Receiver, SendSeat, Sender, TakeSeat};
+use crate::mail::{Mailbox, Receiver, Sender};
+use crate::{Inbox, SendSeat, TakeSeat};
 use digit_route::Digits;
-use link_inbox::LinkInbox;
 use slot_chain::NoMemory;
 use std::alloc::Global;
 
-/// An inbox that can be made new, with its seats. Whoever has an inbox of his own implements it, so
-/// that a fabric can be opened over it.
+/// An inbox that can be made new, with its seats. Whoever has a queue of their own implements it, so
+/// that a pool can be opened over it.
 pub trait NewMail<T: Receiver, S: Sender>: Mailbox + Sized {
     /// An empty inbox of the desk `address`, with the seat of its receiver and those of its senders,
     /// numbered from 0.
@@ -37,23 +37,5 @@ impl<'r> NewMail<TakeSeat<'r>, SendSeat<'r>> for Inbox<'r> {
         senders: u16,
     ) -> Result<(Inbox<'r>, TakeSeat<'r>, Vec<SendSeat<'r>>), NoMemory> {
         Inbox::new(alloc, address, digits, senders)
-    }
-}
-
-impl<'r> NewMail<link_inbox::TakeSeat<'r>, link_inbox::SendSeat<'r>> for LinkInbox<'r> {
-    fn new_mail(
-        alloc: Global,
-        address: u16,
-        digits: Digits,
-        senders: u16,
-    ) -> Result<
-        (
-            LinkInbox<'r>,
-            link_inbox::TakeSeat<'r>,
-            Vec<link_inbox::SendSeat<'r>>,
-        ),
-        NoMemory,
-    > {
-        LinkInbox::new(alloc, address, digits, senders)
     }
 }
