@@ -1,5 +1,5 @@
 //! What all workers share.
-ghost use Rattle.std.specs.Prelude.{◌≡◌, ◌<◌, ◌≤◌, [], ◌++◌, map, length, All, IsTrue, IfErr, IfSome, MatchResult};
+ghost use Rattle.std.specs.Prelude.{◌≡◌, ◌<◌, ◌≤◌, [], ◌++◌, map, length, All, IsTrue, IfOk, IfErr, IfSome, MatchResult};
 ghost use Rattle.slot_chain.specs.Buffer.{Buffer};
 ghost use Rattle.digit_route.specs.Digits.{common};
 ghost use Rattle.pool_fabric.specs.Names.{box_at};
@@ -87,6 +87,35 @@ impl<'r, T: Receiver, S: Sender, M: Mail<'r, TakeSeat = T, SendSeat = S>, J: Nam
         }
     }
 
+    // Posts all of a desk's cache, round by round. At `Ok` nothing is left; at `Err` a batch was
+    // refused, or its address has no inbox, and that batch and the rest are in the cache.
+    fn post_until_refused<R: Wait>(
+        &self,
+        rt: &R,
+        desk: Desk<'r>,
+        seats: &mut [S],
+    ) -> Result<Desk<'r>, Desk<'r>>
+        requires digits { desk.digits ≡ J.names.digits }
+        requires seats { AreSeatsBy J.names desk.number (map (seat_of S.inbox S.number S.sent S.resting) seats.old) }
+        ensures same { MatchResult result
+            (λ d. d ≡ record desk.entry { cached = d.cached })
+            (λ d. d ≡ record desk.entry { cached = d.cached }) }
+        ensures seats { AreSeatsBy J.names desk.entry.number
+            (map (seat_of S.inbox S.number S.sent S.resting) seats.new) }
+        ensures posts { let seat = seat_of S.inbox S.number S.sent S.resting in MatchResult result
+            (λ d. Posts desk.entry.cached (map seat seats.old) d.cached (map seat seats.new))
+            (λ d. Posts desk.entry.cached (map seat seats.old) d.cached (map seat seats.new)) }
+        ensures all { IfOk result (λ d. d.cached ≡ []) }
+    {
+        let mut posting = desk.posting();
+        while let Some(batch) = posting.next_batch() {
+            if let Err(batch) = self.post_one(rt, seats, batch) {
+                return Err(posting.refused(batch));
+            }
+        }
+        Ok(posting.end())
+    }
+
     /// Posts all of a desk's cache, round by round. It ends where a batch is refused, or where its
     /// address has no inbox; that batch and the rest stay in the cache.
     pub fn post_all<R: Wait>(&self, rt: &R, desk: Desk<'r>, seats: &mut [S]) -> Desk<'r>
@@ -99,13 +128,10 @@ impl<'r, T: Receiver, S: Sender, M: Mail<'r, TakeSeat = T, SendSeat = S>, J: Nam
             desk.entry.cached (map (seat_of S.inbox S.number S.sent S.resting) seats.old)
             result.cached (map (seat_of S.inbox S.number S.sent S.resting) seats.new) }
     {
-        let mut posting = desk.posting();
-        while let Some(batch) = posting.next_batch() {
-            if let Err(batch) = self.post_one(rt, seats, batch) {
-                return posting.refused(batch);
-            }
+        match self.post_until_refused(rt, desk, seats) {
+            Ok(desk) => desk,
+            Err(desk) => desk,
         }
-        posting.end()
     }
 
     // Posts what the desk gives in the first round, where it stands. Says whether no batch was

@@ -3,7 +3,7 @@ use Rattle.slot_chain.specs.Buffer.{Buffer}
 use Rattle.pool_fabric.specs.Seats.{seat_of, AreSeatsBy}
 use Rattle.pool_fabric.specs.Posts.{Posts}
 use Rattle.pool_fabric.specs.Weights.{weigh}
-use Rattle.pool_fabric.proofs.fabric.Fabric.post_all.Given as goal
+use Rattle.pool_fabric.proofs.fabric.Fabric.post_until_refused.Given as goal
 
 abbrev pub invariant-loop-batch : goal.invariant-loop-batch
 invariant-loop-batch g l =

@@ -1,11 +1,12 @@
-use Rattle.std.proofs.Common.{◌≡◌, ◌<◌, ◌++◌, map, refl, sym, ap, ◌∙◌, arith, subst, IsPermutation}
-use Rattle.std.proofs.lemmas.List.Sorted.{IsPermutation-trans, IsPermutation-append_comm}
+use Rattle.std.proofs.Common.{◌≡◌, ◌<◌, ◌++◌, map, length, refl, sym, ap, ◌∙◌, arith, subst, IsPermutation}
+use Rattle.std.proofs.lemmas.List.{nil_from_length}
+use Rattle.std.proofs.lemmas.List.Sorted.{IsPermutation-trans, IsPermutation-append_comm, length_permutation}
 use Rattle.digit_route.specs.States.{BatchState}
 use Rattle.pool_desk.specs.Desks.{DeskPostingState}
 use Rattle.pool_fabric.specs.Seats.{seat_of, AreSeatsBy}
 use Rattle.pool_fabric.specs.Posts.{Posts}
 use Rattle.pool_fabric.proofs.Posting.{length-mapped, posts_none, posts_more, posts_end, seats_sent, batch_smaller}
-use Rattle.pool_fabric.proofs.fabric.Fabric.post_all.Goals as goal
+use Rattle.pool_fabric.proofs.fabric.Fabric.post_until_refused.Goals as goal
 
 pub loop-batch-init : goal.loop-batch-init
 loop-batch-init g c =
@@ -73,3 +74,8 @@ returns-clause-posts g c =
     let v = c.in_default.ensures.value in
     posts_end c.args.desk.cached c.loop-batch.posting.posting.items c.end.result.cached (map as_seat c.args.seats.now) (map as_seat c.loop-batch.seats) i.posts
     (subst (λ l. IsPermutation l c.end.result.cached) (v.1 ∙ sym v.0) c.end.ensures.items)
+
+pub returns-clause-all : goal.returns-clause-all
+returns-clause-all g c =
+    let v = c.in_default.ensures.value in
+    nil_from_length c.end.result.cached (length_permutation _ c.end.result.cached c.end.ensures.items ∙ ap length v.1)
