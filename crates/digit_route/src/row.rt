@@ -23,7 +23,6 @@ use std::marker::Model;
 
 /// Buffers of other desks that share the digits below `round` with the desk `number`, each in the
 /// chain of its owner's digit `round`.
-#[derive(Drop)]
 pub(crate) struct Row<'r> {
     number: u16,
     digits: Digits,
@@ -45,6 +44,20 @@ impl<'r> Model for Row<'r> {
     } };
 
     ghost invariant = { λ r. IsRow r.digits r.number r.round r.chains.items };
+}
+
+// By hand, so that the drop of its array is proved here once, and not again in each crate that lets a
+// cache go.
+impl Drop for Row<'_> {
+    fn drop(self) {
+        let Row {
+            number: _,
+            digits: _,
+            round: _,
+            chains,
+        } = self;
+        drop(chains);
+    }
 }
 
 impl<'r> Row<'r> {

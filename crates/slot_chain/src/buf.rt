@@ -125,14 +125,7 @@ impl<'r> Buf<'r> {
         ensures rest { rest_of result ≡ self.entry.bytes.now }
     {
         let Buf { node } = self;
-        let Node {
-            slot: _,
-            class: _,
-            owner: _,
-            forwards: _,
-            lease,
-            below: _,
-        } = Box::into_inner(node);
+        let (lease, _below) = Box::into_inner(node).into_parts();
         Front::new(lease.into_bytes())
     }
 }

@@ -51,14 +51,7 @@ impl Drop for Chain<'_> {
             match top {
                 None => return,
                 Some(node) => {
-                    let Node {
-                        slot: _,
-                        class: _,
-                        owner: _,
-                        forwards: _,
-                        lease,
-                        below,
-                    } = Box::into_inner(node);
+                    let (lease, below) = Box::into_inner(node).into_parts();
                     drop(lease);
                     self = below;
                 }
