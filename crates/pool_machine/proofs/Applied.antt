@@ -8,7 +8,7 @@ use Rattle.pool_machine.specs.declared.request.Request.TheVariants.{Adopt, Retir
 use Rattle.pool_machine.specs.declared.reply.Reply.{Reply}
 use Rattle.pool_machine.specs.declared.reply.Reply.TheVariants.{Done, Chunk, Slot as Lent, Home, Cached, Due, Batch, Counts}
 use Rattle.region_cut.specs.Classes.{size_of}
-use Rattle.pool_machine.specs.Slots.{same_slot}
+use Rattle.region_cut.specs.Slots.{same_slot}
 use Rattle.pool_machine.specs.State.{owner_of}
 use Rattle.pool_machine.specs.Refusals.{refusal, slot_at}
 use Rattle.pool_machine.specs.Steps.{Answer, Replies, bytes_with, with_holder, after_free, after_send}

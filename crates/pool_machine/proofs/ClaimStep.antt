@@ -13,7 +13,8 @@ use Rattle.region_cut.specs.declared.slot.Slot.{Slot}
 use Rattle.pool_machine.specs.declared.request.Request.TheVariants.{Claim}
 use Rattle.pool_machine.specs.declared.reply.Reply.TheVariants.{Chunk}
 use Rattle.region_cut.specs.Classes.{slots_of}
-use Rattle.pool_machine.specs.Slots.{same_slot, has_index, times, one_if}
+use Rattle.region_cut.specs.Slots.{same_slot, times}
+use Rattle.pool_machine.specs.Slots.{has_index, one_if}
 use Rattle.pool_machine.specs.State.{State, Place, AtHome, owner_or, class_or, owner_of}
 use Rattle.pool_machine.specs.Refusals.{refusal}
 use Rattle.pool_machine.specs.Steps.{with_chunk}

@@ -6,7 +6,8 @@ use Rattle.std.proofs.lemmas.List.Sums.{sum_by-cons, sum_by-append}
 use Rattle.std.specs.List.{range_with_len}
 use Rattle.region_cut.specs.declared.slot.Slot.{Slot}
 use Rattle.region_cut.specs.Classes.{slots_of}
-use Rattle.pool_machine.specs.Slots.{same_slot, has_index, times, ListsEachSlot, one_if}
+use Rattle.region_cut.specs.Slots.{same_slot, times}
+use Rattle.pool_machine.specs.Slots.{has_index, ListsEachSlot, one_if}
 use Rattle.pool_machine.specs.State.{State, slots_of_chunk, slots}
 use Rattle.pool_machine.specs.Sound.{Sound}
 use Rattle.pool_machine.specs.declared.chunk.DrawnChunk.{DrawnChunk}

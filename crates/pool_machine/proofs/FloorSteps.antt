@@ -2,7 +2,7 @@
 use Rattle.std.proofs.Common.{◌≡◌, ℕ, ◌<◌, Bool, true, false, ◌==◌, length, set, All, Option, if◌then◌else◌, refl, sym, ap, ◌∙◌, subst, get_or-set_same, get_or-set_other, length-set}
 use Rattle.std.proofs.lemmas.Bool.{eqb-true, eqb-false}
 use Rattle.region_cut.specs.declared.slot.Slot.{Slot}
-use Rattle.pool_machine.specs.Slots.{times}
+use Rattle.region_cut.specs.Slots.{times}
 use Rattle.pool_machine.specs.State.{State}
 use Rattle.pool_machine.specs.Steps.{with_holder}
 use Rattle.pool_machine.specs.Listing.{slots_seen, Listing, DeskListing, desk_listing, empty_desk, Labelled, Counted}

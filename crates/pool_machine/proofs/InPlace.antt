@@ -3,7 +3,8 @@ use Rattle.std.proofs.Common.{◌≡◌, ℕ, Bool, true, false, ◌&&◌, ◌==
 use Rattle.std.proofs.lemmas.Bool.{false≢true}
 use Rattle.std.proofs.lemmas.List.Sorted.{sum_by-IsPermutation}
 use Rattle.region_cut.specs.declared.slot.Slot.{Slot}
-use Rattle.pool_machine.specs.Slots.{same_slot, times, one_if}
+use Rattle.region_cut.specs.Slots.{same_slot, times}
+use Rattle.pool_machine.specs.Slots.{one_if}
 use Rattle.pool_machine.specs.State.{State, Place, AtHome, OnLoan, InCache, InBatch, is_cached, owner_of, slot_size, slots, near, cached_by, cached_bytes}
 use Rattle.pool_machine.specs.Steps.{relocate, move_one, after_send}
 use Rattle.pool_machine.specs.Sound.{Sound}

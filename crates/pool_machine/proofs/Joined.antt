@@ -2,7 +2,8 @@
 use Rattle.std.proofs.Common.{◌≡◌, ℕ, zero, suc, ◌+◌, ◌<◌, ◌≤◌, Bool, true, false, ◌==◌, List, [], ◌∷◌, ◌++◌, length, get_or, flat_map, Option, Some, None, is_some, option_map, if◌then◌else◌, refl, sym, ap, ap₂, ◌∙◌, subst, arith, le_trans}
 use Rattle.std.proofs.lemmas.Bool.{eqb-true, eqb-false, eq-eqb, ne_eqb}
 use Rattle.region_cut.specs.declared.slot.Slot.{Slot}
-use Rattle.pool_machine.specs.Slots.{same_slot, times, one_if, ListsEachSlot}
+use Rattle.region_cut.specs.Slots.{same_slot, times}
+use Rattle.pool_machine.specs.Slots.{one_if, ListsEachSlot}
 use Rattle.pool_machine.specs.State.{State, Place, AtHome, OnLoan, InCache, InBatch, owner_of, is_slot}
 use Rattle.pool_machine.specs.Sound.{Fits}
 use Rattle.pool_machine.specs.Listing.{slots_seen, Listing, DeskListing, BatchListing, empty_desk}

@@ -7,7 +7,8 @@ use Rattle.pool_machine.specs.declared.request.Request.{Request}
 use Rattle.pool_machine.specs.declared.request.Request.TheVariants.{Adopt, Retire, Claim, Alloc, Free, Send, Link, Take}
 use Rattle.pool_machine.specs.declared.reply.Reply.TheVariants.{Chunk, Slot as Lent}
 use Rattle.region_cut.specs.Classes.{slots_of}
-use Rattle.pool_machine.specs.Slots.{same_slot, has_index}
+use Rattle.region_cut.specs.Slots.{same_slot}
+use Rattle.pool_machine.specs.Slots.{has_index}
 use Rattle.pool_machine.specs.State.{Place, AtHome, OnLoan, InCache, InBatch, Waiting, State, is_home, is_lent, is_cached, is_queued, owner_or, owner_of, class_of, slots, near, home_with, cached_by, in_bucket, inbox, digits_of}
 use Rattle.pool_machine.specs.Refusals.{refusal, no_desk, slot_at, front_ready}
 use Rattle.pool_machine.specs.Steps.{Answer, relocate, move_one, move_bucket, move_batch, freed_place, with_holder, with_chunk, link_one, front_of, after_send, after_take, after_free, after, Answers, Run}

@@ -5,7 +5,7 @@ use Rattle.std.proofs.lemmas.List.Elements.{All-set}
 use Rattle.region_cut.specs.declared.slot.Slot.{Slot}
 use Rattle.pool_machine.specs.declared.request.Request.TheVariants.{Link}
 use Rattle.pool_machine.specs.declared.reply.Reply.TheVariants.{Done}
-use Rattle.pool_machine.specs.Slots.{times}
+use Rattle.region_cut.specs.Slots.{times}
 use Rattle.pool_machine.specs.State.{State, Waiting, inbox}
 use Rattle.pool_machine.specs.Steps.{link_one}
 use Rattle.pool_machine.specs.Sound.{Member, Rising}

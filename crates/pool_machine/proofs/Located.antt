@@ -2,7 +2,8 @@
 use Rattle.std.proofs.Common.{◌≡◌, ℕ, Bool, true, false, ◌==◌, List, [], get_or, flat_map, option_map, if◌then◌else◌, All, Option, Some, None}
 use Rattle.region_cut.specs.declared.slot.Slot.{Slot}
 use Rattle.pool_machine.specs.declared.request.Request.{Request}
-use Rattle.pool_machine.specs.Slots.{times, one_if}
+use Rattle.region_cut.specs.Slots.{times}
+use Rattle.pool_machine.specs.Slots.{one_if}
 use Rattle.pool_machine.specs.State.{State, owner_of, Place, AtHome, OnLoan, InCache, InBatch}
 use Rattle.pool_machine.specs.Steps.{Answer, Step}
 use Rattle.pool_machine.specs.Forwards.{counted}

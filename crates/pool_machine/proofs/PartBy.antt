@@ -5,7 +5,8 @@ use Rattle.std.proofs.lemmas.Bool.{false≢true, eqb-true, eq-eqb, eqb-false, ne
 use Rattle.std.proofs.lemmas.List.Elements.{All-head, All-tail}
 use Rattle.std.proofs.lemmas.List.Sorted.{list_any-IsPermutation}
 use Rattle.region_cut.specs.declared.slot.Slot.{Slot}
-use Rattle.pool_machine.specs.Slots.{times, one_if}
+use Rattle.region_cut.specs.Slots.{times}
+use Rattle.pool_machine.specs.Slots.{one_if}
 use Rattle.pool_machine.specs.State.{State, Place, AtHome, OnLoan, InCache, InBatch, owner_of, class_of, slots, home_with, is_home, is_lent}
 use Rattle.pool_machine.specs.Sound.{Sound}
 use Rattle.pool_machine.specs.Listing.{slots_seen, Entry}

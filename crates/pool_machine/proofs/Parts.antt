@@ -4,7 +4,8 @@ use Rattle.std.proofs.lemmas.Bool.{false≢true, true≢false, and_parts}
 use Rattle.std.proofs.lemmas.List.Elements.{All-head, All-tail}
 use Rattle.std.proofs.lemmas.List.Sorted.{length_permutation}
 use Rattle.region_cut.specs.declared.slot.Slot.{Slot}
-use Rattle.pool_machine.specs.Slots.{same_slot, times, one_if}
+use Rattle.region_cut.specs.Slots.{same_slot, times}
+use Rattle.pool_machine.specs.Slots.{one_if}
 use Rattle.pool_machine.specs.State.{State, Place, owner_of, slots, near, in_bucket, bucket, opening, is_slot, class_of, slot_size, cached_bytes}
 use Rattle.pool_machine.specs.Sound.{Sound}
 use Rattle.pool_machine.specs.Listing.{slots_seen, Listing, DeskListing, Entry, BatchListing, desk_listing, empty_desk, as_waiting, Labelled, Counted}

@@ -10,7 +10,8 @@ use Rattle.pool_machine.specs.declared.request.Request.TheVariants.{Adopt, Retir
 use Rattle.pool_machine.specs.declared.refusal.Refusal.{Refusal}
 use Rattle.pool_machine.specs.declared.refusal.Refusal.TheVariants.{NoDesk, Idle, TooLarge, NeedChunk, NotNeeded, NoChunk, NotLent, NothingFor, NotAnOwner, ToSelf, NoBatch, Nothing, Unsettled, Held, NoMemory, BadClass, Spent}
 use Rattle.region_cut.specs.Classes.{classes_of, largest_of}
-use Rattle.pool_machine.specs.Slots.{same_slot, times, one_if}
+use Rattle.region_cut.specs.Slots.{same_slot, times}
+use Rattle.pool_machine.specs.Slots.{one_if}
 use Rattle.pool_machine.specs.State.{profile_at, least_class, State, Waiting, owner_of, class_of, slots, near, home_with, has_home, cached_by, in_bucket, inbox, is_lent}
 use Rattle.pool_machine.specs.Refusals.{first, conditions, refusal, no_desk, is_idle, is_half, front_ready, slot_at, may_grow}
 use Rattle.pool_machine.specs.Sound.{Member}

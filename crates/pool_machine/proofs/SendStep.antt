@@ -6,7 +6,7 @@ use Rattle.std.proofs.lemmas.List.{map-append}
 use Rattle.std.proofs.lemmas.List.Sorted.{All-permutation, sum_by-IsPermutation, IsPermutation-map}
 use Rattle.region_cut.specs.declared.slot.Slot.{Slot}
 use Rattle.pool_machine.specs.declared.request.Request.TheVariants.{Send}
-use Rattle.pool_machine.specs.Slots.{same_slot, times}
+use Rattle.region_cut.specs.Slots.{same_slot, times}
 use Rattle.pool_machine.specs.State.{State, Waiting, owner_of, near, inbox}
 use Rattle.pool_machine.specs.Refusals.{refusal}
 use Rattle.pool_machine.specs.Steps.{after_send}

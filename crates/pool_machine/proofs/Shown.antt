@@ -5,7 +5,8 @@ use Rattle.std.proofs.lemmas.Bool.{cases_lt, false≢true, eqb-true}
 use Rattle.region_cut.specs.declared.slot.Slot.{Slot}
 use Rattle.digit_route.specs.Digits.{Scheme, IsScheme}
 use Rattle.pool_machine.specs.declared.request.Request.{Request}
-use Rattle.pool_machine.specs.Slots.{same_slot, times, one_if}
+use Rattle.region_cut.specs.Slots.{same_slot, times}
+use Rattle.pool_machine.specs.Slots.{one_if}
 use Rattle.pool_machine.specs.State.{State, Place, AtHome, OnLoan, InCache, InBatch, Waiting, owner_of, is_slot, is_lent, is_queued, cached_by, slots, slots_of_batch, opening}
 use Rattle.pool_machine.specs.Steps.{Answer}
 use Rattle.pool_machine.specs.Forwards.{counted}

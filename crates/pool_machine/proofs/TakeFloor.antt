@@ -7,7 +7,7 @@ use Rattle.std.proofs.lemmas.List.Sorted.{All-permutation}
 use Rattle.region_cut.specs.declared.slot.Slot.{Slot}
 use Rattle.pool_machine.specs.declared.request.Request.TheVariants.{Take}
 use Rattle.pool_machine.specs.declared.reply.Reply.TheVariants.{Counts}
-use Rattle.pool_machine.specs.Slots.{same_slot, times}
+use Rattle.region_cut.specs.Slots.{same_slot, times}
 use Rattle.pool_machine.specs.State.{State, Waiting, Place, AtHome, OnLoan, InCache, InBatch, is_queued, owner_of, slots, slots_of_batch, inbox}
 use Rattle.pool_machine.specs.Refusals.{refusal}
 use Rattle.pool_machine.specs.Steps.{after_take, front_of, front_number}

@@ -3,7 +3,7 @@ use Rattle.std.specs.Prelude.{ℕ, suc, ◌&&◌, not, ◌==◌, List, ◌∷◌
 use Rattle.region_cut.specs.declared.slot.Slot.{Slot}
 use Rattle.pool_machine.specs.declared.request.Request.{Request}
 use Rattle.pool_machine.specs.declared.request.Request.TheVariants.{Free, Take}
-use Rattle.pool_machine.specs.Slots.{same_slot}
+use Rattle.region_cut.specs.Slots.{same_slot}
 use Rattle.pool_machine.specs.State.{State, is_queued, owner_of}
 use Rattle.pool_machine.specs.Refusals.{slot_at}
 use Rattle.pool_machine.specs.Steps.{Answer, front_of, after}

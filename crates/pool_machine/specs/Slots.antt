@@ -1,12 +1,9 @@
--- The slots of drawn chunks, and how often a list has them.
-use Rattle.std.specs.Prelude.{◌≡◌, ℕ, Bool, false, ◌&&◌, ◌==◌, nat_lt, cond, List, count_by, Option, Some, None}
+-- The slots of drawn chunks.
+use Rattle.std.specs.Prelude.{◌≡◌, ℕ, Bool, false, nat_lt, cond, List, Option, Some, None}
 use Rattle.region_cut.specs.declared.slot.Slot.{Slot}
+use Rattle.region_cut.specs.Slots.{times}
 use Rattle.region_cut.specs.Classes.{slots_of}
 use Rattle.pool_machine.specs.declared.chunk.DrawnChunk.{DrawnChunk}
-
--- the two are the same slot
-abbrev pub same_slot : Slot → Slot → Bool
-same_slot s r = (s.chunk == r.chunk) && (s.index == r.index)
 
 -- the chunk is drawn, and has a slot at this place
 abbrev pub has_index : ℕ → Option DrawnChunk → Bool
@@ -16,10 +13,6 @@ has_index i (Some d) = nat_lt i (slots_of d.class)
 -- the slot is one of a drawn chunk
 abbrev pub is_drawn_slot : (ℕ → Option DrawnChunk) → Slot → Bool
 is_drawn_slot drawn s = has_index s.index (drawn s.chunk)
-
--- how often the list has the slot
-abbrev pub times : Slot → List Slot → ℕ
-times s found = count_by (same_slot s) found
 
 -- 1 where it holds, else 0
 abbrev pub one_if : Bool → ℕ

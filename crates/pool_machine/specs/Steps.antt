@@ -10,7 +10,7 @@ use Rattle.pool_machine.specs.declared.reply.Reply.TheVariants.{Done, Chunk, Slo
 use Rattle.pool_machine.specs.declared.reply.Reply.TheVariants.{Counts}
 use Rattle.pool_machine.specs.declared.refusal.Refusal.{Refusal}
 use Rattle.pool_machine.specs.declared.refusal.Refusal.TheVariants.{NoMemory}
-use Rattle.pool_machine.specs.Slots.{same_slot}
+use Rattle.region_cut.specs.Slots.{same_slot}
 use Rattle.pool_machine.specs.State.{Place, AtHome, OnLoan, InCache, InBatch, Waiting, State, profile_at, least_class}
 use Rattle.pool_machine.specs.State.{owner_of, near, is_cached, is_queued, home_with, bucket, cached_bytes}
 use Rattle.pool_machine.specs.State.{slots_of_batch, inbox}

@@ -1,9 +1,8 @@
 -- What an audit looks for: each slot of a drawn chunk once, and no other.
 use Rattle.std.specs.Prelude.{ℕ, ◌≡◌, ◌<◌, List, slice_index_or, Option, Some, None}
 use Rattle.region_cut.specs.Classes.{slots_of}
-use Rattle.region_cut.specs.Slots.{IsBefore}
 use Rattle.region_cut.specs.declared.slot.Slot.{Slot}
-use Rattle.pool_machine.specs.Slots.{times}
+use Rattle.region_cut.specs.Slots.{IsBefore, times}
 use Rattle.slot_audit.specs.declared.fault.Fault.{Fault}
 use Rattle.slot_audit.specs.declared.fault.Fault.TheVariants.{Stranger, Doubled, Missing, NoMemory}
 

@@ -1,7 +1,7 @@
 -- A table that counts slots. Only private functions and the invariant of `Drawn` speak of it.
 use Rattle.std.specs.Prelude.{ℕ, ◌≡◌, ◌≤◌, ◌+◌, ◌*◌, List, Option, length, slice_index, min}
 use Rattle.region_cut.specs.declared.slot.Slot.{Slot}
-use Rattle.pool_machine.specs.Slots.{times}
+use Rattle.region_cut.specs.Slots.{times}
 use Rattle.region_cut.specs.Limits.{chunk_limit}
 use Rattle.slot_audit.specs.Audit.{slots_in, IsDrawnSlot}
 use Rattle.slot_audit.specs.Limits.{slot_limit}

@@ -8,7 +8,8 @@ use Rattle.region_cut.specs.declared.slot.Slot.{Slot}
 use Rattle.region_cut.specs.Classes.{slots_of}
 use Rattle.pool_machine.specs.declared.chunk.DrawnChunk.{DrawnChunk}
 use Rattle.pool_machine.specs.Laws.{ReachedIsSound}
-use Rattle.pool_machine.specs.Slots.{same_slot, times, one_if, has_index, is_drawn_slot}
+use Rattle.region_cut.specs.Slots.{same_slot, times}
+use Rattle.pool_machine.specs.Slots.{one_if, has_index, is_drawn_slot}
 use Rattle.event_floor.specs.Floors.{FloorState}
 use Rattle.event_floor.specs.headline.ListsSlots.{FloorsListSlots, ListsSlots, slots_on, slots_with}
 use Rattle.slot_audit.specs.Audit.{class_at, slots_for, IsDrawnSlot, FindsEachSlot, IsFault}

@@ -21,7 +21,8 @@ use Rattle.event_floor.specs.Lent.{buffers_lent}
 use Rattle.event_floor.specs.Inboxes.{QueuedState, inbox_at, buffers_in}
 use Rattle.event_floor.specs.Desks.{home_of, cached_of}
 use Rattle.event_floor.specs.Floors.{FloorState, desk_at, desk_count, no_desk}
-use Rattle.pool_machine.specs.Slots.{same_slot, has_index, times, one_if}
+use Rattle.region_cut.specs.Slots.{same_slot, times}
+use Rattle.pool_machine.specs.Slots.{has_index, one_if}
 use Rattle.pool_machine.specs.State.{State}
 use Rattle.pool_machine.specs.Listing.{DeskListing, BatchListing, slots_seen}
 use Rattle.pool_machine.proofs.Located.{Located}

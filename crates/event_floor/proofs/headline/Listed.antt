@@ -14,7 +14,8 @@ use Rattle.pool_machine.specs.declared.chunk.DrawnChunk.{DrawnChunk}
 use Rattle.pool_machine.specs.Headline.{joined}
 use Rattle.pool_machine.proofs.Located.{inbox_listing}
 use Rattle.pool_machine.specs.Listing.{DeskListing, BatchListing, slots_seen, as_waiting, Shown}
-use Rattle.pool_machine.specs.Slots.{same_slot, times, one_if}
+use Rattle.region_cut.specs.Slots.{same_slot, times}
+use Rattle.pool_machine.specs.Slots.{one_if}
 use Rattle.pool_machine.specs.State.{State, Waiting, owner_of, is_slot, slots, is_lent, is_queued, cached_by, slots_of_batch}
 use Rattle.pool_machine.specs.SlotLists.{at_home_with, home_slots, cached_slots, queued_slots, lent_slots}
 use Rattle.event_floor.specs.declared.any_desk.AnyDesk.{AnyDesk}

@@ -19,7 +19,7 @@ use Rattle.event_floor.specs.Inboxes.{QueuedState, inbox_at, IsHalf, IsHalfOf, S
 use Rattle.event_floor.specs.Floors.{FloorState, desk_count, last_number, IsHeld}
 use Rattle.event_floor.specs.Steps.{Refuses, Routes, class_limit, size_limit}
 use Rattle.pool_machine.specs.State.{Waiting, least_class}
-use Rattle.pool_machine.specs.Slots.{same_slot}
+use Rattle.region_cut.specs.Slots.{same_slot}
 use Rattle.pool_machine.specs.Refusals.{first, is_half, front_ready, slot_at}
 use Rattle.pool_machine.proofs.Located.{inbox_listing}
 use Rattle.pool_machine.specs.Listing.{Entry, DeskListing, desk_listing, as_waiting}

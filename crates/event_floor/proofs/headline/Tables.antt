@@ -7,7 +7,7 @@ use Rattle.std.proofs.lemmas.List.Sorted.{IsPermutation-refl, IsPermutation-tran
 use Rattle.region_cut.specs.declared.slot.Slot.{Slot}
 use Rattle.slot_chain.specs.Buffer.{Buffer}
 use Rattle.event_floor.specs.Lent.{buffers_lent, lent_at, place_of, AreInPlace}
-use Rattle.pool_machine.specs.Slots.{same_slot}
+use Rattle.region_cut.specs.Slots.{same_slot}
 use Rattle.pool_machine.proofs.Basics.{same_slot_eq, same_slot_self}
 
 none_some : {X : Type 0} (x : X) → None ≡ Some x → ⊥
