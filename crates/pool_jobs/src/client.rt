@@ -1,5 +1,6 @@
 //! A worker of a workload.
-ghost use Rattle.std.specs.Prelude.{◌<◌};
+ghost use Rattle.std.specs.Prelude.{◌≡◌, ◌<◌, ◌%◌};
+ghost use Rattle.rand_core.specs.Stream.{next_u32};
 
 use crate::allocator::Entrance;
 use crate::buffer::Buffer;
@@ -222,7 +223,11 @@ where
 
     type Left = Done<'r, T, S, J>;
 
-    fn pick(&mut self, places: u32) -> u32 {
+    fn pick(&mut self, places: u32) -> u32
+        requires { 0 < places }
+        ensures in_range { result < places }
+        ensures drawn { result ≡ (next_u32 (N.stream self.old.random)).0 % places }
+    {
         self.random.next_u32() % places
     }
 
