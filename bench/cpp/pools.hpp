@@ -30,6 +30,22 @@ struct Chunks {
   size_t chunk_of(const uint8_t *slot) const { return static_cast<size_t>(slot - bytes.data()) / CHUNK; }
 };
 
+// a list through its slots: each names the one below it
+template <class Slots, class Lent> struct Linked {
+  Lent top = nullptr;
+
+  bool some() const { return top != nullptr; }
+  void push(Lent it) {
+    Slots::link(it, top);
+    top = it;
+  }
+  Lent pop() {
+    Lent it = top;
+    top = Slots::below(it);
+    return it;
+  }
+};
+
 // each slot has a boxed node, in which the link lies beside the owner and the class
 struct InBoxes {
   struct Node {
@@ -42,6 +58,7 @@ struct InBoxes {
     Tagged<Node> below;
   };
   using Lent = Node *;
+  using List = Linked<InBoxes, Lent>;
 
   static Lent made(Chunks &, uint8_t *bytes, size_t k, uint16_t owner) {
     return new Node{0, static_cast<uint32_t>(k), 0, owner, bytes, SIZES[k], Tagged<Node>()};
@@ -60,6 +77,7 @@ struct InSlots {
     Link *below;
   };
   using Lent = Link *;
+  using List = Linked<InSlots, Lent>;
 
   static Lent made(Chunks &, uint8_t *bytes, size_t, uint16_t) { return new (bytes) Link{nullptr}; }
   static uint8_t *bytes(Chunks &, Lent it) { return reinterpret_cast<uint8_t *>(it); }
@@ -70,17 +88,66 @@ struct InSlots {
   static void unlink(Lent) {}
 };
 
-// Where the chains of others come: each is put on top of those before, and all are taken at once.
-template <class Lent> class alignas(128) Mailbox {
+// each slot has a boxed node with room for pointers to a few others: of so many and one, a list links one, which names
+// the others, so that most nodes are only read where they go from thread to thread
+struct InGroups {
+  static constexpr size_t OTHERS = 15;
+
+  struct Node {
+    uint32_t slot;
+    uint32_t class_number;
+    uint16_t owner;
+    uint16_t count;
+    uint32_t forwards;
+    uint8_t *bytes;
+    uint64_t length;
+    Node *below;
+    Node *others[OTHERS];
+  };
+  using Lent = Node *;
+
+  struct List {
+    Lent top = nullptr;
+
+    bool some() const { return top != nullptr; }
+    void push(Lent it) {
+      if (top && top->count < OTHERS) {
+        top->others[top->count++] = it;
+      } else {
+        link(it, top);
+        top = it;
+      }
+    }
+    Lent pop() {
+      if (top->count) return top->others[--top->count];
+      Lent it = top;
+      top = it->below;
+      return it;
+    }
+  };
+
+  static Lent made(Chunks &, uint8_t *bytes, size_t k, uint16_t owner) {
+    return new Node{0, static_cast<uint32_t>(k), owner, 0, 0, bytes, SIZES[k], nullptr, {}};
+  }
+  static uint8_t *bytes(Chunks &, Lent it) { return it->bytes; }
+  static uint16_t owner(Chunks &, Lent it) { return it->owner; }
+  static size_t class_number(Chunks &, Lent it) { return it->class_number; }
+  static void link(Lent it, Lent below) { it->below = below; }
+  static void unlink(Lent) {}
+};
+
+// Where the lists of others come: each is put on top of those before, and all are taken at once.
+template <class Slots> class alignas(128) Mailbox {
+  using Lent = typename Slots::Lent;
   std::atomic<Lent> top{nullptr};
 
 public:
-  template <class Slots> void post(Lent first, Lent last) {
+  void post(Lent first, Lent last) {
     Lent below = top.load();
     do Slots::link(last, below);
     while (!top.compare_exchange_weak(below, first));
   }
-  Lent take() { return top.load() ? top.exchange(nullptr) : nullptr; }
+  typename Slots::List take() { return {top.load() ? top.exchange(nullptr) : nullptr}; }
 };
 
 // one worker of a pool; there is one pool in a process
@@ -89,25 +156,24 @@ public:
   using Lent = typename Slots::Lent;
 
 private:
+  using List = typename Slots::List;
+
   static inline Chunks chunks;
-  static inline Mailbox<Lent> mailboxes[WORKERS];
+  static inline Mailbox<Slots> mailboxes[WORKERS];
   static inline std::atomic<uint16_t> workers{0};
 
+  // a list, and the first that came, which is the last of those that are linked
   struct Bucket {
-    Lent first = nullptr;
+    List list;
     Lent last = nullptr;
   };
   uint16_t number = workers++;
   uint32_t since_look = 0;
   size_t cached = 0;
-  Lent homes[CLASSES] = {};
+  List homes[CLASSES];
   Bucket buckets[WORKERS];
 
-  void keep(Lent it) {
-    Lent &home = homes[Slots::class_number(chunks, it)];
-    Slots::link(it, home);
-    home = it;
-  }
+  void keep(Lent it) { homes[Slots::class_number(chunks, it)].push(it); }
 
   // all slots of a chunk come home
   __attribute__((noinline, cold)) void draw(size_t k) {
@@ -117,19 +183,18 @@ private:
 
   __attribute__((noinline)) void look() {
     since_look = 0;
-    Lent it = mailboxes[number].take();
-    while (it) {
-      Lent below = Slots::below(it);
+    List come = mailboxes[number].take();
+    while (come.some()) {
+      Lent it = come.pop();
       if (Slots::owner(chunks, it) != number) abort();
       keep(it);
-      it = below;
     }
   }
 
   __attribute__((noinline)) void post() {
     for (size_t to = 0; to < WORKERS; to++) {
       Bucket &bucket = buckets[to];
-      if (bucket.first) mailboxes[to].template post<Slots>(bucket.first, bucket.last);
+      if (bucket.list.some()) mailboxes[to].post(bucket.list.top, bucket.last);
       bucket = Bucket();
     }
     cached = 0;
@@ -139,24 +204,22 @@ public:
   Lent lend(size_t size) {
     size_t k = class_for(size);
     if (++since_look == LOOK_EVERY) look();
-    if (!homes[k]) {
+    if (!homes[k].some()) {
       look();
-      if (!homes[k]) draw(k);
+      if (!homes[k].some()) draw(k);
     }
-    Lent top = homes[k];
-    homes[k] = Slots::below(top);
-    Slots::unlink(top);
-    touch(Slots::bytes(chunks, top));
-    return top;
+    Lent it = homes[k].pop();
+    Slots::unlink(it);
+    touch(Slots::bytes(chunks, it));
+    return it;
   }
 
   void give(Lent it) {
     uint16_t owner = Slots::owner(chunks, it);
     if (owner == number) return keep(it);
     Bucket &bucket = buckets[owner];
-    if (!bucket.last) bucket.last = it;
-    Slots::link(it, bucket.first);
-    bucket.first = it;
+    if (!bucket.list.some()) bucket.last = it;
+    bucket.list.push(it);
     cached += SIZES[Slots::class_number(chunks, it)];
     if (cached > CACHE) post();
   }
