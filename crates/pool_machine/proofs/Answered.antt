@@ -9,8 +9,9 @@ use Rattle.pool_machine.specs.declared.reply.Reply.TheVariants.{Done, Chunk, Slo
 use Rattle.pool_machine.specs.declared.refusal.Refusal.{Refusal}
 use Rattle.pool_machine.specs.State.{State, owner_of, slots, has_home, home_with, bucket, least_class, profile_at}
 use Rattle.pool_machine.specs.Refusals.{conditions, refusal, slot_at}
-use Rattle.pool_machine.specs.Steps.{Answer, Answers, bytes_with, coming_home, going_on}
+use Rattle.pool_machine.specs.Steps.{Answer, Answers}
 use Rattle.pool_machine.proofs.Basics.{none_hold, any_witness}
+use Rattle.pool_machine.proofs.Words.{bytes_with, coming_home, going_on}
 
 -- a number of a range that fails
 range_witness : (f : ℕ → Bool) (m a : ℕ) → list_all f (range_with_len a m) ≡ false → (k : ℕ) × (k < a + m) × (f k ≡ false)

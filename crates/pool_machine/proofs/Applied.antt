@@ -11,7 +11,7 @@ use Rattle.region_cut.specs.Classes.{size_of}
 use Rattle.region_cut.specs.Slots.{same_slot}
 use Rattle.pool_machine.specs.State.{owner_of}
 use Rattle.pool_machine.specs.Refusals.{refusal, slot_at}
-use Rattle.pool_machine.specs.Steps.{Answer, Replies, bytes_with, with_holder, after_free, after_send}
+use Rattle.pool_machine.specs.Steps.{Answer, Replies, with_holder, after_free, after_send}
 use Rattle.pool_machine.specs.Listing.{Listing, DeskListing, Entry, desk_listing, Labelled}
 use Rattle.pool_machine.proofs.Located.{Located, LocatedStep}
 use Rattle.pool_machine.proofs.Basics.{none_holds}
@@ -20,6 +20,7 @@ use Rattle.pool_machine.proofs.FreeStep.{FreeEdits, after_edits, free_shown}
 use Rattle.pool_machine.proofs.SendStep.{SendEdits, after_sending, send_shown}
 use Rattle.pool_machine.proofs.Parts.{bytes_seen, bucket_length}
 use Rattle.pool_machine.proofs.Refusals.{refusal_seen, refusal_agrees, goes_by}
+use Rattle.pool_machine.proofs.Words.{bytes_with}
 
 pub adopt_applies : (v : Listing) (a x : ℕ) (d : DeskListing) → refusal_seen v (Adopt a x) ≡ None →
     d.worker ≡ Some x → d.home ≡ (desk_listing v a).home → d.cache ≡ (desk_listing v a).cache → LocatedStep v (Adopt a x) (Ok Done) (with_desk v a d)

@@ -7,9 +7,9 @@ use Rattle.region_cut.specs.declared.slot.Slot.{Slot}
 use Rattle.pool_machine.specs.declared.refusal.Refusal.{Refusal}
 use Rattle.region_cut.specs.Slots.{same_slot}
 use Rattle.pool_machine.specs.State.{Waiting}
-use Rattle.pool_machine.specs.Refusals.{first, front_ready}
-use Rattle.pool_machine.specs.Steps.{front_number, link_one}
+use Rattle.pool_machine.specs.Refusals.{first}
 use Rattle.pool_machine.specs.Sound.{Member}
+use Rattle.pool_machine.proofs.Words.{link_one, front_ready, front_number}
 
 pub same_slot_eq : (s r : Slot) → same_slot s r ≡ true → s ≡ r
 same_slot_eq s r e =

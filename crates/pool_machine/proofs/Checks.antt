@@ -9,10 +9,11 @@ use Rattle.pool_machine.specs.declared.reply.Reply.{Reply}
 use Rattle.pool_machine.specs.declared.reply.Reply.TheVariants.{Done, Chunk, Slot as Lent, Home, Cached, Due, Batch, Counts}
 use Rattle.pool_machine.specs.declared.refusal.Refusal.{Refusal}
 use Rattle.pool_machine.specs.declared.refusal.Refusal.TheVariants.{NoDesk, Idle, TooLarge, NeedChunk, NotNeeded, NoChunk, NotLent, NothingFor, NotAnOwner, ToSelf, NoBatch, Nothing, Unsettled, Held, NoMemory, BadClass, Spent}
-use Rattle.pool_machine.specs.State.{profile_at, least_class, State, owner_of, home_with, bucket, slots_of_batch}
+use Rattle.pool_machine.specs.State.{profile_at, least_class, State, owner_of, home_with, bucket, InBatch, slots_at}
 use Rattle.pool_machine.specs.Refusals.{refusal, slot_at}
 use Rattle.pool_machine.specs.Worked.{asked, answered, Allows, Forbids}
-use Rattle.pool_machine.specs.Steps.{Answer, front_of, bytes_with, Replies, Answers, after, Run}
+use Rattle.pool_machine.specs.Steps.{Answer, front_of, Replies, Answers, after, Run}
+use Rattle.pool_machine.proofs.Words.{bytes_with}
 
 abbrev pub replies : State → Request → Reply → Bool
 replies st (Adopt a x) Done = true
@@ -25,8 +26,8 @@ replies st (Free a pair) Due = not (owner_of st (slot_at pair) == a) && nat_lt s
 replies st (Send a t) (Batch n m) = (n == st.next) && (m == length (bucket st a t))
 replies st (Link n) Done = true
 replies st (Take b) (Counts h o) =
-    (h == length (filter (λ s. owner_of st s == b) (slots_of_batch st (front_of st b))))
-    && (o == length (filter (λ s. not (owner_of st s == b)) (slots_of_batch st (front_of st b))))
+    (h == length (filter (λ s. owner_of st s == b) (slots_at st (InBatch (front_of st b)))))
+    && (o == length (filter (λ s. not (owner_of st s == b)) (slots_at st (InBatch (front_of st b)))))
 replies st _ _ = false
 
 abbrev pub code : Refusal → ℕ
@@ -88,8 +89,8 @@ replies_right st (Send a t) (Batch n m) e =
     let h = both_true (n == st.next) (m == length (bucket st a t)) e in (eqb-true _ _ h.0, eqb-true _ _ h.1)
 replies_right st (Link n) Done e = tt
 replies_right st (Take b) (Counts h o) e =
-    let k = both_true (h == length (filter (λ s. owner_of st s == b) (slots_of_batch st (front_of st b))))
-    (o == length (filter (λ s. not (owner_of st s == b)) (slots_of_batch st (front_of st b)))) e in
+    let k = both_true (h == length (filter (λ s. owner_of st s == b) (slots_at st (InBatch (front_of st b)))))
+    (o == length (filter (λ s. not (owner_of st s == b)) (slots_at st (InBatch (front_of st b))))) e in
     (eqb-true _ _ k.0, eqb-true _ _ k.1)
 replies_right st _ _ e = absurd (false≢true e)
 
@@ -108,8 +109,8 @@ replies_all st (Free a pair) Due g =
 replies_all st (Send a t) (Batch n m) g = and_from (n == st.next) (m == length (bucket st a t)) (eq-eqb _ _ g.0) (eq-eqb _ _ g.1)
 replies_all st (Link n) Done g = refl
 replies_all st (Take b) (Counts h o) g = and_from
-    (h == length (filter (λ s. owner_of st s == b) (slots_of_batch st (front_of st b))))
-    (o == length (filter (λ s. not (owner_of st s == b)) (slots_of_batch st (front_of st b))))
+    (h == length (filter (λ s. owner_of st s == b) (slots_at st (InBatch (front_of st b)))))
+    (o == length (filter (λ s. not (owner_of st s == b)) (slots_at st (InBatch (front_of st b)))))
     (eq-eqb _ _ g.0) (eq-eqb _ _ g.1)
 replies_all st _ _ g = elim g [ ]
 

@@ -15,7 +15,7 @@ use Rattle.pool_machine.specs.declared.reply.Reply.TheVariants.{Chunk}
 use Rattle.region_cut.specs.Classes.{slots_of}
 use Rattle.region_cut.specs.Slots.{same_slot, times}
 use Rattle.pool_machine.specs.Slots.{has_index, one_if}
-use Rattle.pool_machine.specs.State.{State, Place, AtHome, owner_or, class_or, owner_of}
+use Rattle.pool_machine.specs.State.{State, Place, AtHome, owner_of}
 use Rattle.pool_machine.specs.Refusals.{refusal}
 use Rattle.pool_machine.specs.Steps.{with_chunk}
 use Rattle.pool_machine.specs.Listing.{slots_seen, Listing, DeskListing, Entry, BatchListing, desk_listing, Labelled, Counted}
@@ -28,6 +28,7 @@ use Rattle.pool_machine.proofs.Keeps.{claim_step}
 use Rattle.pool_machine.proofs.PartBy.{eqb_turn}
 use Rattle.pool_machine.proofs.Places.{home_place, lent_place, cache_place, queued_place, All-both, placed_named}
 use Rattle.pool_machine.proofs.Refusals.{refusal_seen, refusal_agrees}
+use Rattle.pool_machine.proofs.Words.{class_or, owner_or}
 
 -- the buffers of a chunk that desk a draws for class c
 abbrev pub chunk_buffer : ℕ → ℕ → ℕ → ℕ → Entry

@@ -8,9 +8,9 @@ use Rattle.region_cut.specs.declared.slot.Slot.{Slot}
 use Rattle.pool_machine.specs.declared.request.Request.TheVariants.{Free}
 use Rattle.region_cut.specs.Slots.{same_slot, times}
 use Rattle.pool_machine.specs.Slots.{one_if}
-use Rattle.pool_machine.specs.State.{State, Place, AtHome, OnLoan, InCache, InBatch, is_lent, owner_of}
+use Rattle.pool_machine.specs.State.{State, Place, AtHome, OnLoan, InCache, InBatch, owner_of, same_place}
 use Rattle.pool_machine.specs.Refusals.{refusal, no_desk, slot_at}
-use Rattle.pool_machine.specs.Steps.{freed_place, after_free, relocate, move_one}
+use Rattle.pool_machine.specs.Steps.{after_free, relocate, move_one}
 use Rattle.pool_machine.specs.Sound.{Sound}
 use Rattle.pool_machine.specs.Listing.{slots_seen, Listing, DeskListing, Entry, BatchListing, desk_listing, Labelled, Counted, ShowsFrame}
 use Rattle.pool_machine.proofs.Located.{inbox_listing, ListName, HomeOf, Loans, CacheOf, BatchOf, same_list, list_at, list_of, is_list, slots_in, if_numbered, Located}
@@ -20,6 +20,7 @@ use Rattle.pool_machine.proofs.Moves.{same_list_eq}
 use Rattle.pool_machine.proofs.InPlace.{moved_in_place}
 use Rattle.pool_machine.proofs.FloorSteps.{with_desk, desk_here, desk_other, desk_keeps}
 use Rattle.pool_machine.proofs.Keeps.{free_step}
+use Rattle.pool_machine.proofs.Words.{freed_place}
 
 -- a buffer of a list is counted there
 pub seen_counts : (xs : List Entry) (k : ℕ) (d : Entry) → k < length xs → 0 < times (get_or xs k d).slot (slots_seen xs)
@@ -140,10 +141,10 @@ frame_shown v st count a e lent d r q h l f = record {
   inboxes = h.frame.inboxes;
 }
 
-lent_is : (st : State) (s : Slot) → is_lent (st.place s) ≡ true → list_of st s ≡ Some Loans
+lent_is : (st : State) (s : Slot) → same_place OnLoan (st.place s) ≡ true → list_of st s ≡ Some Loans
 lent_is st s e = go (st.place s) e
   where
-    go : (p : Option Place) → is_lent p ≡ true → option_map (list_at (owner_of st s)) p ≡ Some Loans
+    go : (p : Option Place) → same_place OnLoan p ≡ true → option_map (list_at (owner_of st s)) p ≡ Some Loans
     go None e = absurd (false≢true e)
     go (Some AtHome) e = absurd (false≢true e)
     go (Some OnLoan) e = refl
@@ -154,7 +155,7 @@ pub slots_permuted : (xs ys : List Entry) → IsPermutation xs ys → IsPermutat
 slots_permuted xs ys p = IsPermutation-map (λ (x : Entry). x.slot) xs ys p
 
 module _ (v : Listing) (st : State) (count : Slot → ℕ) (a : ℕ) (e : Entry) (lent : List Entry) (d : DeskListing)
-    (h : Located v st count) (l : a < length v.desks) (f : FreeEdits v a e lent d) (was : is_lent (st.place e.slot) ≡ true) where
+    (h : Located v st count) (l : a < length v.desks) (f : FreeEdits v a e lent d) (was : same_place OnLoan (st.place e.slot) ≡ true) where
   there : list_of st e.slot ≡ Some Loans
   there = lent_is st e.slot was
 
@@ -247,12 +248,12 @@ module _ (v : Listing) (st : State) (count : Slot → ℕ) (a : ℕ) (e : Entry)
       cached_at p b false q = subst (λ x. Labels x.cache) (sym (desk_other v a b d q)) (cached_stay v st count e.slot (InCache a) b h there)
 
 -- the slot of an accepted free is lent
-pub accepted_lent : (st : State) (a : ℕ) (pair : ℕ × ℕ) → refusal st (Free a pair) ≡ None → is_lent (st.place (slot_at pair)) ≡ true
+pub accepted_lent : (st : State) (a : ℕ) (pair : ℕ × ℕ) → refusal st (Free a pair) ≡ None → same_place OnLoan (st.place (slot_at pair)) ≡ true
 accepted_lent st a pair n =
     let e1 = none_holds (no_desk st a) _ _ n in
     let e2 = none_holds _ _ _ e1.1 in
-    let e3 = none_holds (not (is_lent (st.place (slot_at pair)))) _ _ e2.1 in
-    not-false (is_lent (st.place (slot_at pair))) e3.0
+    let e3 = none_holds (not (same_place OnLoan (st.place (slot_at pair)))) _ _ e2.1 in
+    not-false (same_place OnLoan (st.place (slot_at pair))) e3.0
 
 -- an accepted free, whatever the owner
 pub free_shown : (v : Listing) (st : State) (count : Slot → ℕ) (a : ℕ) (pair : ℕ × ℕ) (e : Entry) (lent : List Entry) (d : DeskListing) →
@@ -260,8 +261,8 @@ pub free_shown : (v : Listing) (st : State) (count : Slot → ℕ) (a : ℕ) (pa
     Located (after_edits v a lent d) (after_free st a (slot_at pair)) (λ s. if same_slot (slot_at pair) s then 0 else count s)
 free_shown v st count a pair e lent d h l n z f = go (owner_of st (slot_at pair) == a) refl
   where
-    was : is_lent (st.place e.slot) ≡ true
-    was = ap (λ s. is_lent (st.place s)) z ∙ accepted_lent st a pair n
+    was : same_place OnLoan (st.place e.slot) ≡ true
+    was = ap (λ s. same_place OnLoan (st.place s)) z ∙ accepted_lent st a pair n
 
     sound : Sound (after_free st a (slot_at pair)) (λ s. if same_slot (slot_at pair) s then 0 else count s)
     sound = free_step st count a pair h.sound n

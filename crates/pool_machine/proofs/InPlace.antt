@@ -5,13 +5,15 @@ use Rattle.std.proofs.lemmas.List.Sorted.{sum_by-IsPermutation}
 use Rattle.region_cut.specs.declared.slot.Slot.{Slot}
 use Rattle.region_cut.specs.Slots.{same_slot, times}
 use Rattle.pool_machine.specs.Slots.{one_if}
-use Rattle.pool_machine.specs.State.{State, Place, AtHome, OnLoan, InCache, InBatch, is_cached, owner_of, slot_size, slots, near, cached_by, cached_bytes}
+use Rattle.pool_machine.specs.State.{State, Place, AtHome, OnLoan, InCache, InBatch, owner_of, slots, cached_bytes, same_place, is_at, class_of}
 use Rattle.pool_machine.specs.Steps.{relocate, move_one, after_send}
 use Rattle.pool_machine.specs.Sound.{Sound}
 use Rattle.pool_machine.proofs.Located.{ListName, HomeOf, Loans, CacheOf, BatchOf, same_list, list_at, list_of, is_list}
 use Rattle.pool_machine.proofs.Basics.{same_slot_eq}
 use Rattle.pool_machine.proofs.Moves.{same_list_self, SomeMove, some_moved, one_moves}
 use Rattle.pool_machine.proofs.Listed.{listed}
+use Rattle.region_cut.specs.Classes.{size_of}
+use Rattle.pool_machine.proofs.Words.{near}
 
 -- the lists are in place at this state
 abbrev pub PlacedAs : (ListName → List Slot) → State → Type 0
@@ -73,7 +75,7 @@ send_named st a t s = go (owner_of st s) (st.place s) (nat_lt (near st a t) (nea
     no false o = refl
 
     go : (o : ℕ) (p : Option Place) (b : Bool) →
-        option_map (list_at o) (option_map (λ old. if is_cached a (Some old) && b then InBatch st.next else old) p)
+        option_map (list_at o) (option_map (λ old. if same_place (InCache a) (Some old) && b then InBatch st.next else old) p)
         ≡ (if b && is_list (CacheOf a) (option_map (list_at o) p) then Some (BatchOf st.next) else option_map (list_at o) p)
     go o None b = no b None
     go o (Some AtHome) b = no b (Some (HomeOf o))
@@ -94,25 +96,25 @@ sent_in_place st before after a t h m =
 
 -- ---- what replies tell of the lists
 
-pub in_cache_is : (a o : ℕ) (p : Option Place) → is_list (CacheOf a) (option_map (list_at o) p) ≡ is_cached a p
+pub in_cache_is : (a o : ℕ) (p : Option Place) → is_list (CacheOf a) (option_map (list_at o) p) ≡ same_place (InCache a) p
 in_cache_is a o None = refl
 in_cache_is a o (Some AtHome) = refl
 in_cache_is a o (Some OnLoan) = refl
 in_cache_is a o (Some (InCache d)) = refl
 in_cache_is a o (Some (InBatch n)) = refl
 
-cached_some : (a : ℕ) (p : Option Place) → is_cached a p ≡ true → is_some p ≡ true
+cached_some : (a : ℕ) (p : Option Place) → same_place (InCache a) p ≡ true → is_some p ≡ true
 cached_some a None e = e
 cached_some a (Some p) e = refl
 
 pub cache_listed : (st : State) (c : Slot → ℕ) (lists : ListName → List Slot) (a : ℕ) → Sound st c → PlacedAs lists st →
-    IsPermutation (lists (CacheOf a)) (filter (cached_by st a) (slots st))
-cache_listed st c lists a h p = listed st c (cached_by st a) (lists (CacheOf a)) h
+    IsPermutation (lists (CacheOf a)) (filter (is_at st (InCache a)) (slots st))
+cache_listed st c lists a h p = listed st c (is_at st (InCache a)) (lists (CacheOf a)) h
     (λ s e. sym (h.placed s) ∙ cached_some a (st.place s) e)
     (λ s. p (CacheOf a) s ∙ ap one_if (in_cache_is a (owner_of st s) (st.place s)))
 
 -- the bytes in a cache are the sum over the cache's list
 pub bytes_listed : (st : State) (c : Slot → ℕ) (lists : ListName → List Slot) (a : ℕ) → Sound st c → PlacedAs lists st →
-    cached_bytes st a ≡ sum_by (slot_size st) (lists (CacheOf a))
-bytes_listed st c lists a h p = sum_by-IsPermutation (slot_size st) (lists (CacheOf a)) (filter (cached_by st a) (slots st))
+    cached_bytes st a ≡ sum_by ((λ s. size_of (class_of st s))) (lists (CacheOf a))
+bytes_listed st c lists a h p = sum_by-IsPermutation ((λ s. size_of (class_of st s))) (lists (CacheOf a)) (filter (is_at st (InCache a)) (slots st))
     (cache_listed st c lists a h p)

@@ -9,14 +9,15 @@ use Rattle.pool_machine.specs.declared.reply.Reply.TheVariants.{Chunk, Slot as L
 use Rattle.region_cut.specs.Classes.{slots_of}
 use Rattle.region_cut.specs.Slots.{same_slot}
 use Rattle.pool_machine.specs.Slots.{has_index}
-use Rattle.pool_machine.specs.State.{Place, AtHome, OnLoan, InCache, InBatch, Waiting, State, is_home, is_lent, is_cached, is_queued, owner_or, owner_of, class_of, slots, near, home_with, cached_by, in_bucket, inbox, digits_of}
-use Rattle.pool_machine.specs.Refusals.{refusal, no_desk, slot_at, front_ready}
-use Rattle.pool_machine.specs.Steps.{Answer, relocate, move_one, move_bucket, move_batch, freed_place, with_holder, with_chunk, link_one, front_of, after_send, after_take, after_free, after, Answers, Run}
+use Rattle.pool_machine.specs.State.{Place, AtHome, OnLoan, InCache, InBatch, Waiting, State, owner_of, class_of, slots, home_with, in_bucket, inbox, digits_of, same_place, is_at}
+use Rattle.pool_machine.specs.Refusals.{refusal, no_desk, slot_at}
+use Rattle.pool_machine.specs.Steps.{Answer, relocate, move_one, move_bucket, move_batch, with_holder, with_chunk, front_of, after_send, after_take, after_free, after, Answers, Run}
 use Rattle.pool_machine.specs.Forwards.{counted, forwards}
 use Rattle.pool_machine.specs.Sound.{Member, GoesNearer, FitsIn, Fits, FitsWaiting, Rising, Sound}
 use Rattle.pool_machine.specs.declared.chunk.DrawnChunk.{DrawnChunk}
 use Rattle.pool_machine.proofs.Basics.{same_slot_eq, none_holds, Member-append_left, Member_last, Member-push_cases, Member-filter, filter_member, Member-map, map_member, FrontOf, front_is, link_keeps, any_witness}
 use Rattle.digit_route.proofs.SharedLaws.{shared_by_others, shared_on_the_way}
+use Rattle.pool_machine.proofs.Words.{freed_place, link_one, owner_or, near, front_ready}
 
 pub Rising-filter : (p : Waiting → Bool) (ws : List Waiting) → Rising ws → Rising (filter p ws)
 Rising-filter p [] r = tt
@@ -73,7 +74,7 @@ holder_sound st c a x h = record {
 
 -- one slot goes to another place; it was in no batch
 moved_sound : (st : State) (c : Slot → ℕ) (r : Slot) (q : Place) (n : ℕ) → Sound st c →
-    (is_home (st.place r) ≡ true) ⊎ (is_lent (st.place r) ≡ true) →
+    (same_place AtHome (st.place r) ≡ true) ⊎ (same_place OnLoan (st.place r) ≡ true) →
     FitsIn st (owner_of st r) n q → n < digits_of st →
     Sound (relocate (move_one r q) st) (λ s. if same_slot r s then n else c s)
 moved_sound st c r q n h was fit l = record {
@@ -99,9 +100,9 @@ moved_sound st c r q n h was fit l = record {
     fits_at s false e None f = tt
     fits_at s false e (Some p) f = f
 
-    none_queued : (p : Option Place) (m : ℕ) → p ≡ Some (InBatch m) → (is_home p ≡ true) ⊎ (is_lent p ≡ true) → ⊥
-    none_queued p m e (inl k) = false≢true (sym (ap is_home e) ∙ k)
-    none_queued p m e (inr k) = false≢true (sym (ap is_lent e) ∙ k)
+    none_queued : (p : Option Place) (m : ℕ) → p ≡ Some (InBatch m) → (same_place AtHome p ≡ true) ⊎ (same_place OnLoan p ≡ true) → ⊥
+    none_queued p m e (inl k) = false≢true (sym (ap (same_place AtHome) e) ∙ k)
+    none_queued p m e (inr k) = false≢true (sym (ap (same_place OnLoan) e) ∙ k)
 
     stays : (s : Slot) (m : ℕ) (b : Bool) → same_slot r s ≡ b → st.place s ≡ Some (InBatch m) →
         option_map (λ old. if b then q else old) (st.place s) ≡ Some (InBatch m)
@@ -268,7 +269,7 @@ send_sound st c a t h al tl ne found = record {
             subst (λ x. x < near st (owner_of st s) t) (sym k) l
 
     fits_at : (s : Slot) (b : Bool) → nat_lt (near st a t) (near st (owner_of st s) t) ≡ b → (p : Option Place) → Fits st (owner_of st s) (c s) p →
-        Fits new (owner_of st s) (c s) (option_map (λ old. if is_cached a (Some old) && b then InBatch st.next else old) p)
+        Fits new (owner_of st s) (c s) (option_map (λ old. if same_place (InCache a) (Some old) && b then InBatch st.next else old) p)
     fits_at s b e None f = tt
     fits_at s b e (Some AtHome) f = f
     fits_at s b e (Some OnLoan) f = f
@@ -281,8 +282,8 @@ send_sound st c a t h al tl ne found = record {
         cached true q false e = f
         cached false q b e = f
 
-    bucket_parts : (x : Bool) (p : Option Place) (y z : Bool) → is_cached a p ≡ x → ((x && y) && z) ≡ true →
-        (option_map (λ old. if is_cached a (Some old) && y then InBatch st.next else old) p ≡ Some (InBatch st.next)) × (z ≡ true)
+    bucket_parts : (x : Bool) (p : Option Place) (y z : Bool) → same_place (InCache a) p ≡ x → ((x && y) && z) ≡ true →
+        (option_map (λ old. if same_place (InCache a) (Some old) && y then InBatch st.next else old) p ≡ Some (InBatch st.next)) × (z ≡ true)
     bucket_parts true None y z e g = absurd (false≢true e)
     bucket_parts true (Some p) true true e g = (ap (λ b. Some (if b && true then InBatch st.next else p)) e, refl)
     bucket_parts true (Some p) true false e g = absurd (false≢true g)
@@ -298,13 +299,13 @@ send_sound st c a t h al tl ne found = record {
     })
     waits_at w (inr e) = subst (λ v. FitsWaiting new v) (sym e) (
         let s = found.0 in
-        let g = bucket_parts (cached_by st a s) (st.place s) (nat_lt (near st a t) (near st (owner_of st s) t)) (owner_of st s == t) refl found.1 in
+        let g = bucket_parts (is_at st (InCache a) s) (st.place s) (nat_lt (near st a t) (near st (owner_of st s) t)) (owner_of st s == t) refl found.1 in
         record { numbered = omega arith; a_desk = tl; leaves = ne; reaches = (s, g.0, eqb-true (owner_of st s) t g.1) })
 
 -- ---- Take
 
 take_sound : (st : State) (c : Slot → ℕ) (b : ℕ) → Sound st c → b < st.desks → FrontOf (λ w. b == w.address) st.waiting (inbox st b) →
-    Sound (after_take st b) (λ s. if is_queued (front_of st b) (st.place s) && not (owner_of st s == b) then suc (c s) else c s)
+    Sound (after_take st b) (λ s. if same_place (InBatch (front_of st b)) (st.place s) && not (owner_of st s == b) then suc (c s) else c s)
 take_sound st c b h bl front = record {
   desks_fit = h.desks_fit;
   digits_fit = h.digits_fit;
@@ -345,8 +346,8 @@ take_sound st c b h bl front = record {
     batch_at s n false e y q f = (f.0, stays s n e f.1)
 
     fits_at : (s : Slot) (y : Bool) → (owner_of st s == b) ≡ y → (p : Option Place) → Fits st (owner_of st s) (c s) p →
-        Fits (after_take st b) (owner_of st s) (if is_queued (front_of st b) p && not y then suc (c s) else c s)
-        (option_map (λ old. if is_queued (front_of st b) (Some old) then (if y then AtHome else InCache b) else old) p)
+        Fits (after_take st b) (owner_of st s) (if same_place (InBatch (front_of st b)) p && not y then suc (c s) else c s)
+        (option_map (λ old. if same_place (InBatch (front_of st b)) (Some old) then (if y then AtHome else InCache b) else old) p)
     fits_at s y q None f = tt
     fits_at s y q (Some AtHome) f = f
     fits_at s y q (Some OnLoan) f = f
@@ -361,7 +362,7 @@ take_sound st c b h bl front = record {
     few_in s n false e y q f = h.few s
 
     few_at : (s : Slot) (y : Bool) → (owner_of st s == b) ≡ y → (p : Option Place) → Fits st (owner_of st s) (c s) p →
-        (if is_queued (front_of st b) p && not y then suc (c s) else c s) < digits_of st
+        (if same_place (InBatch (front_of st b)) p && not y then suc (c s) else c s) < digits_of st
     few_at s y q None f = h.few s
     few_at s y q (Some AtHome) f = h.few s
     few_at s y q (Some OnLoan) f = h.few s
@@ -387,8 +388,8 @@ take_sound st c b h bl front = record {
 a_desk_from : (st : State) (a : ℕ) → no_desk st a ≡ false → a < st.desks
 a_desk_from st a e = leb-false st.desks a e
 
-home_is : (st : State) (a z : ℕ) (s : Slot) → home_with st a z s ≡ true → is_home (st.place s) ≡ true
-home_is st a z s e = (and_parts (is_home (st.place s)) ((owner_of st s == a) && (class_of st s == z)) e).0
+home_is : (st : State) (a z : ℕ) (s : Slot) → home_with st a z s ≡ true → same_place AtHome (st.place s) ≡ true
+home_is st a z s e = (and_parts (same_place AtHome (st.place s)) ((owner_of st s == a) && (class_of st s == z)) e).0
 
 pub alloc_step : (st : State) (c : Slot → ℕ) (a z : ℕ) (s : Slot) → Sound st c → home_with st a z s ≡ true → Sound (relocate (move_one s OnLoan) st) c
 alloc_step st c a z s h e =
@@ -404,8 +405,8 @@ pub free_step : (st : State) (c : Slot → ℕ) (a : ℕ) (pair : ℕ × ℕ) �
 free_step st c a pair h e =
     let e1 = none_holds (no_desk st a) _ _ e in
     let e2 = none_holds _ _ _ e1.1 in
-    let e3 = none_holds (not (is_lent (st.place (slot_at pair)))) _ _ e2.1 in
-    moved_sound st c (slot_at pair) (freed_place st a (slot_at pair)) 0 h (inr (not-false (is_lent (st.place (slot_at pair))) e3.0))
+    let e3 = none_holds (not (same_place OnLoan (st.place (slot_at pair)))) _ _ e2.1 in
+    moved_sound st c (slot_at pair) (freed_place st a (slot_at pair)) 0 h (inr (not-false (same_place OnLoan (st.place (slot_at pair))) e3.0))
     (fit (owner_of st (slot_at pair) == a) refl) (lt_of_le_of_lt zero-le (h.few (slot_at pair)))
   where
     fit : (b : Bool) → (owner_of st (slot_at pair) == a) ≡ b → FitsIn st (owner_of st (slot_at pair)) 0 (if b then AtHome else InCache a)
@@ -425,7 +426,7 @@ send_step st c a t h e =
     (not-false (list_any (λ s. in_bucket st a t s && (owner_of st s == t)) (slots st)) e5.0))
 
 pub take_step : (st : State) (c : Slot → ℕ) (b : ℕ) → Sound st c → refusal st (Take b) ≡ None →
-    Sound (after_take st b) (λ s. if is_queued (front_of st b) (st.place s) && not (owner_of st s == b) then suc (c s) else c s)
+    Sound (after_take st b) (λ s. if same_place (InBatch (front_of st b)) (st.place s) && not (owner_of st s == b) then suc (c s) else c s)
 take_step st c b h e =
     let e1 = none_holds (no_desk st b) _ _ e in
     let e2 = none_holds _ _ _ e1.1 in

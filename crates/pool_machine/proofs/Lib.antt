@@ -1,4 +1,5 @@
 pub mod AllocStep
+pub mod Words
 pub mod Applied
 pub mod Basics
 pub mod Batches

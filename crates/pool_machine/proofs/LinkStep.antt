@@ -7,7 +7,6 @@ use Rattle.pool_machine.specs.declared.request.Request.TheVariants.{Link}
 use Rattle.pool_machine.specs.declared.reply.Reply.TheVariants.{Done}
 use Rattle.region_cut.specs.Slots.{times}
 use Rattle.pool_machine.specs.State.{State, Waiting, inbox}
-use Rattle.pool_machine.specs.Steps.{link_one}
 use Rattle.pool_machine.specs.Sound.{Member, Rising}
 use Rattle.pool_machine.specs.Listing.{Listing, BatchListing, as_waiting, Counted}
 use Rattle.pool_machine.proofs.Located.{inbox_listing, ListName, HomeOf, Loans, CacheOf, BatchOf, slots_in, if_numbered, Located, LocatedStep}
@@ -15,6 +14,7 @@ use Rattle.pool_machine.proofs.Basics.{filter_member, link_keeps}
 use Rattle.pool_machine.proofs.Batches.{same_number, row_member, waits_there, row_rises}
 use Rattle.pool_machine.proofs.Keeps.{link_sound}
 use Rattle.pool_machine.proofs.Refusals.{refusal_seen, refusal_agrees}
+use Rattle.pool_machine.proofs.Words.{link_one}
 
 -- ---- links
 

@@ -7,7 +7,7 @@ use Rattle.std.proofs.lemmas.List.Sorted.{list_any-IsPermutation}
 use Rattle.region_cut.specs.declared.slot.Slot.{Slot}
 use Rattle.region_cut.specs.Slots.{times}
 use Rattle.pool_machine.specs.Slots.{one_if}
-use Rattle.pool_machine.specs.State.{State, Place, AtHome, OnLoan, InCache, InBatch, owner_of, class_of, slots, home_with, is_home, is_lent}
+use Rattle.pool_machine.specs.State.{State, Place, AtHome, OnLoan, InCache, InBatch, owner_of, class_of, slots, home_with, same_place}
 use Rattle.pool_machine.specs.Sound.{Sound}
 use Rattle.pool_machine.specs.Listing.{slots_seen, Entry}
 use Rattle.pool_machine.proofs.Located.{ListName, HomeOf, Loans, list_at, list_of, is_list}
@@ -56,14 +56,14 @@ eqb_turn x y = go (x == y) refl
     go true e = sym (eq-eqb y x (sym (eqb-true x y e)))
     go false e = sym (ne_eqb y x (λ q. eqb-false x y e (sym q)))
 
-pub at_home_is : (a o : ℕ) (p : Option Place) → is_list (HomeOf a) (option_map (list_at o) p) ≡ is_home p && (o == a)
+pub at_home_is : (a o : ℕ) (p : Option Place) → is_list (HomeOf a) (option_map (list_at o) p) ≡ same_place AtHome p && (o == a)
 at_home_is a o None = refl
 at_home_is a o (Some AtHome) = eqb_turn a o
 at_home_is a o (Some OnLoan) = refl
 at_home_is a o (Some (InCache d)) = refl
 at_home_is a o (Some (InBatch n)) = refl
 
-pub lent_named : (o : ℕ) (p : Option Place) → is_list Loans (option_map (list_at o) p) ≡ is_lent p
+pub lent_named : (o : ℕ) (p : Option Place) → is_list Loans (option_map (list_at o) p) ≡ same_place OnLoan p
 lent_named o None = refl
 lent_named o (Some AtHome) = refl
 lent_named o (Some OnLoan) = refl
@@ -72,7 +72,7 @@ lent_named o (Some (InBatch n)) = refl
 
 pub home_with_is : (st : State) (a c : ℕ) (s : Slot) → home_with st a c s ≡ is_list (HomeOf a) (list_of st s) && (class_of st s == c)
 home_with_is st a c s =
-    together (is_home (st.place s)) (owner_of st s == a) (class_of st s == c)
+    together (same_place AtHome (st.place s)) (owner_of st s == a) (class_of st s == c)
     ∙ ap (λ b. b && (class_of st s == c)) (sym (at_home_is a (owner_of st s) (st.place s)))
   where
     together : (x y z : Bool) → (x && (y && z)) ≡ ((x && y) && z)

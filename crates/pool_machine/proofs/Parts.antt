@@ -6,7 +6,7 @@ use Rattle.std.proofs.lemmas.List.Sorted.{length_permutation}
 use Rattle.region_cut.specs.declared.slot.Slot.{Slot}
 use Rattle.region_cut.specs.Slots.{same_slot, times}
 use Rattle.pool_machine.specs.Slots.{one_if}
-use Rattle.pool_machine.specs.State.{State, Place, owner_of, slots, near, in_bucket, bucket, opening, is_slot, class_of, slot_size, cached_bytes}
+use Rattle.pool_machine.specs.State.{State, Place, owner_of, slots, in_bucket, bucket, opening, is_slot, class_of, cached_bytes}
 use Rattle.pool_machine.specs.Sound.{Sound}
 use Rattle.pool_machine.specs.Listing.{slots_seen, Listing, DeskListing, Entry, BatchListing, desk_listing, empty_desk, as_waiting, Labelled, Counted}
 use Rattle.pool_machine.proofs.Located.{ListName, HomeOf, Loans, CacheOf, BatchOf, list_at, list_of, is_list, slots_in, if_numbered, Located}
@@ -21,6 +21,7 @@ use Rattle.std.proofs.lemmas.List.{length-replicate}
 use Rattle.digit_route.specs.Digits.{Scheme, IsScheme}
 use Rattle.region_cut.specs.Classes.{size_of}
 use Rattle.pool_machine.proofs.InPlace.{bytes_listed}
+use Rattle.pool_machine.proofs.Words.{near}
 
 module _ (st : State) (p : ℕ → Bool) where
   -- a test of the owner is a test of the slot
@@ -97,10 +98,10 @@ bucket_length v st c a t h =
 -- ---- the bytes in a cache
 
 sizes_seen : (st : State) (xs : List Entry) → All (λ (e : Entry). e.class ≡ class_of st e.slot) xs →
-    sum_by (slot_size st) (slots_seen xs) ≡ sum_by (λ (e : Entry). size_of e.class) xs
+    sum_by ((λ s. size_of (class_of st s))) (slots_seen xs) ≡ sum_by (λ (e : Entry). size_of e.class) xs
 sizes_seen st [] h = refl
 sizes_seen st (x ∷ xs) h =
-    sum_by-cons (slot_size st) x.slot (slots_seen xs)
+    sum_by-cons ((λ s. size_of (class_of st s))) x.slot (slots_seen xs)
     ∙ (ap₂ ◌+◌ (ap size_of (sym (All-head (λ (e : Entry). e.class ≡ class_of st e.slot) x xs h)))
     (sizes_seen st xs (All-tail (λ (e : Entry). e.class ≡ class_of st e.slot) x xs h))
     ∙ sym (sum_by-cons (λ (e : Entry). size_of e.class) x xs))

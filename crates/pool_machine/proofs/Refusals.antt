@@ -12,8 +12,8 @@ use Rattle.pool_machine.specs.declared.refusal.Refusal.TheVariants.{NoDesk, Idle
 use Rattle.region_cut.specs.Classes.{classes_of, largest_of}
 use Rattle.region_cut.specs.Slots.{same_slot, times}
 use Rattle.pool_machine.specs.Slots.{one_if}
-use Rattle.pool_machine.specs.State.{profile_at, least_class, State, Waiting, owner_of, class_of, slots, near, home_with, has_home, cached_by, in_bucket, inbox, is_lent}
-use Rattle.pool_machine.specs.Refusals.{first, conditions, refusal, no_desk, is_idle, is_half, front_ready, slot_at, may_grow}
+use Rattle.pool_machine.specs.State.{profile_at, least_class, State, Waiting, owner_of, class_of, slots, home_with, has_home, in_bucket, inbox, OnLoan, InCache, same_place, is_at}
+use Rattle.pool_machine.specs.Refusals.{first, conditions, refusal, no_desk, is_idle, slot_at, may_grow}
 use Rattle.pool_machine.specs.Sound.{Member}
 use Rattle.pool_machine.specs.Listing.{Listing, Entry, BatchListing, slots_seen, desk_listing, as_waiting}
 use Rattle.pool_machine.proofs.Located.{inbox_listing, HomeOf, Loans, CacheOf, list_of, is_list, Located, LocatedStep}
@@ -23,6 +23,7 @@ use Rattle.pool_machine.proofs.Basics.{Member-filter}
 use Rattle.pool_machine.proofs.Enumerate.{count_cons}
 use Rattle.pool_machine.proofs.InPlace.{in_cache_is}
 use Rattle.pool_machine.proofs.PartBy.{part_any, home_with_is, lent_named, bools_agree, any_same}
+use Rattle.pool_machine.proofs.Words.{is_half, near, front_ready}
 
 -- whether the bucket for t takes an owner's buffers
 abbrev pub goes_by : Scheme → ℕ → ℕ → ℕ → Bool
@@ -36,7 +37,8 @@ abbrev pub conditions_seen : Listing → Request → List (Bool × Refusal)
 conditions_seen v (Adopt a x) = (nat_le (length v.desks) a, NoDesk) ∷ (is_some (desk_listing v a).worker, Held) ∷ []
 conditions_seen v (Retire a) =
     (nat_le (length v.desks) a, NoDesk) ∷ (is_none (desk_listing v a).worker, Idle)
-    ∷ (list_any (λ (e : Entry). true) (desk_listing v a).cache || any_queued (λ w. (a == w.sender) && not w.linked) v.inboxes, Unsettled) ∷ []
+    ∷ (list_any (λ (e : Entry). true) (desk_listing v a).cache, Unsettled)
+    ∷ (any_queued (λ w. (a == w.sender) && not w.linked) v.inboxes, Unsettled) ∷ []
 conditions_seen v (Claim a c) =
     (nat_le (length v.desks) a, NoDesk) ∷ (is_none (desk_listing v a).worker, Idle) ∷ (nat_le (classes_of (profile_of v.digits.bits)) c, BadClass)
     ∷ (list_any (λ (e : Entry). e.class == c) (desk_listing v a).home, NotNeeded) ∷ (nat_le v.chunks (length v.drawn), NoChunk) ∷ []
@@ -153,8 +155,8 @@ any_times s (x ∷ xs) e = subst (λ n. 0 < n) (sym (count_cons (same_slot s) x.
     go false f l = let k = f l in omega arith
 
 pub lent_any : (v : Listing) (st : State) (count : Slot → ℕ) → Located v st count → (s : Slot) →
-    is_lent (st.place s) ≡ list_any (λ (e : Entry). same_slot s e.slot) v.lent
-lent_any v st count h s = go (is_lent (st.place s)) (sym (lent_named (owner_of st s) (st.place s)))
+    same_place OnLoan (st.place s) ≡ list_any (λ (e : Entry). same_slot s e.slot) v.lent
+lent_any v st count h s = go (same_place OnLoan (st.place s)) (sym (lent_named (owner_of st s) (st.place s)))
     (list_any (λ (e : Entry). same_slot s e.slot) v.lent) refl
   where
     go : (x : Bool) → x ≡ is_list Loans (list_of st s) → (y : Bool) → list_any (λ (e : Entry). same_slot s e.slot) v.lent ≡ y → x ≡ y
@@ -204,15 +206,15 @@ module _ (v : Listing) (st : State) (count : Slot → ℕ) (h : Located v st cou
   home_any a c = part_any st count (HomeOf a) (λ e. e.class == c) (λ s. class_of st s == c) (home_with st a c) (desk_listing v a).home h.sound
       (λ k d l. ap (λ x. x == c) (h.homes a k d l).1) (λ s. h.in_place (HomeOf a) s) (λ s. home_with_is st a c s)
 
-  pub cache_any : (a : ℕ) (p : ℕ → Bool) → list_any (λ s. cached_by st a s && p (owner_of st s)) (slots st) ≡ list_any (λ (e : Entry). p e.owner)
+  pub cache_any : (a : ℕ) (p : ℕ → Bool) → list_any (λ s. is_at st (InCache a) s && p (owner_of st s)) (slots st) ≡ list_any (λ (e : Entry). p e.owner)
       (desk_listing v a).cache
-  cache_any a p = part_any st count (CacheOf a) (λ e. p e.owner) (λ s. p (owner_of st s)) (λ s. cached_by st a s && p (owner_of st s))
+  cache_any a p = part_any st count (CacheOf a) (λ e. p e.owner) (λ s. p (owner_of st s)) (λ s. is_at st (InCache a) s && p (owner_of st s))
       (desk_listing v a).cache h.sound
       (λ k d l. ap p (h.cached a k d l).0) (λ s. h.in_place (CacheOf a) s)
       (λ s. ap (λ b. b && p (owner_of st s)) (sym (in_cache_is a (owner_of st s) (st.place s))))
 
-  cache_some : (a : ℕ) → list_any (cached_by st a) (slots st) ≡ list_any (λ (e : Entry). true) (desk_listing v a).cache
-  cache_some a = any_same (cached_by st a) (λ s. cached_by st a s && true) (slots st) (λ s. and_true (cached_by st a s)) ∙ cache_any a (λ o. true)
+  cache_some : (a : ℕ) → list_any (is_at st (InCache a)) (slots st) ≡ list_any (λ (e : Entry). true) (desk_listing v a).cache
+  cache_some a = any_same (is_at st (InCache a)) (λ s. is_at st (InCache a) s && true) (slots st) (λ s. and_true (is_at st (InCache a) s)) ∙ cache_any a (λ o. true)
     where
       and_true : (b : Bool) → b ≡ (b && true)
       and_true true = refl
@@ -225,9 +227,9 @@ module _ (v : Listing) (st : State) (count : Slot → ℕ) (h : Located v st cou
   owner_any : (a t : ℕ) → list_any (λ s. in_bucket st a t s && (owner_of st s == t)) (slots st)
       ≡ list_any (λ (e : Entry). goes_by v.digits a t e.owner && (e.owner == t)) (desk_listing v a).cache
   owner_any a t =
-      any_same (λ s. in_bucket st a t s && (owner_of st s == t)) (λ s. cached_by st a s && (nat_lt (near st a t)
+      any_same (λ s. in_bucket st a t s && (owner_of st s == t)) (λ s. is_at st (InCache a) s && (nat_lt (near st a t)
       (near st (owner_of st s) t) && (owner_of st s == t))) (slots st)
-      (λ s. apart (cached_by st a s) (nat_lt (near st a t) (near st (owner_of st s) t)) (owner_of st s == t))
+      (λ s. apart (is_at st (InCache a) s) (nat_lt (near st a t) (near st (owner_of st s) t)) (owner_of st s == t))
       ∙ (cache_any a (λ o. nat_lt (near st a t) (near st o t) && (o == t))
       ∙ ap (λ w. list_any (λ (e : Entry). goes_by w a t e.owner && (e.owner == t)) (desk_listing v a).cache) (sym h.frame.digits))
     where
@@ -242,7 +244,8 @@ module _ (v : Listing) (st : State) (count : Slot → ℕ) (h : Located v st cou
   conditions_agree (Adopt a x) = ap₂ (λ (b c : Bool). (b, NoDesk) ∷ (c, Held) ∷ []) (no_desk_is a) (ap is_some (sym (h.frame.holder a)))
   conditions_agree (Retire a) =
       ap₂ ◌∷◌ (ap (λ b. (b, NoDesk)) (no_desk_is a)) (ap₂ ◌∷◌ (ap (λ b. (b, Idle)) (idle_is a))
-      (ap (λ b. (b, Unsettled) ∷ []) (ap₂ ◌||◌ (cache_some a) (queued_any v st count h (λ w. (a == w.sender) && not w.linked)))))
+      (ap₂ ◌∷◌ (ap (λ b. (b, Unsettled)) (cache_some a))
+      (ap (λ b. (b, Unsettled) ∷ []) (queued_any v st count h (λ w. (a == w.sender) && not w.linked)))))
   conditions_agree (Claim a c) =
       ap₂ ◌∷◌ (ap (λ b. (b, NoDesk)) (no_desk_is a)) (ap₂ ◌∷◌ (ap (λ b. (b, Idle)) (idle_is a))
       (ap₂ ◌∷◌ (ap (λ (s : Scheme). (nat_le (classes_of (profile_of s.bits)) c, BadClass)) (sym h.frame.digits))

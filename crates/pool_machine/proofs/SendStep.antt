@@ -7,7 +7,7 @@ use Rattle.std.proofs.lemmas.List.Sorted.{All-permutation, sum_by-IsPermutation,
 use Rattle.region_cut.specs.declared.slot.Slot.{Slot}
 use Rattle.pool_machine.specs.declared.request.Request.TheVariants.{Send}
 use Rattle.region_cut.specs.Slots.{same_slot, times}
-use Rattle.pool_machine.specs.State.{State, Waiting, owner_of, near, inbox}
+use Rattle.pool_machine.specs.State.{State, Waiting, owner_of, inbox}
 use Rattle.pool_machine.specs.Refusals.{refusal}
 use Rattle.pool_machine.specs.Steps.{after_send}
 use Rattle.pool_machine.specs.Listing.{slots_seen, Listing, DeskListing, Entry, BatchListing, desk_listing, as_waiting, Labelled, Counted}
@@ -18,6 +18,7 @@ use Rattle.pool_machine.proofs.InPlace.{sent_in_place}
 use Rattle.pool_machine.proofs.Parts.{part_times}
 use Rattle.pool_machine.proofs.FloorSteps.{with_desk, desk_here, desk_other, desk_keeps}
 use Rattle.pool_machine.proofs.Keeps.{send_step}
+use Rattle.pool_machine.proofs.Words.{near}
 
 -- whether the bucket for t takes the buffers of an owner
 abbrev pub nearer_owner : State → ℕ → ℕ → ℕ → Bool

@@ -7,11 +7,10 @@ use Rattle.digit_route.specs.Digits.{Scheme, IsScheme}
 use Rattle.pool_machine.specs.declared.request.Request.{Request}
 use Rattle.region_cut.specs.Slots.{same_slot, times}
 use Rattle.pool_machine.specs.Slots.{one_if}
-use Rattle.pool_machine.specs.State.{State, Place, AtHome, OnLoan, InCache, InBatch, Waiting, owner_of, is_slot, is_lent, is_queued, cached_by, slots, slots_of_batch, opening}
+use Rattle.pool_machine.specs.State.{State, Place, AtHome, OnLoan, InCache, InBatch, Waiting, owner_of, is_slot, slots, opening, same_place, is_at, slots_at}
 use Rattle.pool_machine.specs.Steps.{Answer}
 use Rattle.pool_machine.specs.Forwards.{counted}
 use Rattle.pool_machine.specs.Sound.{Member, Sound, Fits}
-use Rattle.pool_machine.specs.SlotLists.{at_home_with}
 use Rattle.pool_machine.specs.Reached.{IsReached}
 use Rattle.pool_machine.specs.Listing.{Listing, BatchListing, desk_listing, slots_seen, Shown}
 use Rattle.pool_machine.specs.Headline.{joined, Applies}
@@ -25,6 +24,7 @@ use Rattle.pool_machine.proofs.PartBy.{some_list, at_home_is, lent_named}
 use Rattle.pool_machine.proofs.Parts.{opened, opening_located}
 use Rattle.pool_machine.proofs.Reached.{opening_reached, step_reached, reached_sound}
 use Rattle.pool_machine.proofs.TakeFloor.{queued_is}
+use Rattle.pool_machine.proofs.Words.{at_home_with}
 
 -- a test that says which slots are in a list passes slots alone
 within : (st : State) (c : Slot → ℕ) (l : ListName) (q : Slot → Bool) → Sound st c → ((s : Slot) → q s ≡ is_list l (list_of st s))
@@ -48,12 +48,12 @@ shown v st c r h = record {
     h.homes a,
   );
   lent = (
-    named_slots v st c Loans (λ s. is_lent (st.place s)) (slots_seen v.lent) h (λ s. h.in_place Loans s)
+    named_slots v st c Loans (λ s. same_place OnLoan (st.place s)) (slots_seen v.lent) h (λ s. h.in_place Loans s)
         (λ s. sym (lent_named (owner_of st s) (st.place s))),
     h.lent,
   );
   caches = λ a. (
-    named_slots v st c (CacheOf a) (cached_by st a) (slots_seen (desk_listing v a).cache) h (λ s. h.in_place (CacheOf a) s)
+    named_slots v st c (CacheOf a) (is_at st (InCache a)) (slots_seen (desk_listing v a).cache) h (λ s. h.in_place (CacheOf a) s)
         (λ s. sym (in_cache_is a (owner_of st s) (st.place s))),
     h.cached a,
   );
@@ -61,11 +61,11 @@ shown v st c r h = record {
 }
   where
     batch_listed : (b j : ℕ) (d : BatchListing) → j < length (inbox_listing v b)
-        → IsPermutation (slots_seen (get_or (inbox_listing v b) j d).buffers) (slots_of_batch st (get_or (inbox_listing v b) j d).number)
+        → IsPermutation (slots_seen (get_or (inbox_listing v b) j d).buffers) (slots_at st (InBatch (get_or (inbox_listing v b) j d).number))
     batch_listed b j d m = ⊎_elim
         (λ (l : b < length v.inboxes).
         let w = get_or (inbox_listing v b) j d in
-        named_slots v st c (BatchOf w.number) (λ s. is_queued w.number (st.place s)) (slots_seen w.buffers) h
+        named_slots v st c (BatchOf w.number) (λ s. same_place (InBatch w.number) (st.place s)) (slots_seen w.buffers) h
         (λ s. ap (times s) (sym (batch_only v st h.frame h.sound.rising b j d l m)) ∙ h.in_place (BatchOf w.number) s)
         (λ s. queued_is w.number (owner_of st s) (st.place s)))
         (λ (l : length v.inboxes ≤ b).
@@ -106,7 +106,7 @@ module _ (v : Listing) (st : State) (c : Slot → ℕ) (h : Shown v st c) where
       → times s (slots_seen (get_or (inbox_listing v b) j d).buffers) ≡ one_if (is_list (BatchOf (get_or (inbox_listing v b) j d).number) (list_of st s))
   batch_once b j d l s =
       let w = get_or (inbox_listing v b) j d in
-      once_in (BatchOf w.number) (λ r. is_queued w.number (st.place r)) (slots_seen w.buffers) (λ r. queued_is w.number (owner_of st r) (st.place r))
+      once_in (BatchOf w.number) (λ r. same_place (InBatch w.number) (st.place r)) (slots_seen w.buffers) (λ r. queued_is w.number (owner_of st r) (st.place r))
       (h.batches b j d l).0 s
 
   -- all batches of a number have the slots that are in it
@@ -152,8 +152,8 @@ module _ (v : Listing) (st : State) (c : Slot → ℕ) (h : Shown v st c) where
   places : (l : ListName) (s : Slot) → times s (slots_in v l) ≡ one_if (is_list l (list_of st s))
   places (HomeOf a) s = once_in (HomeOf a) (at_home_with st a) (slots_seen (desk_listing v a).home)
       (λ r. sym (at_home_is a (owner_of st r) (st.place r))) (h.homes a).0 s
-  places Loans s = once_in Loans (λ r. is_lent (st.place r)) (slots_seen v.lent) (λ r. sym (lent_named (owner_of st r) (st.place r))) h.lent.0 s
-  places (CacheOf a) s = once_in (CacheOf a) (cached_by st a) (slots_seen (desk_listing v a).cache)
+  places Loans s = once_in Loans (λ r. same_place OnLoan (st.place r)) (slots_seen v.lent) (λ r. sym (lent_named (owner_of st r) (st.place r))) h.lent.0 s
+  places (CacheOf a) s = once_in (CacheOf a) (is_at st (InCache a)) (slots_seen (desk_listing v a).cache)
       (λ r. sym (in_cache_is a (owner_of st r) (st.place r))) (h.caches a).0 s
   places (BatchOf n) s = numbered_once n s
 

@@ -8,9 +8,9 @@ use Rattle.region_cut.specs.declared.slot.Slot.{Slot}
 use Rattle.pool_machine.specs.declared.request.Request.TheVariants.{Take}
 use Rattle.pool_machine.specs.declared.reply.Reply.TheVariants.{Counts}
 use Rattle.region_cut.specs.Slots.{same_slot, times}
-use Rattle.pool_machine.specs.State.{State, Waiting, Place, AtHome, OnLoan, InCache, InBatch, is_queued, owner_of, slots, slots_of_batch, inbox}
+use Rattle.pool_machine.specs.State.{State, Waiting, Place, AtHome, OnLoan, InCache, InBatch, owner_of, slots, inbox, same_place, slots_at}
 use Rattle.pool_machine.specs.Refusals.{refusal}
-use Rattle.pool_machine.specs.Steps.{after_take, front_of, front_number}
+use Rattle.pool_machine.specs.Steps.{after_take, front_of}
 use Rattle.pool_machine.specs.Sound.{Member, Rising}
 use Rattle.pool_machine.specs.Listing.{slots_seen, Listing, DeskListing, Entry, BatchListing, desk_listing, as_waiting, Labelled, Counted}
 use Rattle.pool_machine.proofs.Located.{inbox_listing, ListName, HomeOf, Loans, CacheOf, BatchOf, same_list, list_at, list_of, is_list, slots_in, if_numbered, Located, LocatedStep}
@@ -24,6 +24,7 @@ use Rattle.pool_machine.proofs.Keeps.{take_step}
 use Rattle.pool_machine.proofs.Batches.{same_number, row_member, waits_there, row_rises}
 use Rattle.pool_machine.proofs.Places.{cache_place, queued_place, All-both}
 use Rattle.pool_machine.proofs.Refusals.{refusal_seen, refusal_agrees}
+use Rattle.pool_machine.proofs.Words.{front_number}
 
 abbrev pub passed_on : Entry → Entry
 passed_on e = record e { forwards = e.forwards + 1 }
@@ -103,7 +104,7 @@ module _ (s : Slot) (n : ℕ) where
       let z = count_append (same_slot s) (flat_map (if_numbered n) ws) (flat_map (λ us. flat_map (if_numbered n) us) (set is b rest)) in
       omega (arith, x, y, z)
 
-pub queued_is : (n o : ℕ) (p : Option Place) → is_queued n p ≡ is_list (BatchOf n) (option_map (list_at o) p)
+pub queued_is : (n o : ℕ) (p : Option Place) → same_place (InBatch n) p ≡ is_list (BatchOf n) (option_map (list_at o) p)
 queued_is n o None = refl
 queued_is n o (Some AtHome) = refl
 queued_is n o (Some OnLoan) = refl
@@ -119,7 +120,7 @@ module _ (v : Listing) (st : State) (count : Slot → ℕ) (b : ℕ) (w : BatchL
   next = after_take st b
 
   abbrev risen : Slot → ℕ
-  risen s = if is_queued (front_of st b) (st.place s) && not (owner_of st s == b) then suc (count s) else count s
+  risen s = if same_place (InBatch (front_of st b)) (st.place s) && not (owner_of st s == b) then suc (count s) else count s
 
   bl : b < length v.inboxes
   bl = subst (λ n. b < n) (h.frame.desks ∙ sym h.frame.inbox_count) l
@@ -332,7 +333,7 @@ module _ (v : Listing) (st : State) (count : Slot → ℕ) (b : ℕ) (w : BatchL
       ∙ filter_swap (λ w. not (front_of st b == w.number)) (λ w. c == w.address) st.waiting))
 
   pub take_shown : refusal st (Take b) ≡ None → Located (after_taking v b rest d) (after_take st b)
-      (λ s. if is_queued (front_of st b) (st.place s) && not (owner_of st s == b) then suc (count s) else count s)
+      (λ s. if same_place (InBatch (front_of st b)) (st.place s) && not (owner_of st s == b) then suc (count s) else count s)
   take_shown z = record {
     sound = take_step st count b h.sound z;
     frame = record {
@@ -355,13 +356,13 @@ module _ (v : Listing) (st : State) (count : Slot → ℕ) (b : ℕ) (w : BatchL
 
   -- the numbers of a batch's slots, from its buffers
   pub batch_length : (p : ℕ → Bool) → length (filter (λ (e : Entry). p e.owner) w.buffers) ≡ length
-      (filter (λ s. p (owner_of st s)) (slots_of_batch st (front_of st b)))
+      (filter (λ s. p (owner_of st s)) (slots_at st (InBatch (front_of st b))))
   batch_length p =
-      sym (part_length st count (BatchOf (front_of st b)) p (λ s. is_queued (front_of st b) (st.place s) && p
+      sym (part_length st count (BatchOf (front_of st b)) p (λ s. same_place (InBatch (front_of st b)) (st.place s) && p
       (owner_of st s)) w.buffers h.sound owners
       (λ s. sym (batch_is s) ∙ h.in_place (BatchOf (front_of st b)) s)
       (λ s. ap (λ x. x && p (owner_of st s)) (queued_is (front_of st b) (owner_of st s) (st.place s))))
-      ∙ ap length (sym (filter_twice (λ s. p (owner_of st s)) (λ s. is_queued (front_of st b) (st.place s)) (slots st)))
+      ∙ ap length (sym (filter_twice (λ s. p (owner_of st s)) (λ s. same_place (InBatch (front_of st b)) (st.place s)) (slots st)))
 
 -- an accepted take
 pub take_applies : (v : Listing) (b : ℕ) (w : BatchListing) (rest : List BatchListing) (d : DeskListing) → refusal_seen v (Take b) ≡ None →

@@ -3,7 +3,7 @@ use Rattle.std.proofs.Common.{◌≡◌, ℕ, ◌+◌, Bool, true, false, ◌&&�
 use Rattle.std.proofs.lemmas.Bool.{eqb-true, eq-eqb, true≢false}
 use Rattle.region_cut.specs.declared.slot.Slot.{Slot}
 use Rattle.pool_machine.specs.Slots.{one_if}
-use Rattle.pool_machine.specs.State.{State, Place, AtHome, OnLoan, InCache, InBatch, is_queued, owner_of}
+use Rattle.pool_machine.specs.State.{State, Place, AtHome, OnLoan, InCache, InBatch, owner_of, same_place}
 use Rattle.pool_machine.specs.Steps.{after_take, front_of}
 use Rattle.pool_machine.proofs.Located.{ListName, HomeOf, Loans, CacheOf, BatchOf, same_list, list_at, list_of, is_list}
 use Rattle.pool_machine.proofs.Moves.{SomeMove, some_moved, same_list_eq}
@@ -93,7 +93,7 @@ take_named st b s = go (st.place s) (owner_of st s == b) refl
         go false false e q = ap (λ (x : Bool). if x then Some (CacheOf b) else o) (sym q)
 
     go : (p : Option Place) (y : Bool) → (owner_of st s == b) ≡ y →
-        option_map (list_at (owner_of st s)) (option_map (λ old. if is_queued (front_of st b) (Some old) then
+        option_map (list_at (owner_of st s)) (option_map (λ old. if same_place (InBatch (front_of st b)) (Some old) then
         (if y then AtHome else InCache b) else old) p)
         ≡ (if is_list (BatchOf (front_of st b)) (if y && is_list (BatchOf (front_of st b)) (option_map (list_at (owner_of st s)) p) then Some
         (HomeOf b) else option_map (list_at (owner_of st s)) p)

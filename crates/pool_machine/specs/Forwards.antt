@@ -4,7 +4,7 @@ use Rattle.region_cut.specs.declared.slot.Slot.{Slot}
 use Rattle.pool_machine.specs.declared.request.Request.{Request}
 use Rattle.pool_machine.specs.declared.request.Request.TheVariants.{Free, Take}
 use Rattle.region_cut.specs.Slots.{same_slot}
-use Rattle.pool_machine.specs.State.{State, is_queued, owner_of}
+use Rattle.pool_machine.specs.State.{State, InBatch, is_at, owner_of}
 use Rattle.pool_machine.specs.Refusals.{slot_at}
 use Rattle.pool_machine.specs.Steps.{Answer, front_of, after}
 
@@ -13,7 +13,7 @@ use Rattle.pool_machine.specs.Steps.{Answer, front_of, after}
 abbrev pub counted : State → Request → Answer → Slot → ℕ → ℕ
 counted st q (Err r) s c = c
 counted st (Free a pair) (Ok r) s c = if same_slot (slot_at pair) s then 0 else c
-counted st (Take b) (Ok r) s c = if is_queued (front_of st b) (st.place s) && not (owner_of st s == b) then suc c else c
+counted st (Take b) (Ok r) s c = if is_at st (InBatch (front_of st b)) s && not (owner_of st s == b) then suc c else c
 counted st q (Ok r) s c = c
 
 -- how often a slot was passed on since it was last freed, read off requests and answers; `start` is the count from

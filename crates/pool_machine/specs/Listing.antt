@@ -4,8 +4,8 @@ use Rattle.std.specs.Prelude.{IsPermutation}
 use Rattle.region_cut.specs.declared.slot.Slot.{Slot}
 use Rattle.digit_route.specs.Digits.{Scheme}
 use Rattle.pool_machine.specs.declared.chunk.DrawnChunk.{DrawnChunk}
-use Rattle.pool_machine.specs.State.{State, Waiting, owner_of, class_of, inbox, slots_of_batch}
-use Rattle.pool_machine.specs.SlotLists.{home_slots, cached_slots, lent_slots}
+use Rattle.pool_machine.specs.State.{State, Waiting, OnLoan, InCache, InBatch, owner_of, class_of, inbox, slots_at}
+use Rattle.pool_machine.specs.SlotLists.{home_slots}
 use Rattle.pool_machine.specs.Reached.{IsReached}
 
 -- a buffer, or a slot at home that was never handed out, without its bytes
@@ -88,7 +88,7 @@ pub record Shown (v : Listing) (st : State) (count : Slot → ℕ) : Type 0 wher
   pub reached : IsReached st count
   pub frame : ShowsFrame v st
   pub homes : (a : ℕ) → HasSlots (Labelled st) (desk_listing v a).home (home_slots st a)
-  pub lent : HasSlots (Labelled st) v.lent (lent_slots st)
-  pub caches : (a : ℕ) → HasSlots (Counted st count) (desk_listing v a).cache (cached_slots st a)
+  pub lent : HasSlots (Labelled st) v.lent (slots_at st OnLoan)
+  pub caches : (a : ℕ) → HasSlots (Counted st count) (desk_listing v a).cache (slots_at st (InCache a))
   pub batches : (b : ℕ) → All (λ (w : BatchListing).
-      HasSlots (Counted st count) w.buffers (slots_of_batch st w.number)) (slice_index_or v.inboxes b [])
+      HasSlots (Counted st count) w.buffers (slots_at st (InBatch w.number))) (slice_index_or v.inboxes b [])

@@ -2,6 +2,7 @@
 use Rattle.std.specs.Prelude.{ℕ, ◌^◌, Bool, true, false, ◌||◌, ◌&&◌, not, ◌==◌, nat_lt, nat_le, List, [], ◌∷◌, Option}
 use Rattle.std.specs.Prelude.{Some, None, is_some, is_none, if◌then◌else◌}
 use Rattle.std.specs.List.{list_any, list_all, range_with_len}
+use Rattle.std.specs.Option.{option_map_or}
 use Rattle.region_cut.specs.declared.slot.Slot.{Slot}
 use Rattle.region_cut.specs.Classes.{classes_of, largest_of}
 use Rattle.pool_machine.specs.declared.request.Request.{Request}
@@ -10,8 +11,8 @@ use Rattle.pool_machine.specs.declared.refusal.Refusal.{Refusal}
 use Rattle.pool_machine.specs.declared.refusal.Refusal.TheVariants.{NoDesk, Idle, TooLarge, NeedChunk, NotNeeded}
 use Rattle.pool_machine.specs.declared.refusal.Refusal.TheVariants.{NoChunk, NotLent, NothingFor, NotAnOwner, ToSelf}
 use Rattle.pool_machine.specs.declared.refusal.Refusal.TheVariants.{NoBatch, Nothing, Unsettled, Held, BadClass, Spent}
-use Rattle.pool_machine.specs.State.{Waiting, State, profile_at, least_class, owner_of, slots, is_lent, has_home}
-use Rattle.pool_machine.specs.State.{cached_by, in_bucket, inbox}
+use Rattle.pool_machine.specs.State.{OnLoan, InCache, Waiting, State, profile_at, least_class, owner_of, slots}
+use Rattle.pool_machine.specs.State.{is_at, has_home, in_bucket, front}
 
 -- there is no desk a
 abbrev pub no_desk : State → ℕ → Bool
@@ -21,19 +22,6 @@ no_desk st a = nat_le st.desks a
 abbrev pub is_idle : State → ℕ → Bool
 is_idle st a = is_none (st.holder a)
 
--- the batch has the number n, and still has to be linked
-abbrev pub is_half : ℕ → Waiting → Bool
-is_half n w = (n == w.number) && not w.linked
-
--- it was sent by a, and still has to be linked
-abbrev pub is_half_of : ℕ → Waiting → Bool
-is_half_of a w = (a == w.sender) && not w.linked
-
--- the front of an inbox may be taken
-abbrev pub front_ready : List Waiting → Bool
-front_ready [] = false
-front_ready (w ∷ ws) = w.linked
-
 -- the slot that a Free names
 abbrev pub slot_at : ℕ × ℕ → Slot
 slot_at pair = record { chunk = pair.0; index = pair.1 }
@@ -42,8 +30,8 @@ slot_at pair = record { chunk = pair.0; index = pair.1 }
 abbrev pub conditions : State → Request → List (Bool × Refusal)
 conditions st (Adopt a x) = (no_desk st a, NoDesk) ∷ (is_some (st.holder a), Held) ∷ []
 conditions st (Retire a) =
-    (no_desk st a, NoDesk) ∷ (is_idle st a, Idle)
-    ∷ (list_any (cached_by st a) (slots st) || list_any (is_half_of a) st.waiting, Unsettled) ∷ []
+    (no_desk st a, NoDesk) ∷ (is_idle st a, Idle) ∷ (list_any (is_at st (InCache a)) (slots st), Unsettled)
+    ∷ (list_any (λ w. (a == w.sender) && not w.linked) st.waiting, Unsettled) ∷ []
 conditions st (Claim a c) =
     (no_desk st a, NoDesk) ∷ (is_idle st a, Idle) ∷ (nat_le (classes_of (profile_at st)) c, BadClass)
     ∷ (has_home st a c, NotNeeded) ∷ (list_all (λ k. is_some (st.drawn k)) (range_with_len 0 st.chunks), NoChunk) ∷ []
@@ -51,15 +39,15 @@ conditions st (Alloc a n) =
     (no_desk st a, NoDesk) ∷ (is_idle st a, Idle) ∷ (nat_lt (largest_of (profile_at st)) n, TooLarge)
     ∷ (not (has_home st a (least_class (profile_at st) n)), NeedChunk) ∷ []
 conditions st (Free a pair) =
-    (no_desk st a, NoDesk) ∷ (is_idle st a, Idle) ∷ (not (is_lent (st.place (slot_at pair))), NotLent) ∷ []
+    (no_desk st a, NoDesk) ∷ (is_idle st a, Idle) ∷ (not (is_at st OnLoan (slot_at pair)), NotLent) ∷ []
 conditions st (Send a t) =
     (no_desk st a || no_desk st t, NoDesk) ∷ (is_idle st a, Idle) ∷ (a == t, ToSelf)
     ∷ (not (list_any (in_bucket st a t) (slots st)), NothingFor)
     ∷ (not (list_any (λ s. in_bucket st a t s && (owner_of st s == t)) (slots st)), NotAnOwner)
     ∷ (nat_le (2 ^ 32) st.next, Spent) ∷ []
-conditions st (Link n) = (not (list_any (is_half n) st.waiting), NoBatch) ∷ []
+conditions st (Link n) = (not (list_any (λ w. (n == w.number) && not w.linked) st.waiting), NoBatch) ∷ []
 conditions st (Take b) =
-    (no_desk st b, NoDesk) ∷ (is_idle st b, Idle) ∷ (not (front_ready (inbox st b)), Nothing) ∷ []
+    (no_desk st b, NoDesk) ∷ (is_idle st b, Idle) ∷ (not (option_map_or (λ w. w.linked) (front st b) false), Nothing) ∷ []
 
 -- the first of them that holds
 abbrev pub first : List (Bool × Refusal) → Option Refusal

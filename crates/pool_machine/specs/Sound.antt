@@ -1,13 +1,13 @@
 -- What holds in every state that a run reaches, where each slot was passed on `count` times.
 use Rattle.std.specs.Prelude.{◌≡◌, ◌≢◌, ⊤, ◌^◌, ℕ, ◌<◌, ◌≤◌, List, [], ◌∷◌, Option, Some, None, is_some, ◌⊎◌, All}
 use Rattle.region_cut.specs.declared.slot.Slot.{Slot}
-use Rattle.digit_route.specs.Digits.{IsScheme}
+use Rattle.digit_route.specs.Digits.{IsScheme, common}
 use Rattle.pool_machine.specs.declared.chunk.DrawnChunk.{DrawnChunk}
-use Rattle.pool_machine.specs.State.{Place, InCache, InBatch, Waiting, State, owner_of, is_slot, near, digits_of}
+use Rattle.pool_machine.specs.State.{Place, InCache, InBatch, Waiting, State, owner_of, is_slot, digits_of}
 
 -- the batch brings a slot of this owner, passed on so often, nearer to the owner
 abbrev pub GoesNearer : State → ℕ → ℕ → Waiting → Type 0
-GoesNearer st owner count w = (count ≤ near st owner w.sender) × (near st owner w.sender < near st owner w.address)
+GoesNearer st owner count w = (count ≤ common st.digits owner w.sender) × (common st.digits owner w.sender < common st.digits owner w.address)
 
 -- The batch is well routed: it goes to another desk than its sender, which owns a slot of it, and brings each of its
 -- slots nearer.
@@ -32,7 +32,7 @@ Member w (v ∷ vs) = (w ≡ v) ⊎ Member w vs
 
 -- a slot with this owner, passed on so often, may be in the cache, or in the batch
 abbrev pub FitsIn : State → ℕ → ℕ → Place → Type 0
-FitsIn st owner count (InCache a) = (a < st.desks) × (owner ≢ a) × (count ≤ near st owner a)
+FitsIn st owner count (InCache a) = (a < st.desks) × (owner ≢ a) × (count ≤ common st.digits owner a)
 FitsIn st owner count (InBatch n) =
     (n < st.next) × ((w : Waiting) × Member w st.waiting × (w.number ≡ n))
     × ((w : Waiting) → Member w st.waiting → w.number ≡ n → GoesNearer st owner count w)

@@ -1,7 +1,8 @@
 -- The state of the machine: a pool as it is seen from outside, whatever lists and tables keep it.
 use Rattle.std.specs.Prelude.{ℕ, Bool, true, false, ◌&&◌, ◌==◌, nat_lt, nat_le, List, [], map, filter, flat_map, sum_by}
-use Rattle.std.specs.Prelude.{take, Option, Some, None}
+use Rattle.std.specs.Prelude.{take, slice_get, Option, Some, None}
 use Rattle.std.specs.List.{list_any, range_with_len, position_or_len}
+use Rattle.std.specs.Option.{option_map_or}
 use Rattle.region_cut.specs.declared.class.TheConstants.{SIZES}
 use Rattle.region_cut.specs.declared.profile.Profile.{Profile}
 use Rattle.region_cut.specs.declared.slot.Slot.{Slot}
@@ -71,24 +72,12 @@ least_class p n = position_or_len (λ size. nat_le n size) (take (classes_of p) 
 
 -- ---- slots
 
--- the owner and the class of a chunk, 0 where it isn't drawn
-abbrev pub owner_or : Option DrawnChunk → ℕ
-owner_or None = 0
-owner_or (Some d) = d.owner
-
-abbrev pub class_or : Option DrawnChunk → ℕ
-class_or None = 0
-class_or (Some d) = d.class
-
--- the owner, the class and the size in bytes of a slot are those of its chunk
+-- the owner and the class of a slot are those of its chunk, 0 where that isn't drawn
 abbrev pub owner_of : State → Slot → ℕ
-owner_of st s = owner_or (st.drawn s.chunk)
+owner_of st s = option_map_or (λ (d : DrawnChunk). d.owner) (st.drawn s.chunk) 0
 
 abbrev pub class_of : State → Slot → ℕ
-class_of st s = class_or (st.drawn s.chunk)
-
-abbrev pub slot_size : State → Slot → ℕ
-slot_size st s = size_of (class_of st s)
+class_of st s = option_map_or (λ (d : DrawnChunk). d.class) (st.drawn s.chunk) 0
 
 -- the slot is one of a drawn chunk
 abbrev pub is_slot : State → Slot → Bool
@@ -105,26 +94,25 @@ slots st = flat_map (λ k. slots_of_chunk k (st.drawn k)) (range_with_len 0 st.c
 
 -- ---- places
 
--- it is at home; lent; in the cache of a; in the batch n
-abbrev pub is_home : Option Place → Bool
-is_home (Some AtHome) = true
-is_home _ = false
+-- the place is there, and is this one
+abbrev pub same_place : Place → Option Place → Bool
+same_place AtHome (Some AtHome) = true
+same_place OnLoan (Some OnLoan) = true
+same_place (InCache a) (Some (InCache b)) = a == b
+same_place (InBatch n) (Some (InBatch m)) = n == m
+same_place p _ = false
 
-abbrev pub is_lent : Option Place → Bool
-is_lent (Some OnLoan) = true
-is_lent _ = false
+-- the slot is at this place
+abbrev pub is_at : State → Place → Slot → Bool
+is_at st p s = same_place p (st.place s)
 
-abbrev pub is_cached : ℕ → Option Place → Bool
-is_cached a (Some (InCache b)) = a == b
-is_cached a _ = false
-
-abbrev pub is_queued : ℕ → Option Place → Bool
-is_queued n (Some (InBatch m)) = n == m
-is_queued n _ = false
+-- the slots that are there
+abbrev pub slots_at : State → Place → List Slot
+slots_at st p = filter (is_at st p) (slots st)
 
 -- the slot is at home with this desk, in this class
 abbrev pub home_with : State → ℕ → ℕ → Slot → Bool
-home_with st a c s = is_home (st.place s) && ((owner_of st s == a) && (class_of st s == c))
+home_with st a c s = is_at st AtHome s && ((owner_of st s == a) && (class_of st s == c))
 
 -- some slot is
 abbrev pub has_home : State → ℕ → ℕ → Bool
@@ -132,34 +120,26 @@ has_home st a c = list_any (home_with st a c) (slots st)
 
 -- ---- caches, buckets and batches
 
--- how many leading digits the numbers of two desks share
-abbrev pub near : State → ℕ → ℕ → ℕ
-near st x y = common st.digits x y
-
 -- how many digits a number has
 abbrev pub digits_of : State → ℕ
 digits_of st = count st.digits
 
--- the slot is in the cache of a
-abbrev pub cached_by : State → ℕ → Slot → Bool
-cached_by st a s = is_cached a (st.place s)
-
--- it is in the cache of a, and its owner shares more digits with t than a does
+-- the slot is in the cache of a, and its owner shares more digits with t than a does
 abbrev pub in_bucket : State → ℕ → ℕ → Slot → Bool
-in_bucket st a t s = cached_by st a s && nat_lt (near st a t) (near st (owner_of st s) t)
+in_bucket st a t s = is_at st (InCache a) s && nat_lt (common st.digits a t) (common st.digits (owner_of st s) t)
 
 -- the slots that a sends to t
 abbrev pub bucket : State → ℕ → ℕ → List Slot
 bucket st a t = filter (in_bucket st a t) (slots st)
 
--- the bytes in the cache of a
+-- the bytes in the cache of a: each slot has the size of its class
 abbrev pub cached_bytes : State → ℕ → ℕ
-cached_bytes st a = sum_by (slot_size st) (filter (cached_by st a) (slots st))
-
--- the slots in the batch n
-abbrev pub slots_of_batch : State → ℕ → List Slot
-slots_of_batch st n = filter (λ s. is_queued n (st.place s)) (slots st)
+cached_bytes st a = sum_by (λ s. size_of (class_of st s)) (slots_at st (InCache a))
 
 -- the batches that wait for desk b, the front first
 abbrev pub inbox : State → ℕ → List Waiting
 inbox st b = filter (λ w. b == w.address) st.waiting
+
+-- the front of these
+abbrev pub front : State → ℕ → Option Waiting
+front st b = slice_get (inbox st b) 0

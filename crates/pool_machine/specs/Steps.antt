@@ -2,7 +2,9 @@
 use Rattle.std.specs.Prelude.{◌≡◌, ◌≢◌, ⊤, ◌≤◌, ℕ, suc, ◌<◌, true, false, ◌&&◌, not, ◌==◌, nat_lt, List, [], ◌∷◌, ◌++◌}
 use Rattle.std.specs.Prelude.{map, length, filter, Option, Some, None, Ok, Err, Result, if◌then◌else◌, option_map, ◌⊎◌}
 use Rattle.region_cut.specs.declared.slot.Slot.{Slot}
+use Rattle.std.specs.Option.{option_map_or}
 use Rattle.region_cut.specs.Classes.{slots_of}
+use Rattle.digit_route.specs.Digits.{common}
 use Rattle.pool_machine.specs.declared.request.Request.{Request}
 use Rattle.pool_machine.specs.declared.request.Request.TheVariants.{Adopt, Retire, Claim, Alloc, Free, Send, Link, Take}
 use Rattle.pool_machine.specs.declared.reply.Reply.{Reply}
@@ -12,8 +14,7 @@ use Rattle.pool_machine.specs.declared.refusal.Refusal.{Refusal}
 use Rattle.pool_machine.specs.declared.refusal.Refusal.TheVariants.{NoMemory}
 use Rattle.region_cut.specs.Slots.{same_slot}
 use Rattle.pool_machine.specs.State.{Place, AtHome, OnLoan, InCache, InBatch, Waiting, State, profile_at, least_class}
-use Rattle.pool_machine.specs.State.{owner_of, near, is_cached, is_queued, home_with, bucket, cached_bytes}
-use Rattle.pool_machine.specs.State.{slots_of_batch, inbox}
+use Rattle.pool_machine.specs.State.{owner_of, same_place, home_with, bucket, cached_bytes, slots_at, front}
 use Rattle.pool_machine.specs.Refusals.{slot_at, refusal, may_grow}
 
 -- what a request is answered
@@ -30,28 +31,19 @@ relocate f st = record st { place = λ s. option_map (f s) (st.place s) }
 abbrev pub move_one : Slot → Place → Slot → Place → Place
 move_one s p r old = if same_slot s r then p else old
 
--- a slot that a frees goes home where a owns it, else into the cache of a
-abbrev pub freed_place : State → ℕ → Slot → Place
-freed_place st a s = if owner_of st s == a then AtHome else InCache a
-
 -- the bucket of a for t goes into the next batch
 abbrev pub move_bucket : State → ℕ → ℕ → Slot → Place → Place
 move_bucket st a t s old =
-    if is_cached a (Some old) && nat_lt (near st a t) (near st (owner_of st s) t) then InBatch st.next else old
+    if same_place (InCache a) (Some old) && nat_lt (common st.digits a t) (common st.digits (owner_of st s) t) then InBatch st.next else old
 
 -- of a batch that b takes, the slots that b owns go home, and the others into the cache of b
 abbrev pub move_batch : State → ℕ → ℕ → Slot → Place → Place
 move_batch st b n s old =
-    if is_queued n (Some old) then (if owner_of st s == b then AtHome else InCache b) else old
+    if same_place (InBatch n) (Some old) then (if owner_of st s == b then AtHome else InCache b) else old
 
--- the number of the first batch
-abbrev pub front_number : List Waiting → ℕ
-front_number [] = 0
-front_number (w ∷ ws) = w.number
-
--- the number of the front of the inbox of b
+-- the number of the front of the inbox of b, 0 where there is none
 abbrev pub front_of : State → ℕ → ℕ
-front_of st b = front_number (inbox st b)
+front_of st b = option_map_or (λ (w : Waiting). w.number) (front st b) 0
 
 -- ---- the state after an accepted request
 
@@ -66,9 +58,9 @@ with_chunk k a c st = record st {
   place = λ s. if (k == s.chunk) && nat_lt s.index (slots_of c) then Some AtHome else st.place s;
 }
 
--- the slot was freed by a
+-- the slot was freed by a: it is at home where a owns it, else in the cache of a
 abbrev pub after_free : State → ℕ → Slot → State
-after_free st a s = relocate (move_one s (freed_place st a s)) st
+after_free st a s = relocate (move_one s (if owner_of st s == a then AtHome else InCache a)) st
 
 -- the bucket of a for t is the batch with the next number, which waits to be linked
 abbrev pub after_send : State → ℕ → ℕ → State
@@ -77,17 +69,13 @@ after_send st a t = record (relocate (move_bucket st a t) st) {
   waiting = st.waiting ++ record { number = st.next; sender = a; address = t; linked = false } ∷ [];
 }
 
--- the batch is linked where it has the number n
-abbrev pub link_one : ℕ → Waiting → Waiting
-link_one n w = if n == w.number then record w { linked = true } else w
-
 -- the front of the inbox of b was taken
 abbrev pub after_take : State → ℕ → State
 after_take st b = record (relocate (move_batch st b (front_of st b)) st) {
   waiting = filter (λ w. not (front_of st b == w.number)) st.waiting;
 }
 
--- the state that a request and its answer leave; a refusal changes nothing
+-- the state that a request and its answer leave; a refusal changes nothing, and a link marks the batch of its number
 abbrev pub after : State → Request → Answer → State
 after st q (Err r) = st
 after st (Adopt a x) (Ok r) = with_holder a (Some x) st
@@ -98,21 +86,12 @@ after st (Alloc a n) (Ok (Lent s)) = relocate (move_one s OnLoan) st
 after st (Alloc a n) (Ok _) = st
 after st (Free a pair) (Ok r) = after_free st a (slot_at pair)
 after st (Send a t) (Ok r) = after_send st a t
-after st (Link n) (Ok r) = record st { waiting = map (link_one n) st.waiting }
+after st (Link n) (Ok r) = record st {
+  waiting = map (λ (w : Waiting). if n == w.number then record w { linked = true } else w) st.waiting;
+}
 after st (Take b) (Ok r) = after_take st b
 
 -- ---- answers
-
--- the bytes in the cache of a, once the slot was freed there
-abbrev pub bytes_with : State → ℕ → Slot → ℕ
-bytes_with st a s = cached_bytes (after_free st a s) a
-
--- the slots of the front of the inbox of b: those that b owns, and the others
-abbrev pub coming_home : State → ℕ → List Slot
-coming_home st b = filter (λ s. owner_of st s == b) (slots_of_batch st (front_of st b))
-
-abbrev pub going_on : State → ℕ → List Slot
-going_on st b = filter (λ s. not (owner_of st s == b)) (slots_of_batch st (front_of st b))
 
 -- what an accepted request may be answered: any undrawn chunk, any slot of the class at home, and else what the state
 -- tells
@@ -122,11 +101,15 @@ Replies st (Retire a) Done = ⊤
 Replies st (Claim a c) (Chunk k) = (k < st.chunks) × (st.drawn k ≡ None)
 Replies st (Alloc a n) (Lent s) = home_with st a (least_class (profile_at st) n) s ≡ true
 Replies st (Free a pair) Home = owner_of st (slot_at pair) ≡ a
-Replies st (Free a pair) Cached = (owner_of st (slot_at pair) ≢ a) × (bytes_with st a (slot_at pair) ≤ st.limit)
-Replies st (Free a pair) Due = (owner_of st (slot_at pair) ≢ a) × (st.limit < bytes_with st a (slot_at pair))
+Replies st (Free a pair) Cached =
+    (owner_of st (slot_at pair) ≢ a) × (cached_bytes (after_free st a (slot_at pair)) a ≤ st.limit)
+Replies st (Free a pair) Due =
+    (owner_of st (slot_at pair) ≢ a) × (st.limit < cached_bytes (after_free st a (slot_at pair)) a)
 Replies st (Send a t) (Batch n m) = (n ≡ st.next) × (m ≡ length (bucket st a t))
 Replies st (Link n) Done = ⊤
-Replies st (Take b) (Counts home on) = (home ≡ length (coming_home st b)) × (on ≡ length (going_on st b))
+Replies st (Take b) (Counts home on) =
+    (home ≡ length (filter (λ s. owner_of st s == b) (slots_at st (InBatch (front_of st b)))))
+    × (on ≡ length (filter (λ s. not (owner_of st s == b)) (slots_at st (InBatch (front_of st b)))))
 Replies st _ _ = ⊥
 
 -- what a request may be answered: its refusal; want of memory, where nothing else stands against it; or a reply

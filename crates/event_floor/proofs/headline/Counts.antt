@@ -17,8 +17,8 @@ use Rattle.pool_machine.specs.Headline.{joined}
 use Rattle.pool_machine.proofs.Located.{inbox_listing}
 use Rattle.pool_machine.specs.Listing.{DeskListing, BatchListing, slots_seen, Shown}
 use Rattle.pool_machine.specs.Slots.{one_if}
-use Rattle.pool_machine.specs.State.{State, slots, cached_by}
-use Rattle.pool_machine.specs.SlotLists.{at_home_with, home_slots, cached_slots, queued_slots, lent_slots, drawn_count}
+use Rattle.pool_machine.specs.State.{State, slots, OnLoan, InCache, is_at, slots_at}
+use Rattle.pool_machine.specs.SlotLists.{home_slots, queued_slots, drawn_count}
 use Rattle.event_floor.specs.Lent.{buffers_lent}
 use Rattle.event_floor.specs.Inboxes.{buffers_in, inbox_at}
 use Rattle.event_floor.specs.Desks.{home_of, cached_of}
@@ -30,6 +30,7 @@ use Rattle.pool_machine.proofs.Reached.{reached_sound}
 use Rattle.pool_machine.proofs.Shown.{shown_once}
 use Rattle.event_floor.proofs.headline.Bounds.{all_few, filter_few, capped_is}
 use Rattle.event_floor.proofs.headline.Listed.{home_listed, cache_listed, lent_listed, queue_seen, queue_listed}
+use Rattle.pool_machine.proofs.Words.{at_home_with}
 
 -- ---- slots
 
@@ -86,8 +87,8 @@ module _ (v : FloorState) (st : State) (c : Slot → ℕ) (few : v.chunks ≤ 10
   queued_few b = subst (λ n. n ≤ 4194304)
       (sym (length_permutation (map slot_of (buffers_in (inbox_at v.inboxes b))) (queued_slots st b) (queue_listed v st c h b))) (queue_few b)
 
-  lent_told : count_by is_some v.lent ≡ length (lent_slots st)
-  lent_told = present_count v.lent ∙ sym (as_many slot_of (buffers_lent v.lent) (lent_slots st) (lent_listed v st c h))
+  lent_told : count_by is_some v.lent ≡ length (slots_at st OnLoan)
+  lent_told = present_count v.lent ∙ sym (as_many slot_of (buffers_lent v.lent) (slots_at st OnLoan) (lent_listed v st c h))
 
 -- ---- chunks
 
@@ -135,7 +136,7 @@ drawn_told v st c h = sym (counted_drawn st.drawn v.drawn 0 st.chunks within (λ
 pub floor_tells : (v : FloorState) (st : State) (count : Slot → ℕ) → v.chunks ≤ 1024 → Shown (listing_of v) st count → TellsCounts v st
 floor_tells v st count few h = record {
   home = λ a. counted slot_at (home_of (desk_at v a)) (home_slots st a) (home_listed v st count h a) (few_there v st count few h (at_home_with st a));
-  cached = λ a. counted slot_of (cached_of (desk_at v a)) (cached_slots st a) (cache_listed v st count h a) (few_there v st count few h (cached_by st a));
+  cached = λ a. counted slot_of (cached_of (desk_at v a)) (slots_at st (InCache a)) (cache_listed v st count h a) (few_there v st count few h (is_at st (InCache a)));
   queued = λ a. counted slot_of (buffers_in (inbox_at v.inboxes a)) (queued_slots st a) (queue_listed v st count h a) (queued_few v st count few h a);
   lent = lent_told v st count few h;
   drawn = drawn_told v st count h;

@@ -16,7 +16,7 @@ use Rattle.event_floor.specs.headline.Listing.{entry_of, desk_of, listing_of}
 use Rattle.event_floor.specs.headline.Whole.{IsWhole}
 use Rattle.pool_machine.proofs.Applied.{adopt_applies, retire_applies}
 use Rattle.event_floor.proofs.headline.Views.{passes, held_seen, idle_seen, is_desk_seen, held_first, with_any_desk_seen}
-use Rattle.event_floor.proofs.headline.Refused.{unsettled, half_of_none}
+use Rattle.event_floor.proofs.headline.Refused.{unsettled, unsettled_rows, neither_row, half_of_none}
 
 -- the listing of a floor with another desk
 pub any_desk_listing : (v : FloorState) (a : ℕ) (s : AnyDesk) → listing_of (with_any_desk v a s) ≡ record (listing_of v) { desks = set (listing_of v).desks a (desk_of s) }
@@ -56,5 +56,5 @@ retire_done v w a d h none lacks e =
     let seen = held_seen v a d h in
     subst (λ z. LocatedStep l (Retire a) (Ok Done) z) (sym (ap listing_of e ∙ any_desk_listing v a (IdleDesk (retired d))))
     (retire_applies l a new
-    (held_first v a ((unsettled v a, Unsettled) ∷ []) d h ∙ passes (unsettled v a) Unsettled [] (settled v a d h none lacks))
+    (held_first v a (unsettled_rows v a) d h ∙ neither_row _ _ Unsettled (settled v a d h none lacks))
     refl (ap (λ (z : DeskListing). z.home) (sym seen)) (sym (ap (λ (z : DeskListing). z.cache) seen ∙ ap (map entry_of) none)))

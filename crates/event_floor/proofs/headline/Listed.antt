@@ -16,8 +16,8 @@ use Rattle.pool_machine.proofs.Located.{inbox_listing}
 use Rattle.pool_machine.specs.Listing.{DeskListing, BatchListing, slots_seen, as_waiting, Shown}
 use Rattle.region_cut.specs.Slots.{same_slot, times}
 use Rattle.pool_machine.specs.Slots.{one_if}
-use Rattle.pool_machine.specs.State.{State, Waiting, owner_of, is_slot, slots, is_lent, is_queued, cached_by, slots_of_batch}
-use Rattle.pool_machine.specs.SlotLists.{at_home_with, home_slots, cached_slots, queued_slots, lent_slots}
+use Rattle.pool_machine.specs.State.{State, Waiting, owner_of, is_slot, slots, OnLoan, InCache, InBatch, slots_at}
+use Rattle.pool_machine.specs.SlotLists.{home_slots, queued_slots}
 use Rattle.event_floor.specs.declared.any_desk.AnyDesk.{AnyDesk}
 use Rattle.event_floor.specs.declared.any_desk.AnyDesk.TheVariants.{Idle, Held}
 use Rattle.event_floor.specs.Lent.{buffers_lent}
@@ -30,6 +30,7 @@ use Rattle.pool_machine.proofs.Joined.{located_once}
 use Rattle.pool_machine.proofs.Shown.{located}
 use Rattle.event_floor.proofs.headline.Apart.{home_slots as home_seen}
 use Rattle.event_floor.proofs.headline.Views.{desk_seen, inbox_seen}
+use Rattle.pool_machine.proofs.Words.{at_home_with}
 
 -- ---- the slots of each list
 
@@ -178,12 +179,12 @@ module _ (v : FloorState) (st : State) (c : Slot → ℕ) (h : Shown (listing_of
   home_listed a = subst (λ xs. IsPermutation xs (home_slots st a))
       (ap (λ (d : DeskListing). slots_seen d.home) (desk_seen v a) ∙ home_seen (desk_at v a)) (h.homes a).0
 
-  pub cache_listed : (a : ℕ) → IsPermutation (map slot_of (cached_of (desk_at v a))) (cached_slots st a)
-  cache_listed a = subst (λ xs. IsPermutation xs (cached_slots st a))
+  pub cache_listed : (a : ℕ) → IsPermutation (map slot_of (cached_of (desk_at v a))) (slots_at st (InCache a))
+  cache_listed a = subst (λ xs. IsPermutation xs (slots_at st (InCache a)))
       (ap (λ (d : DeskListing). slots_seen d.cache) (desk_seen v a) ∙ desk_cache (desk_at v a)) (h.caches a).0
 
-  pub lent_listed : IsPermutation (map slot_of (buffers_lent v.lent)) (lent_slots st)
-  lent_listed = subst (λ xs. IsPermutation xs (lent_slots st)) (seen_buffers (buffers_lent v.lent)) h.lent.0
+  pub lent_listed : IsPermutation (map slot_of (buffers_lent v.lent)) (slots_at st OnLoan)
+  lent_listed = subst (λ xs. IsPermutation xs (slots_at st OnLoan)) (seen_buffers (buffers_lent v.lent)) h.lent.0
 
   pub queue_seen : (b : ℕ) → flat_map (λ (w : BatchListing). slots_seen w.buffers) (inbox_listing (listing_of v) b)
       ≡ map slot_of (buffers_in (inbox_at v.inboxes b))
@@ -192,11 +193,11 @@ module _ (v : FloorState) (st : State) (c : Slot → ℕ) (h : Shown (listing_of
   pub queue_listed : (b : ℕ) → IsPermutation (map slot_of (buffers_in (inbox_at v.inboxes b))) (queued_slots st b)
   queue_listed b =
       let ws = inbox_listing (listing_of v) b in
-      let told : flat_map (λ (w : BatchListing). slots_of_batch st w.number) ws ≡ queued_slots st b =
-      sym (flat_of_map (λ (w : Waiting). slots_of_batch st w.number) as_waiting ws) ∙ ap (flat_map (λ (w : Waiting). slots_of_batch st w.number)) (h.frame.inboxes b) in
+      let told : flat_map (λ (w : BatchListing). slots_at st (InBatch w.number)) ws ≡ queued_slots st b =
+      sym (flat_of_map (λ (w : Waiting). slots_at st (InBatch w.number)) as_waiting ws) ∙ ap (flat_map (λ (w : Waiting). slots_at st (InBatch w.number))) (h.frame.inboxes b) in
       subst (λ xs. IsPermutation xs (queued_slots st b)) (queue_seen b)
       (subst (λ ys. IsPermutation (flat_map (λ (w : BatchListing). slots_seen w.buffers) ws) ys) told
-      (flat_permuted (λ (w : BatchListing). slots_seen w.buffers) (λ (w : BatchListing). slots_of_batch st w.number) ws
+      (flat_permuted (λ (w : BatchListing). slots_seen w.buffers) (λ (w : BatchListing). slots_at st (InBatch w.number)) ws
       (λ j d m. (h.batches b j d m).0)))
 
 pub floor_lists : (v : FloorState) (st : State) (count : Slot → ℕ) → Shown (listing_of v) st count → ListsSlots v st

@@ -16,8 +16,9 @@ use Rattle.pool_machine.specs.declared.reply.Reply.TheVariants.{Done, Batch, Cou
 use Rattle.event_floor.specs.Inboxes.{QueuedState, inbox_at, sent_as, as_linked, no_batch, IsHalf, SomeQueued}
 use Rattle.event_floor.specs.Floors.{FloorState}
 use Rattle.event_floor.specs.Steps.{SendsBatch, LinksBatch, TakesFront}
-use Rattle.pool_machine.specs.State.{State, bucket, in_bucket, slots, slots_of_batch, is_queued, owner_of}
-use Rattle.pool_machine.specs.Steps.{Step, front_of, coming_home, going_on}
+use Rattle.pool_machine.specs.State.{State, bucket, in_bucket, slots, owner_of, InBatch, same_place, slots_at}
+use Rattle.pool_machine.specs.Steps.{Step, front_of}
+use Rattle.pool_machine.proofs.Words.{coming_home, going_on}
 use Rattle.pool_machine.specs.Forwards.{counted as forward_count}
 use Rattle.pool_machine.specs.Listing.{Entry, DeskListing, BatchListing, Listing}
 use Rattle.pool_machine.proofs.Located.{inbox_listing, Located, LocatedStep}
@@ -212,11 +213,11 @@ module _ (v w : FloorState) (b home on : ℕ) (f : IsWhole v) (s : TakesFront v 
   take_done st passes h =
       let g = take_applies (listing_of v) b taken_batch (map batch_of s.rest) taker (take_accepted v b s.before s.front s.rest s.held s.is_front s.linked) taking st passes h in
       let all = few_slots v st passes f h in
-      let of_batch = le_trans (filter_few (λ x. is_queued (front_of st b) (st.place x)) (slots st)) all in
+      let of_batch = le_trans (filter_few (λ x. same_place (InBatch (front_of st b)) (st.place x)) (slots st)) all in
       let m = counted_few (own s.before.number s.front.buffers) (filter is_own taken_batch.buffers) home (length (coming_home st b)) own_seen s.counted.home g.1.0.1.0
-      (le_trans (filter_few (λ x. owner_of st x == b) (slots_of_batch st (front_of st b))) of_batch) in
+      (le_trans (filter_few (λ x. owner_of st x == b) (slots_at st (InBatch (front_of st b)))) of_batch) in
       let n = counted_few (others s.before.number s.front.buffers) (filter is_other taken_batch.buffers) on (length (going_on st b)) others_seen s.counted.on g.1.0.1.1
-      (le_trans (filter_few (λ x. not (owner_of st x == b)) (slots_of_batch st (front_of st b))) of_batch) in
+      (le_trans (filter_few (λ x. not (owner_of st x == b)) (slots_at st (InBatch (front_of st b)))) of_batch) in
       subst (λ z. ShownAs (Counts home on) z st passes) (sym taken_shown)
       (subst (λ i. ShownAs (Counts i on) (after_taking (listing_of v) b (map batch_of s.rest) taker) st passes) m
       (subst (λ i. ShownAs (Counts (length (filter is_own taken_batch.buffers)) i) (after_taking (listing_of v) b (map batch_of s.rest) taker) st passes) n g))

@@ -1,7 +1,7 @@
 -- Why a floor refuses is why the machine does.
-use Rattle.std.proofs.Common.{◌≡◌, ◌≢◌, ℕ, suc, ◌^◌, ◌<◌, ◌≤◌, Bool, true, false, not, ◌&&◌, ◌||◌, ◌==◌, nat_le, nat_lt, List, [], ◌∷◌, map, length, All, Some, None, is_none, is_some, refl, sym, ap, ◌∙◌, subst, arith, ◌⊎◌, inl, inr}
+use Rattle.std.proofs.Common.{◌≡◌, ◌≢◌, ℕ, suc, ◌^◌, ◌<◌, ◌≤◌, Bool, true, false, not, ◌&&◌, ◌||◌, ◌==◌, nat_le, nat_lt, List, [], ◌∷◌, map, length, All, Option, Some, None, is_none, is_some, refl, sym, ap, ◌∙◌, subst, arith, ◌⊎◌, inl, inr, true≢false}
 use Rattle.std.specs.List.{list_any}
-use Rattle.std.proofs.lemmas.Bool.{le-leb, lt-ltb, ltb-true}
+use Rattle.std.proofs.lemmas.Bool.{le-leb, lt-ltb, ltb-true, false≢true}
 use Rattle.region_cut.specs.Classes.{classes_of, largest_of, IsLeastFor}
 use Rattle.slot_chain.specs.Buffer.{Buffer}
 use Rattle.digit_route.specs.Digits.{Scheme, common}
@@ -20,7 +20,7 @@ use Rattle.event_floor.specs.Floors.{FloorState, desk_count, last_number, IsHeld
 use Rattle.event_floor.specs.Steps.{Refuses, Routes, class_limit, size_limit}
 use Rattle.pool_machine.specs.State.{Waiting, least_class}
 use Rattle.region_cut.specs.Slots.{same_slot}
-use Rattle.pool_machine.specs.Refusals.{first, is_half, front_ready, slot_at}
+use Rattle.pool_machine.specs.Refusals.{first, slot_at}
 use Rattle.pool_machine.proofs.Located.{inbox_listing}
 use Rattle.pool_machine.specs.Listing.{Entry, DeskListing, desk_listing, as_waiting}
 use Rattle.event_floor.specs.headline.Listing.{entry_of, batch_of, listing_of}
@@ -29,6 +29,7 @@ use Rattle.event_floor.proofs.headline.Least.{holds_within, least_is}
 use Rattle.event_floor.proofs.headline.Lists.{any-map, All-not-from_Any}
 use Rattle.event_floor.proofs.headline.Tables.{none_lent, one_lent}
 use Rattle.event_floor.proofs.headline.Views.{leb_past, ltb_past, any_of, none_of, hits, passes, held_seen, idle_seen, no_desk_seen, is_desk_seen, no_desk_first, idle_first, held_first, has_class_seen, lacks_class_seen, inbox_seen}
+use Rattle.pool_machine.proofs.Words.{is_half, front_ready}
 
 abbrev pub Says : FloorState → Request → Refusal → Type 0
 Says v q r = refusal_seen (listing_of v) q ≡ Some r
@@ -115,10 +116,25 @@ or_right false y e = e
 abbrev pub unsettled : FloorState → ℕ → Bool
 unsettled v a = list_any (λ (e : Entry). true) (desk_listing (listing_of v) a).cache || any_queued (halves_of a) (listing_of v).inboxes
 
+-- what stands against a retirement of a held desk
+abbrev pub unsettled_rows : FloorState → ℕ → List (Bool × Refusal)
+unsettled_rows v a = (list_any (λ (e : Entry). true) (desk_listing (listing_of v) a).cache, Unsettled)
+    ∷ (any_queued (halves_of a) (listing_of v).inboxes, Unsettled) ∷ []
+
+either_row : (x y : Bool) (r : Refusal) → (x || y) ≡ true → first ((x, r) ∷ (y, r) ∷ []) ≡ Some r
+either_row true y r e = refl
+either_row false true r e = refl
+either_row false false r e = absurd (false≢true e)
+
+pub neither_row : (x y : Bool) (r : Refusal) → (x || y) ≡ false → first ((x, r) ∷ (y, r) ∷ []) ≡ None
+neither_row false false r e = refl
+neither_row false true r e = absurd (true≢false e)
+neither_row true y r e = absurd (true≢false e)
+
 pub retire_refused : (v : FloorState) (a : ℕ) (r : Refusal) → Refuses v (Retire a) r → Says v (Retire a) r
-retire_refused v a NoDesk h = no_desk_first v a ((unsettled v a, Unsettled) ∷ []) h
-retire_refused v a Idle h = idle_first v a ((unsettled v a, Unsettled) ∷ []) h.0 h.1
-retire_refused v a Unsettled h = held_first v a ((unsettled v a, Unsettled) ∷ []) h.0 h.1 ∙ hits (unsettled v a) Unsettled [] (either h.2)
+retire_refused v a NoDesk h = no_desk_first v a (unsettled_rows v a) h
+retire_refused v a Idle h = idle_first v a (unsettled_rows v a) h.0 h.1
+retire_refused v a Unsettled h = held_first v a (unsettled_rows v a) h.0 h.1 ∙ either_row _ _ Unsettled (either h.2)
   where
     either : (h.0.cached ≢ []) ⊎ SomeQueued (IsHalfOf a) v.inboxes → unsettled v a ≡ true
     either (inl ne) = ap (λ b. b || any_queued (halves_of a) (listing_of v).inboxes)

@@ -6,9 +6,9 @@ use Rattle.slot_chain.specs.Slots.{slot_of}
 use Rattle.pool_desk.specs.Homes.{slot_at}
 use Rattle.pool_machine.specs.declared.chunk.DrawnChunk.{DrawnChunk}
 use Rattle.pool_machine.specs.Slots.{ListsEachSlot}
-use Rattle.pool_machine.specs.State.{State}
+use Rattle.pool_machine.specs.State.{State, OnLoan, InCache, slots_at}
 use Rattle.pool_machine.specs.Listing.{Shown}
-use Rattle.pool_machine.specs.SlotLists.{home_slots, cached_slots, queued_slots, lent_slots}
+use Rattle.pool_machine.specs.SlotLists.{home_slots, queued_slots}
 use Rattle.event_floor.specs.Chunks.{class_drawn}
 use Rattle.event_floor.specs.Floors.{FloorState, desk_at, desk_count}
 use Rattle.event_floor.specs.Lent.{buffers_lent}
@@ -29,9 +29,9 @@ slots_on v = map slot_of (buffers_lent v.lent) ++ flat_map (slots_with v) (range
 -- each slot of a drawn chunk once, and no other slot.
 pub record ListsSlots (v : FloorState) (st : State) : Type 0 where
   pub home : (a : ℕ) → IsPermutation (map slot_at (home_of (desk_at v a))) (home_slots st a)
-  pub cached : (a : ℕ) → IsPermutation (map slot_of (cached_of (desk_at v a))) (cached_slots st a)
+  pub cached : (a : ℕ) → IsPermutation (map slot_of (cached_of (desk_at v a))) (slots_at st (InCache a))
   pub queued : (a : ℕ) → IsPermutation (map slot_of (buffers_in (inbox_at v.inboxes a))) (queued_slots st a)
-  pub lent : IsPermutation (map slot_of (buffers_lent v.lent)) (lent_slots st)
+  pub lent : IsPermutation (map slot_of (buffers_lent v.lent)) (slots_at st OnLoan)
   pub class : (k : ℕ) → class_drawn v.drawn k ≡ option_map (λ (d : DrawnChunk). d.class) (st.drawn k)
   pub once : ListsEachSlot (slots_on v) st.drawn
 
