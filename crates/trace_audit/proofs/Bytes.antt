@@ -7,7 +7,7 @@ use Rattle.std.proofs.KnownBytes.{Appends-nil, Appends-trans, Appends-kept, Cons
 use Rattle.std.proofs.Common.{◌||◌, ◌&&◌, ◌==◌, not, ◌-◌}
 use Rattle.std.proofs.lemmas.Bool.Decides.{nat_tests}
 use Rattle.std.proofs.lemmas.List.{take_rest}
-use Rattle.trace_audit.specs.Grammar.{Lacks}
+use Rattle.trace_audit.specs.Words.{Lacks}
 use Rattle.trace_audit.specs.Replay.{IsPartial}
 use Rattle.trace_audit.specs.Steps.{Took}
 use Rattle.trace_audit.specs.Wire.{Begins}

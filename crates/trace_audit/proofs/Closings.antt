@@ -10,9 +10,9 @@ use Rattle.slot_chain.specs.Counts.{capped}
 use Rattle.event_floor.specs.Floors.{FloorState, desk_count}
 use Rattle.std.specs.Io.KnownBytes.{Appends}
 use Rattle.std.proofs.KnownBytes.{Appends-trans}
-use Rattle.trace_audit.specs.Machine.{Tally, counts_at, told}
+use Rattle.trace_audit.specs.FloorCounts.{Tally, counts_at, desk_lines, end_line, plus, tally_lines, told}
 use Rattle.trace_audit.specs.Steps.{tail_text}
-use Rattle.trace_audit.specs.Report.{bad_line, closing, desk_line, desk_lines, end_line, plus, total}
+use Rattle.trace_audit.specs.Report.{bad_line, desk_line, total}
 use Rattle.trace_audit.specs.Wire.{Begins, Writes}
 use Rattle.trace_audit.specs.declared.replaying.ending.End.{End}
 use Rattle.trace_audit.specs.declared.replaying.ending.End.TheVariants.{BadLine}
@@ -36,10 +36,10 @@ lines_more xs i d low =
 
 -- the writer gave up within the line of desk i
 pub close_cut : (old mid new : Option (List ℕ)) (t : Tally) (xs : List DeskCounts) (i : ℕ) (d : DeskCounts) (text : List ℕ) → xs ≡ t.desks → i < length xs → text ≡ desk_line i (get_or xs i d)
-    → Appends old mid (desk_lines 0 (take i xs)) → Begins mid new text → Begins old new (closing t)
+    → Appends old mid (desk_lines 0 (take i xs)) → Begins mid new text → Begins old new (tally_lines t)
 close_cut old mid new t xs i d text same low is before (front, back, cut, wrote) =
     let behind : List ℕ = desk_lines (suc i) (drop (suc i) xs) ++ end_line t in
-    let lines : closing t ≡ (desk_lines 0 (take i xs) ++ front) ++ (back ++ behind) =
+    let lines : tally_lines t ≡ (desk_lines 0 (take i xs) ++ front) ++ (back ++ behind) =
     ap (λ l. desk_lines 0 l ++ end_line t) (sym same ∙ split_at xs i d low)
     ∙ ap (λ l. l ++ end_line t) (lines_at xs i (get_or xs i d) (drop (suc i) xs) low)
     ∙ ap (λ l. (desk_lines 0 (take i xs) ++ (l ++ desk_lines (suc i) (drop (suc i) xs))) ++ end_line t) (sym is ∙ cut) ∙ simp append_assoc in
@@ -57,15 +57,15 @@ begins_longer old new x y (front, back, cut, h) = (front, back ++ y, ap (λ w. w
 
 -- the line of a bad line was written, and what stands behind it or a beginning
 pub bad_closed : {E : Type 0} → (old mid new : Option (List ℕ)) (failed : Bool) (t : Tally) (end : End) (n : ℕ) (text : List ℕ) (r : Result (Unit {0}) E) → end ≡ BadLine n → text ≡ bad_line n
-    → Appends old mid text → Writes mid new failed (closing t) r → Writes old new failed (tail_text t end) r
-bad_closed old mid new failed t end n text r e is h p = rw e (writes_behind old mid new failed (bad_line n) (closing t) r (subst (λ (w : List ℕ). Appends old mid w) is h) p)
+    → Appends old mid text → Writes mid new failed (tally_lines t) r → Writes old new failed (tail_text t end) r
+bad_closed old mid new failed t end n text r e is h p = rw e (writes_behind old mid new failed (bad_line n) (tally_lines t) r (subst (λ (w : List ℕ). Appends old mid w) is h) p)
 
 pub bad_broken : (old new : Option (List ℕ)) (t : Tally) (end : End) (n : ℕ) (text : List ℕ) → end ≡ BadLine n → text ≡ bad_line n → Begins old new text → Begins old new (tail_text t end)
-bad_broken old new t end n text e is h = rw e (begins_longer old new (bad_line n) (closing t) (subst (λ (w : List ℕ). Begins old new w) is h))
+bad_broken old new t end n text e is h = rw e (begins_longer old new (bad_line n) (tally_lines t) (subst (λ (w : List ℕ). Begins old new w) is h))
 
 -- the last line was written, or a beginning of it
 pub closed : {E : Type 0} → (old mid new : Option (List ℕ)) (failed : Bool) (t : Tally) (xs : List DeskCounts) (i : ℕ) (text : List ℕ) (r : Result (Unit {0}) E) → xs ≡ t.desks → length xs ≤ i → text ≡ end_line t
-    → Appends old mid (desk_lines 0 (take i xs)) → Writes mid new failed text r → Writes old new failed (closing t) r
+    → Appends old mid (desk_lines 0 (take i xs)) → Writes mid new failed text r → Writes old new failed (tally_lines t) r
 closed old mid new failed t xs i text r same all is before after =
     let whole : take i xs ≡ t.desks = take_all i xs all ∙ same in
     writes_behind old mid new failed (desk_lines 0 t.desks) (end_line t) r
@@ -93,7 +93,7 @@ told_line : (v : FloorState) (i : ℕ) (c : DeskCounts) (text : List ℕ) → i 
 told_line v i c text low is line = line ∙ ap (desk_line i) (is ∙ sym (told_at v i nothing low))
 
 pub told_cut : (old mid new : Option (List ℕ)) (v : FloorState) (i n : ℕ) (c : DeskCounts) (text : List ℕ) → n ≡ desk_count v → i < n → c ≡ counts_at v i → text ≡ desk_line i c
-    → Appends old mid (desk_lines 0 (take i (told v).desks)) → Begins mid new text → Begins old new (closing (told v))
+    → Appends old mid (desk_lines 0 (take i (told v).desks)) → Begins mid new text → Begins old new (tally_lines (told v))
 told_cut old mid new v i n c text count low is line before after =
     close_cut old mid new (told v) (told v).desks i nothing text refl (omega (arith, length-told v)) (told_line v i c text (omega arith) is line) before after
 
@@ -103,7 +103,7 @@ told_more old mid new v i n c text count low is line before after =
     close_more old mid new (told v).desks i nothing text (omega (arith, length-told v)) (told_line v i c text (omega arith) is line) before after
 
 pub told_closed : {E : Type 0} → (old mid new : Option (List ℕ)) (failed : Bool) (v : FloorState) (i n : ℕ) (text : List ℕ) (r : Result (Unit {0}) E) → n ≡ desk_count v → n ≤ i → text ≡ end_line (told v)
-    → Appends old mid (desk_lines 0 (take i (told v).desks)) → Writes mid new failed text r → Writes old new failed (closing (told v)) r
+    → Appends old mid (desk_lines 0 (take i (told v).desks)) → Writes mid new failed text r → Writes old new failed (tally_lines (told v)) r
 told_closed old mid new failed v i n text r count all line before after =
     closed old mid new failed (told v) (told v).desks i text r refl (omega (arith, length-told v)) line before after
 

@@ -1,6 +1,7 @@
-use Rattle.std.proofs.Common.{length, ◌≤◌, ◌≡◌, ◌^◌, ℕ, zero, suc, ◌<◌, ◌==◌, List, [], ◌∷◌, ◌++◌, Option, Some, None, IfSome, IfNone, refl, sym, ◌∙◌, ap, ap₂, arith, Bool, true, false, cond, decimal}
+use Rattle.std.proofs.Common.{length, ◌≤◌, ◌≡◌, ◌^◌, ℕ, zero, suc, ◌<◌, ◌==◌, List, [], ◌∷◌, ◌++◌, Option, Some, None, IfSome, IfNone, refl, sym, ◌∙◌, ap, ap₂, arith, Bool, true, false, cond, decimal, append_assoc}
 use Rattle.std.proofs.lemmas.Bool.Decides.{nat_tests}
-use Rattle.trace_audit.specs.Grammar.{IsWord, Lacks, pair, verb_text, verb_of, words_of, spelling, IsRequest, profile_text, header_text, header_words, AreWords, IsHeader}
+use Rattle.trace_audit.specs.Grammar.{IsWord, pair, spelling, IsRequest, profile_text, header_text, IsHeader}
+use Rattle.trace_audit.specs.Words.{Lacks, verb_text, verb_of, words_of, header_words, AreWords}
 use Rattle.region_cut.specs.Classes.{bits_of}
 use Rattle.region_cut.specs.declared.profile.Profile.{Profile}
 use Rattle.region_cut.specs.declared.profile.Profile.TheVariants.{Pool, Pool2}
@@ -75,8 +76,19 @@ verb_again Takes = refl
 pub same_verb : (v w : Verb) → verb_text v ≡ verb_text w → v ≡ w
 same_verb v w e = let both : Some v ≡ Some w = sym (verb_again v) ∙ ap verb_from e ∙ verb_again w in cc
 
+-- a request's line is its verb, a space and its words
+pub spelled : (r : Request) → spelling r ≡ verb_text (verb_of r) ++ 32 ∷ words_of r
+spelled (Adopt a b) = refl
+spelled (Retire a) = refl
+spelled (Claim a b) = refl
+spelled (Alloc a b) = refl
+spelled (Free a s) = refl
+spelled (Send a b) = refl
+spelled (Link a) = refl
+spelled (Take a) = refl
+
 pub line_cut : (line word rest : List ℕ) (r : Request) → line ≡ word ++ 32 ∷ rest → Lacks 32 word → line ≡ spelling r → (word ≡ verb_text (verb_of r)) × (rest ≡ words_of r)
-line_cut line word rest r e h is = cut_once 32 word rest (verb_text (verb_of r)) (words_of r) h (verb_lacks (verb_of r)) (sym e ∙ is)
+line_cut line word rest r e h is = cut_once 32 word rest (verb_text (verb_of r)) (words_of r) h (verb_lacks (verb_of r)) (sym e ∙ (is ∙ spelled r))
 
 abbrev pub HasOne : List ℕ → Type 0
 HasOne w = (n : ℕ) × IsWord n × (w ≡ decimal n)
@@ -150,8 +162,12 @@ same_profile Pool Pool2 e = absurd (let l = ap length e in omega (arith, l))
 same_profile Pool2 Pool e = absurd (let l = ap length e in omega (arith, l))
 same_profile Pool2 Pool2 e = refl
 
+-- a header's line is its profile, a space and its words
+pub titled : (h : Header) → header_text h ≡ profile_text h.profile ++ 32 ∷ header_words h
+titled h = append_assoc (profile_text h.profile) (32 ∷ decimal h.desks) (32 ∷ pair 32 h.chunks h.width)
+
 pub header_line_cut : (line word rest : List ℕ) (h : Header) → line ≡ word ++ 32 ∷ rest → Lacks 32 word → line ≡ header_text h → (word ≡ profile_text h.profile) × (rest ≡ header_words h)
-header_line_cut line word rest h e lacks is = cut_once 32 word rest (profile_text h.profile) (header_words h) lacks (profile_lacks h.profile) (sym e ∙ is)
+header_line_cut line word rest h e lacks is = cut_once 32 word rest (profile_text h.profile) (header_words h) lacks (profile_lacks h.profile) (sym e ∙ (is ∙ titled h))
 
 -- ---- what a reader of verbs and words answers
 
@@ -174,7 +190,7 @@ has_words words v r fits same is = rw (sym same, is) (words_fit r fits)
 pub read_found : (line word rest : List ℕ) (v : Verb) (o : Option Request) → line ≡ word ++ 32 ∷ rest → word ≡ verb_text v
     → IfSome o (λ r. IsRequest r × (verb_of r ≡ v) × (rest ≡ words_of r)) → IfSome o (λ r. IsRequest r × (line ≡ spelling r))
 read_found line word rest v None e is h = tt
-read_found line word rest v (Some r) e is h = (h.0, e ∙ ap₂ (λ (a b : List ℕ). a ++ 32 ∷ b) (is ∙ ap verb_text (sym h.1)) h.2)
+read_found line word rest v (Some r) e is h = (h.0, e ∙ (ap₂ (λ (a b : List ℕ). a ++ 32 ∷ b) (is ∙ ap verb_text (sym h.1)) h.2 ∙ sym (spelled r)))
 
 pub read_none : (line word rest : List ℕ) (v : Verb) (o : Option Request) → line ≡ word ++ 32 ∷ rest → Lacks 32 word → word ≡ verb_text v
     → IfNone o ((r : Request) → IsRequest r → verb_of r ≡ v → rest ≡ words_of r → ⊥) → IfNone o ((r : Request) → IsRequest r → line ≡ spelling r → ⊥)

@@ -4,7 +4,8 @@ use Rattle.event_floor.specs.Floors.{FloorState}
 use Rattle.pool_machine.specs.Laws.{RunsKeepNumbers}
 use Rattle.trace_audit.specs.FloorSlots.{ShowsPool}
 use Rattle.trace_audit.specs.Grammar.{IsHeader}
-use Rattle.trace_audit.specs.Machine.{Opens, opening_of, told}
+use Rattle.trace_audit.specs.FloorCounts.{Opens, told}
+use Rattle.trace_audit.specs.Machine.{opening_of}
 use Rattle.trace_audit.specs.Report.{Verdict}
 use Rattle.trace_audit.specs.Steps.{tail_text, Driven, EndsSo, Finishes, IsAsked, IsTold, audit_lines}
 use Rattle.trace_audit.specs.Wire.{Begins}

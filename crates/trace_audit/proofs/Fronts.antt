@@ -2,12 +2,13 @@ use Rattle.std.proofs.Common.{◌≡◌, ◌⊎◌, inl, inr, ℕ, zero, suc, �
 use Rattle.std.proofs.Math.Seq.{get_or-append_seam}
 use Rattle.std.proofs.Math.ListN.{get_or-append}
 use Rattle.std.proofs.lemmas.Fmt.{length-decimal-le}
-use Rattle.trace_audit.specs.Grammar.{IsWord, Lacks, pair, verb_text, verb_of, words_of, spelling, IsRequest, profile_text, header_text, header_words, IsHeader}
-use Rattle.trace_audit.specs.Trace.{request_line}
+use Rattle.trace_audit.specs.Grammar.{IsWord, pair, spelling, IsRequest, profile_text, header_text, IsHeader}
+use Rattle.trace_audit.specs.Words.{Lacks, verb_text, verb_of, words_of, header_words}
+use Rattle.trace_audit.specs.Words.{request_line}
 use Rattle.trace_audit.specs.Steps.{IsBadFront}
 use Rattle.trace_audit.specs.Wire.{Begins}
 use Rattle.trace_audit.proofs.Numbers.{decimal_lacks}
-use Rattle.trace_audit.proofs.Cuts.{cut_once, marked, lacks_tested, header_words_fit}
+use Rattle.trace_audit.proofs.Cuts.{cut_once, marked, lacks_tested, header_words_fit, spelled, titled}
 use Rattle.region_cut.specs.declared.profile.Profile.{Profile}
 use Rattle.region_cut.specs.declared.profile.Profile.TheVariants.{Pool, Pool2}
 use Rattle.trace_audit.specs.declared.grammar.header.Header.{Header}
@@ -49,7 +50,7 @@ verb_lack Takes = lacks_tested 10 (verb_text Takes) refl
 
 -- no spelling has a line feed
 pub spelling_lacks : (r : Request) → IsRequest r → Lacks 10 (spelling r)
-spelling_lacks r h = lacks_both 10 (verb_text (verb_of r)) (32 ∷ words_of r) (verb_lack (verb_of r)) (lacks_head 10 32 (words_of r) (λ e. omega (arith, e)) (words_lack r h))
+spelling_lacks r h = rw (spelled r) (lacks_both 10 (verb_text (verb_of r)) (32 ∷ words_of r) (verb_lack (verb_of r)) (lacks_head 10 32 (words_of r) (λ e. omega (arith, e)) (words_lack r h)))
 
 pub short : (n : ℕ) → IsWord n → length (decimal n) ≤ 10
 short n h = length-decimal-le 10 n (omega arith) (omega arith) (omega arith)
@@ -79,7 +80,7 @@ verb_short Takes = omega arith
 
 -- a line of 65 bytes or more is no spelling
 pub spelling_short : (r : Request) → IsRequest r → length (spelling r) ≤ 39
-spelling_short r h = omega (arith, length-append (verb_text (verb_of r)) (32 ∷ words_of r), verb_short (verb_of r), words_short r h)
+spelling_short r h = rw (spelled r) (omega (arith, length-append (verb_text (verb_of r)) (32 ∷ words_of r), verb_short (verb_of r), words_short r h))
 
 profile_lack : (p : Profile) → Lacks 10 (profile_text p)
 profile_lack Pool = lacks_tested 10 (profile_text Pool) refl
@@ -92,14 +93,14 @@ profile_short Pool2 = omega arith
 -- nor has a header's text
 pub header_lacks : (h : Header) → IsHeader h → Lacks 10 (header_text h)
 header_lacks h fits = let w = header_words_fit h fits in
-    lacks_both 10 (profile_text h.profile) (32 ∷ header_words h) (profile_lack h.profile)
+    rw (titled h) (lacks_both 10 (profile_text h.profile) (32 ∷ header_words h) (profile_lack h.profile)
     (lacks_head 10 32 (header_words h) (λ e. omega (arith, e))
     (lacks_both 10 (decimal h.desks) (32 ∷ pair 32 h.chunks h.width) (decimal_lacks 10 h.desks (omega arith) w.0)
-    (lacks_head 10 32 (pair 32 h.chunks h.width) (λ e. omega (arith, e)) (pair_lacks 32 h.chunks h.width (λ e. omega (arith, e)) w.1 w.2))))
+    (lacks_head 10 32 (pair 32 h.chunks h.width) (λ e. omega (arith, e)) (pair_lacks 32 h.chunks h.width (λ e. omega (arith, e)) w.1 w.2)))))
 
 pub header_short : (h : Header) → IsHeader h → length (header_text h) ≤ 38
 header_short h fits = let w = header_words_fit h fits in
-    omega (arith, length-append (profile_text h.profile) (32 ∷ header_words h), profile_short h.profile, length-append (decimal h.desks) (32 ∷ pair 32 h.chunks h.width), short h.desks w.0, short_pair 32 h.chunks h.width w.1 w.2)
+    omega (arith, ap length (titled h), length-append (profile_text h.profile) (32 ∷ header_words h), profile_short h.profile, length-append (decimal h.desks) (32 ∷ pair 32 h.chunks h.width), short h.desks w.0, short_pair 32 h.chunks h.width w.1 w.2)
 
 -- a whole line that is no spelling
 pub bad_text : (bytes text held : List ℕ) (at_end : Type 0) → bytes ≡ text ++ 10 ∷ held → Lacks 10 text → ((r : Request) → IsRequest r → text ≡ spelling r → ⊥) → IsBadFront bytes at_end

@@ -6,7 +6,8 @@ use Rattle.std.proofs.lemmas.Bool.Decides.{eqb_tells}
 use Rattle.pool_machine.specs.declared.request.Request.{Request}
 use Rattle.pool_machine.specs.declared.request.Request.TheVariants.{Adopt, Retire, Claim, Alloc, Free, Send, Link, Take}
 use Rattle.trace_audit.specs.Grammar.{spelling, IsRequest}
-use Rattle.trace_audit.specs.Trace.{request_line, BeginsWithRequest, EndsTrace}
+use Rattle.trace_audit.specs.Words.{request_line}
+use Rattle.trace_audit.specs.Trace.{BeginsWithRequest, EndsTrace}
 use Rattle.trace_audit.specs.declared.replaying.ending.End.{End}
 use Rattle.trace_audit.specs.declared.replaying.ending.End.TheVariants.{Whole, BadLine}
 

@@ -3,9 +3,10 @@ use Rattle.std.proofs.Common.{◌≡◌, ◌⊎◌, inl, inr, ℕ, ◌≤◌, �
 use Rattle.std.proofs.Math.Seq.{get_or-append_seam}
 use Rattle.std.proofs.Math.ListN.{get_or-append}
 use Rattle.std.proofs.lemmas.Fmt.{decimal_digit}
-use Rattle.trace_audit.specs.Grammar.{Lacks, header_text, IsHeader}
+use Rattle.trace_audit.specs.Words.{Lacks}
+use Rattle.trace_audit.specs.Grammar.{header_text, IsHeader}
 use Rattle.trace_audit.specs.Report.{bad_line}
-use Rattle.trace_audit.specs.Trace.{header_line}
+use Rattle.trace_audit.specs.Words.{header_line}
 use Rattle.trace_audit.specs.Steps.{IsAsked, IsBadHeader}
 use Rattle.trace_audit.specs.declared.grammar.header.Header.{Header}
 use Rattle.trace_audit.specs.declared.replaying.ending.End.TheVariants.{BadLine, NoRoom}

@@ -7,7 +7,7 @@ use Rattle.event_floor.specs.Floors.{FloorState}
 use Rattle.event_floor.specs.headline.Listing.{listing_of}
 use Rattle.pool_machine.specs.Listing.{Shown}
 use Rattle.pool_machine.specs.State.{State, opening}
-use Rattle.trace_audit.specs.Machine.{Opens, digits_of}
+use Rattle.trace_audit.specs.FloorCounts.{Opens, digits_of}
 use Rattle.trace_audit.specs.declared.grammar.header.Header.{Header}
 
 pub opens : {E : Type 0} → (h : Header) (bs : List ℕ) (ps : List Part) (digits : Scheme) (r : Result FloorState E) → length bs ≡ h.chunks * 4096 → length ps ≡ length bs / 4096

@@ -12,7 +12,7 @@ use Rattle.pool_machine.specs.State.{State}
 use Rattle.pool_machine.specs.Steps.{Answers, Run, after}
 use Rattle.pool_machine.specs.Steps.{Answer}
 use Rattle.trace_audit.specs.Report.{answer_line}
-use Rattle.trace_audit.specs.Trace.{request_line}
+use Rattle.trace_audit.specs.Words.{request_line}
 use Rattle.trace_audit.specs.Steps.{EndsSo, Follows, Played, Broke, Driven, Stopped}
 use Rattle.trace_audit.specs.Wire.{Begins}
 use Rattle.trace_audit.specs.declared.replaying.ending.End.{End}

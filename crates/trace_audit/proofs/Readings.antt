@@ -2,8 +2,10 @@
 use Rattle.std.proofs.Common.{◌≡◌, ◌≢◌, ◌⊎◌, inl, inr, ℕ, suc, ◌+◌, ◌≤◌, ◌<◌, List, [], ◌∷◌, ◌++◌, length, refl, sym, ◌∙◌, ap, ap₂, subst, arith, decimal, append_assoc}
 use Rattle.std.specs.List.{flat_map, AllByRecursion}
 use Rattle.std.proofs.lemmas.Fmt.{decimal_injective}
-use Rattle.trace_audit.specs.Grammar.{IsWord, pair, verb_text, verb_of, words_of, spelling, IsRequest, header_text, header_words, IsHeader, profile_text}
-use Rattle.trace_audit.specs.Trace.{header_line, request_line, BeginsWithRequest, EndsTrace}
+use Rattle.trace_audit.specs.Grammar.{IsWord, pair, spelling, IsRequest, header_text, IsHeader, profile_text}
+use Rattle.trace_audit.specs.Words.{verb_text, verb_of, words_of, header_words}
+use Rattle.trace_audit.specs.Words.{request_line}
+use Rattle.trace_audit.specs.Trace.{BeginsWithRequest, EndsTrace}
 use Rattle.trace_audit.specs.Laws.{ReadInOneWay}
 use Rattle.trace_audit.specs.declared.replaying.ending.End.{End}
 use Rattle.trace_audit.specs.declared.replaying.ending.End.TheVariants.{Whole, BadLine, NoRoom}
@@ -13,7 +15,7 @@ use Rattle.trace_audit.specs.declared.grammar.request.Verb.TheVariants.{Adopts, 
 use Rattle.pool_machine.specs.declared.request.Request.{Request}
 use Rattle.pool_machine.specs.declared.request.Request.TheVariants.{Adopt, Retire, Claim, Alloc, Free, Send, Link, Take}
 use Rattle.trace_audit.proofs.Numbers.{decimal_lacks}
-use Rattle.trace_audit.proofs.Cuts.{cut_once, verb_lacks, same_verb, profile_lacks, same_profile, same_header, header_words_fit}
+use Rattle.trace_audit.proofs.Cuts.{cut_once, spelled, titled, verb_lacks, same_verb, profile_lacks, same_profile, same_header, header_words_fit}
 use Rattle.trace_audit.proofs.Fronts.{spelling_lacks, header_lacks}
 
 one_same : (m n : ℕ) → IsWord m → IsWord n → decimal m ≡ decimal n → m ≡ n
@@ -56,7 +58,7 @@ by_words _ _ f g v e = absurd (let k = ap place v in omega arith)
 -- a line spells one request
 one_request : (p q : Request) → IsRequest p → IsRequest q → spelling p ≡ spelling q → p ≡ q
 one_request p q f g e =
-    let cut = cut_once 32 (verb_text (verb_of p)) (words_of p) (verb_text (verb_of q)) (words_of q) (verb_lacks (verb_of p)) (verb_lacks (verb_of q)) e in
+    let cut = cut_once 32 (verb_text (verb_of p)) (words_of p) (verb_text (verb_of q)) (words_of q) (verb_lacks (verb_of p)) (verb_lacks (verb_of q)) (sym (spelled p) ∙ (e ∙ spelled q)) in
     by_words p q f g (same_verb (verb_of p) (verb_of q) cut.0) cut.1
 
 -- one good request line stands at the front
@@ -67,11 +69,10 @@ one_line p q rs ss f g e =
     (one_request p q f g cut.0, cut.1)
 
 -- one good header line stands at the front
-one_header : (h k : Header) (rs ss : List ℕ) → IsHeader h → IsHeader k → header_line h ++ rs ≡ header_line k ++ ss → (h ≡ k) × (rs ≡ ss)
+one_header : (h k : Header) (rs ss : List ℕ) → IsHeader h → IsHeader k → header_text h ++ 10 ∷ rs ≡ header_text k ++ 10 ∷ ss → (h ≡ k) × (rs ≡ ss)
 one_header h k rs ss f g e =
-    let cut = cut_once 10 (header_text h) rs (header_text k) ss (header_lacks h f) (header_lacks k g)
-    (sym (append_assoc (header_text h) (10 ∷ []) rs) ∙ (e ∙ append_assoc (header_text k) (10 ∷ []) ss)) in
-    let word = cut_once 32 (profile_text h.profile) (header_words h) (profile_text k.profile) (header_words k) (profile_lacks h.profile) (profile_lacks k.profile) cut.0 in
+    let cut = cut_once 10 (header_text h) rs (header_text k) ss (header_lacks h f) (header_lacks k g) e in
+    let word = cut_once 32 (profile_text h.profile) (header_words h) (profile_text k.profile) (header_words k) (profile_lacks h.profile) (profile_lacks k.profile) (sym (titled h) ∙ (cut.0 ∙ titled k)) in
     let kind = same_profile h.profile k.profile word.0 in
     let same = same_header h k (header_words_fit h f) (header_words_fit k g) word.1 in
     ((λ z. record { profile = kind z; desks = same.0 z; chunks = same.1 z; width = same.2 z }), cut.1)

@@ -1,17 +1,19 @@
 -- What a replay comes to behind its header.
-use Rattle.std.proofs.Common.{◌≡◌, inr, ℕ, ◌+◌, ◌≤◌, List, [], ◌++◌, length, Option, Some, None, Result, Ok, Err, Bool, true, false, refl, sym, ◌∙◌, ap, subst, arith, append_assoc, append-nil, length-append}
+use Rattle.std.proofs.Common.{◌≡◌, inr, ℕ, ◌+◌, ◌≤◌, List, [], ◌∷◌, ◌++◌, length, Option, Some, None, Result, Ok, Err, Bool, true, false, refl, sym, ◌∙◌, ap, subst, arith, append_assoc, append-nil, length-append}
 use Rattle.std.specs.List.{flat_map}
 use Rattle.std.specs.Io.KnownBytes.{Appends, Consumes, IsAtEnd}
 use Rattle.std.proofs.KnownBytes.{Appends-trans, Consumes-nil, Consumes-trans}
 use Rattle.std.proofs.lemmas.Grind.{flat_map-append}
 use Rattle.event_floor.specs.Floors.{FloorState}
 use Rattle.pool_machine.specs.Laws.{RequestsAreAnswered}
-use Rattle.trace_audit.specs.Grammar.{IsHeader}
-use Rattle.trace_audit.specs.Machine.{Opens, Tally, opening_of, told, told_of}
+use Rattle.trace_audit.specs.Grammar.{IsHeader, header_text}
+use Rattle.trace_audit.specs.FloorCounts.{Opens, told}
+use Rattle.trace_audit.specs.Machine.{opening_of}
 use Rattle.trace_audit.specs.Report.{Verdict, answer_line}
-use Rattle.trace_audit.specs.Trace.{EndsTrace, header_line, request_line}
-use Rattle.trace_audit.specs.Replay.{AnswersLines, Failures, FailsBehind, HoldsOfAll, IsAudited, ReportsTrace, with_audit}
-use Rattle.trace_audit.specs.Steps.{ReportsLines, tail_text, BeginsReport, Driven, EndsSo, Finishes, IsAsked, Played, Replayed, Stopped, WritesOnly, audit_lines}
+use Rattle.trace_audit.specs.Trace.{EndsTrace}
+use Rattle.trace_audit.specs.Words.{header_line, request_line}
+use Rattle.trace_audit.specs.Replay.{AnswersLines, Failures, IsAudited, ReportsTrace, with_audit}
+use Rattle.trace_audit.specs.Steps.{tail_text, BeginsReport, Driven, EndsSo, FailsBehind, Finishes, HoldsBehind, IsAsked, Played, Replayed, Stopped, WritesOnly, audit_lines}
 use Rattle.trace_audit.specs.Wire.{Begins}
 use Rattle.trace_audit.specs.declared.grammar.header.Header.{Header}
 use Rattle.trace_audit.specs.declared.replaying.ending.End.{End}
@@ -23,8 +25,8 @@ use Rattle.trace_audit.proofs.Finishes.{asked}
 use Rattle.trace_audit.proofs.Goings.{goes_on}
 use Rattle.trace_audit.proofs.Plays.{begins_more, played_tail}
 use Rattle.trace_audit.proofs.Runs.{all_both, longer_text, run_on, some_run}
-use Rattle.trace_audit.proofs.Tallies.{MachineLaws, reached, told_is}
-use Rattle.trace_audit.proofs.WholeTraces.{as_report, few_lines, shifted, trace_ends}
+use Rattle.trace_audit.proofs.Tallies.{MachineLaws, reached, told_tail}
+use Rattle.trace_audit.proofs.WholeTraces.{ReportsLines, as_report, few_lines, shifted, tail_of, trace_ends}
 
 -- ---- the line of an audit
 
@@ -57,14 +59,14 @@ none_begun true end out0 out report told h = (None, told, h)
 none_begun false end out0 out report none h = h
 
 pub only_line : (audits reader writer : Bool) (before : List ℕ) (left0 left out0 out : Option (List ℕ)) (text text' : List ℕ) (end : End) (r : Result (End × Option Verdict) ReplayError)
-    → text' ≡ text → IsAsked audits end None → ((P : List ℕ → Type 0) → P text → HoldsOfAll before left0 left (λ bytes. ReportsTrace bytes P end))
+    → text' ≡ text → IsAsked audits end None → ((P : List ℕ → Type 0) → P text → HoldsBehind before left0 left (λ bytes. ReportsTrace bytes P end))
     → WritesOnly text' end out0 out writer r → reader ≡ false → Replayed audits before left0 left out0 out reader writer r
 only_line audits reader writer before left0 left out0 out text text' end (Ok x) same told all (is, none, wrote, down) reader_down = (
   reader_down,
   down,
   subst (λ (e : End). IsAsked audits e x.1) (sym is) (subst (λ (a : Option Verdict). IsAsked audits end a) (sym none) told),
-  subst (λ (e : End). HoldsOfAll before left0 left (λ bytes. ReportsTrace bytes (with_audit x.1 (Appends out0 out)) e)) (sym is)
-      (subst (λ (a : Option Verdict). HoldsOfAll before left0 left (λ bytes. ReportsTrace bytes (with_audit a (Appends out0 out)) end)) (sym none)
+  subst (λ (e : End). HoldsBehind before left0 left (λ bytes. ReportsTrace bytes (with_audit x.1 (Appends out0 out)) e)) (sym is)
+      (subst (λ (a : Option Verdict). HoldsBehind before left0 left (λ bytes. ReportsTrace bytes (with_audit a (Appends out0 out)) end)) (sym none)
       (all (Appends out0 out) (subst (λ (w : List ℕ). Appends out0 out w) same wrote))),
 )
 only_line audits reader writer before left0 left out0 out text text' end (Err e) same told all (is, wrote, up) reader_down =
@@ -77,15 +79,16 @@ only_line audits reader writer before left0 left out0 out text text' end (Err e)
 -- ---- a floor of the header was driven
 
 module _ (h : Header) (fits : IsHeader h) (start : FloorState) (opens : Opens h start) where
-  all_lines : (held0 given more lines rest : List ℕ) → held0 ++ given ≡ lines ++ rest → (header_line h ++ held0) ++ (given ++ more) ≡ header_line h ++ (lines ++ (rest ++ more))
+  all_lines : (held0 given more lines rest : List ℕ) → held0 ++ given ≡ lines ++ rest → (header_line h ++ held0) ++ (given ++ more) ≡ header_text h ++ 10 ∷ (lines ++ (rest ++ more))
   all_lines held0 given more lines rest e =
       append_assoc (header_line h) held0 (given ++ more)
       ∙ ap (λ w. header_line h ++ w) (sym (append_assoc held0 given more) ∙ (ap (λ w. w ++ more) e ∙ append_assoc lines rest more))
+      ∙ append_assoc (header_text h) (10 ∷ []) (lines ++ (rest ++ more))
 
   -- P holds of the report
   settled : MachineLaws → (left0 left : Option (List ℕ)) (held0 rest : List ℕ) (now : FloorState) (n : ℕ) (end : End) (P : List ℕ → Type 0)
       → Played left0 left held0 rest start now n (tail_text (told now) end) P → EndsSo n rest (IsAtEnd left) end
-      → HoldsOfAll (header_line h ++ held0) left0 left (λ bytes. ReportsTrace bytes P end)
+      → HoldsBehind (header_line h ++ held0) left0 left (λ bytes. ReportsTrace bytes P end)
   settled laws left0 left held0 rest now n end P p ends = (
     p.given,
     p.read,
@@ -107,13 +110,13 @@ module _ (h : Header) (fits : IsHeader h) (start : FloorState) (opens : Opens h 
           ends = rw p.number (trace_ends n rest more (IsAtEnd left) end none ends);
         };
         run = (p.run (opening_of h) (λ s. 0) opens).2;
-        holds = subst (λ (t : Tally). P (flat_map answer_line p.answers ++ tail_text t end)) (told_is laws h start now p.requests p.answers fits opens p.run) p.wrote;
+        holds = subst (λ (w : List ℕ). P (flat_map answer_line p.answers ++ w)) (told_tail laws h start now p.requests p.answers end fits opens p.run) p.wrote;
       }
 
   -- what was written is a beginning of the report of what was answered so far, and of what would be answered to the rest
   begun : RequestsAreAnswered → (audits : Bool) (left0 left out0 out : Option (List ℕ)) (held0 rest : List ℕ) (now : FloorState) (n : ℕ)
       → Played left0 left held0 rest start now n [] (Begins out0 out) → n ≤ 999999
-      → HoldsOfAll (header_line h ++ held0) left0 left (λ bytes. (end : End) × ReportsTrace bytes (BeginsReport audits out0 out end) end)
+      → HoldsBehind (header_line h ++ held0) left0 left (λ bytes. (end : End) × ReportsTrace bytes (BeginsReport audits out0 out end) end)
   begun law audits left0 left out0 out held0 rest now n p low = (p.given, p.read, λ more none. whole more)
     where
       whole : (more : List ℕ) → (end : End) × ReportsTrace ((header_line h ++ held0) ++ (p.given ++ more)) (BeginsReport audits out0 out end) end
@@ -132,7 +135,7 @@ module _ (h : Header) (fits : IsHeader h) (start : FloorState) (opens : Opens h 
                 header = fits;
                 rest = g.rest;
                 lines = all_lines held0 p.given more (flat_map request_line p.requests) rest p.lines
-                    ∙ ap (λ w. header_line h ++ w) (ap (λ w. flat_map request_line p.requests ++ w) g.lines
+                    ∙ ap (λ w. header_text h ++ 10 ∷ w) (ap (λ w. flat_map request_line p.requests ++ w) g.lines
                     ∙ (sym (append_assoc (flat_map request_line p.requests) (flat_map request_line g.requests) g.rest)
                     ∙ ap (λ w. w ++ g.rest) (sym (flat_map-append request_line p.requests g.requests))));
                 good = all_both p.requests g.requests p.good g.good;
@@ -140,9 +143,9 @@ module _ (h : Header) (fits : IsHeader h) (start : FloorState) (opens : Opens h 
                 ends = subst (λ k. EndsTrace k g.rest g.end) count g.ends;
               };
               run = run_on (opening_of h) reached_state u.1 p.requests g.requests p.answers u.0 (p.run (opening_of h) (λ s. 0) opens).2 u.2;
-              holds = some_begun audits out0 out (n + length g.requests) g.rest g.end (flat_map answer_line (p.answers ++ u.0) ++ tail_text (told_of u.1) g.end) g.ends
-                  (subst (Begins out0 out) (longer_text p.answers u.0 (tail_text (told_of u.1) g.end))
-                  (begins_longer out0 out (flat_map answer_line p.answers ++ []) (flat_map answer_line u.0 ++ tail_text (told_of u.1) g.end) p.wrote));
+              holds = some_begun audits out0 out (n + length g.requests) g.rest g.end (flat_map answer_line (p.answers ++ u.0) ++ tail_of u.1 g.end) g.ends
+                  (subst (Begins out0 out) (longer_text p.answers u.0 (tail_of u.1 g.end))
+                  (begins_longer out0 out (flat_map answer_line p.answers ++ []) (flat_map answer_line u.0 ++ tail_of u.1 g.end) p.wrote));
             }),
           )
 
@@ -154,7 +157,7 @@ module _ (h : Header) (fits : IsHeader h) (start : FloorState) (opens : Opens h 
     reader_down,
     down,
     subst (λ (e : End). IsAsked audits e x.1) (sym is) (asked audits n rest (IsAtEnd left) end x.1 ends t),
-    subst (λ (e : End). HoldsOfAll (header_line h ++ held0) left0 left (λ bytes. ReportsTrace bytes (with_audit x.1 (Appends out0 out')) e)) (sym is)
+    subst (λ (e : End). HoldsBehind (header_line h ++ held0) left0 left (λ bytes. ReportsTrace bytes (with_audit x.1 (Appends out0 out')) e)) (sym is)
         (settled laws left0 left held0 rest now n end (with_audit x.1 (Appends out0 out'))
         (played_tail left0 left left held0 rest rest start now now n (tail_text (told now) end) (Appends out0 out) (with_audit x.1 (Appends out0 out')) p [] (Consumes-nil left) (append-nil rest) refl
         (λ text k. as_audited x.1 (Appends out0 out') (text ++ tail_text (told now) end)
@@ -192,7 +195,8 @@ module _ (h : Header) (fits : IsHeader h) (start : FloorState) (opens : Opens h 
         trace = record {
           header = fits;
           rest = [];
-          lines = ap (λ w. header_line h ++ w) (sym (append-nil (flat_map request_line p.requests)));
+          lines = ap (λ w. header_line h ++ w) (sym (append-nil (flat_map request_line p.requests)))
+              ∙ append_assoc (header_text h) (10 ∷ []) (flat_map request_line p.requests ++ []);
           good = p.good;
           few = rw p.number low;
           ends = refl;

@@ -6,11 +6,11 @@ use Rattle.pool_machine.specs.declared.request.Request.{Request}
 use Rattle.pool_machine.specs.Laws.{RequestsAreAnswered}
 use Rattle.pool_machine.specs.State.{State}
 use Rattle.pool_machine.specs.Steps.{Run, after}
-use Rattle.trace_audit.specs.Grammar.{IsRequest}
+use Rattle.trace_audit.specs.Grammar.{IsRequest, header_text}
 use Rattle.trace_audit.specs.Laws.{TextsAreTraces}
 use Rattle.pool_machine.specs.Steps.{Answer}
 use Rattle.trace_audit.specs.Report.{answer_line}
-use Rattle.trace_audit.specs.Trace.{header_line, EndsTrace}
+use Rattle.trace_audit.specs.Trace.{EndsTrace}
 use Rattle.trace_audit.proofs.Goings.{goes_on}
 
 -- ---- texts
@@ -24,7 +24,7 @@ texts h more fits =
       record {
         header = fits;
         rest = g.rest;
-        lines = ap (λ w. header_line h ++ w) g.lines;
+        lines = ap (λ w. header_text h ++ 10 ∷ w) g.lines;
         good = g.good;
         few = subst (λ n. n ≤ 999999) zero g.few;
         ends = subst (λ n. EndsTrace n g.rest g.end) zero g.ends;

@@ -1,12 +1,15 @@
 -- From what was read to all bytes, whatever stands behind it.
-use Rattle.std.proofs.Common.{◌≡◌, inl, inr, ℕ, ◌≤◌, List, [], ◌∷◌, ◌++◌, Option, refl, sym, ◌∙◌, ap, ap₂, subst, append_assoc, append-nil}
+use Rattle.std.proofs.Common.{◌≡◌, inl, inr, ℕ, ◌≤◌, List, [], ◌∷◌, ◌++◌, Option, refl, sym, ◌∙◌, ap, ap₂, subst, append_assoc, append-nil, codes}
 use Rattle.std.specs.Io.KnownBytes.{Consumes, IsAtEnd}
 use Rattle.std.proofs.KnownBytes.{Consumes-nil, Consumes-trans}
 use Rattle.trace_audit.specs.Grammar.{header_text, IsHeader}
-use Rattle.trace_audit.specs.Trace.{header_line, EndsTrace, BeginsWithRequest, BeginsWithHeader}
-use Rattle.trace_audit.specs.Report.{bad_line, no_memory_line}
-use Rattle.trace_audit.specs.Replay.{HoldsOfAll, ReportsTrace}
-use Rattle.trace_audit.specs.Steps.{ReportsLines, EndsSo, IsBadFront, IsBadHeader}
+use Rattle.trace_audit.specs.Words.{header_line}
+use Rattle.trace_audit.specs.Machine.{closing}
+use Rattle.pool_machine.specs.State.{State}
+use Rattle.trace_audit.specs.Trace.{EndsTrace, BeginsWithRequest, BeginsWithHeader}
+use Rattle.trace_audit.specs.Report.{bad_line}
+use Rattle.trace_audit.specs.Replay.{Answered, ReportsTrace}
+use Rattle.trace_audit.specs.Steps.{EndsSo, HoldsBehind, IsBadFront, IsBadHeader}
 use Rattle.trace_audit.specs.declared.grammar.header.Header.{Header}
 use Rattle.trace_audit.specs.declared.replaying.ending.End.{End}
 use Rattle.trace_audit.specs.declared.replaying.ending.End.TheVariants.{Whole, BadLine, NoRoom}
@@ -35,6 +38,16 @@ few_lines n rest at_end Whole h = h.0
 few_lines n rest at_end (BadLine k) h = h.0
 few_lines n rest at_end NoRoom h = absurd h
 
+-- what stands behind the answers, of the state that they lead to
+abbrev pub tail_of : State → End → List ℕ
+tail_of st Whole = closing st
+tail_of st (BadLine k) = bad_line k ++ closing st
+tail_of st NoRoom = []
+
+-- P holds of the lines of the answers and of those behind them
+abbrev pub ReportsLines : List ℕ → (List ℕ → Type 0) → End → Type 0
+ReportsLines bytes P end = Answered bytes end (λ requests lines now. P (lines ++ tail_of now end))
+
 -- the report of lines that end so is the report of the bytes
 pub as_report : (bytes : List ℕ) (P : List ℕ → Type 0) (n : ℕ) (rest : List ℕ) (end : End) → EndsTrace n rest end → ReportsLines bytes P end → ReportsTrace bytes P end
 as_report bytes P n rest Whole e r = r
@@ -43,12 +56,12 @@ as_report bytes P n rest NoRoom e r = absurd e
 
 -- no good header line stands first
 pub bad_header : (left0 left : Option (List ℕ)) (given : List ℕ) → Consumes left0 left given → IsBadHeader given (IsAtEnd left) → (P : List ℕ → Type 0) → P (bad_line 1)
-    → HoldsOfAll [] left0 left (λ bytes. ReportsTrace bytes P (BadLine 1))
+    → HoldsBehind [] left0 left (λ bytes. ReportsTrace bytes P (BadLine 1))
 bad_header left0 left given read bad P p = (given, read, λ more none. inr (refl, (λ b. bad_header_whole given more (IsAtEnd left) none bad b), p))
 
 -- a good one does, and there is no room for the pool
-pub no_room : (left0 left : Option (List ℕ)) (h : Header) (held : List ℕ) → IsHeader h → left ≡ left0 → (P : List ℕ → Type 0) → P no_memory_line
-    → HoldsOfAll (header_line h ++ held) left0 left (λ bytes. ReportsTrace bytes P NoRoom)
+pub no_room : (left0 left : Option (List ℕ)) (h : Header) (held : List ℕ) → IsHeader h → left ≡ left0 → (P : List ℕ → Type 0) → P (codes "R15 NoMemory" ++ 10 ∷ [])
+    → HoldsBehind (header_line h ++ held) left0 left (λ bytes. ReportsTrace bytes P NoRoom)
 no_room left0 left h held fits same P p = (
   [],
   subst (λ (w : Option (List ℕ)). Consumes left0 w []) (sym same) (Consumes-nil left0),
@@ -57,7 +70,7 @@ no_room left0 left h held fits same P p = (
 
 -- what was read first stands behind nothing
 pub shifted : (left0 left left' : Option (List ℕ)) (before first : List ℕ) (Q : List ℕ → Type 0) → Consumes left0 left first → first ≡ before
-    → HoldsOfAll before left left' Q → HoldsOfAll [] left0 left' Q
+    → HoldsBehind before left left' Q → HoldsBehind [] left0 left' Q
 shifted left0 left left' before first Q read is (given, more_read, q) = (
   first ++ given,
   Consumes-trans left0 left left' first given read more_read,

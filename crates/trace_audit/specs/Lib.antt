@@ -2,9 +2,11 @@ pub mod Limits
 pub mod Wire
 pub mod Grammar
 pub mod Trace
-pub mod Machine
 pub mod Report
+pub mod Machine
 pub mod Replay
+pub mod Words
+pub mod FloorCounts
 pub mod Steps
 pub mod Laws
 pub mod FloorSlots

@@ -1,11 +1,7 @@
 -- The limits of a trace.
 use Rattle.std.specs.Prelude.{ℕ}
 
--- the most bytes of a line, before its line feed
-abbrev pub line_limit : ℕ
-line_limit = 64
-
--- the bytes that tell a line that is too long
+-- the bytes that tell a line that is too long: a good one has at most 64 before its line feed
 abbrev pub held_limit : ℕ
 held_limit = 65
 

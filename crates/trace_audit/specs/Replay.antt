@@ -1,16 +1,15 @@
 -- What a replay reads, how it ends, and what it writes.
-use Rattle.std.specs.Prelude.{ℕ, ◌≡◌, ◌⊎◌, ◌<◌, ◌≤◌, List, [], ◌++◌, length, Option, Some, None, Ok, Err, Bool}
-use Rattle.std.specs.Prelude.{true, false, ⊤}
+use Rattle.std.specs.Prelude.{ℕ, ◌≡◌, ◌≢◌, ◌⊎◌, ◌<◌, ◌≤◌, List, [], ◌∷◌, ◌++◌, length, slice_index, codes, Option, Some}
+use Rattle.std.specs.Prelude.{None, Ok, Err, Bool, true, false, ⊤}
 use Rattle.std.specs.List.{flat_map}
 use Rattle.std.specs.Io.KnownBytes.{Consumes, IsAtEnd}
 use Rattle.pool_machine.specs.State.{State}
 use Rattle.pool_machine.specs.Steps.{Answer, Run}
 use Rattle.pool_machine.specs.declared.request.Request.{Request}
-use Rattle.trace_audit.specs.Limits.{line_limit, request_limit}
-use Rattle.trace_audit.specs.Grammar.{Lacks}
-use Rattle.trace_audit.specs.Machine.{opening_of, told_of}
+use Rattle.trace_audit.specs.Limits.{request_limit}
+use Rattle.trace_audit.specs.Machine.{opening_of, closing}
 use Rattle.trace_audit.specs.Trace.{BeginsWithHeader, IsTrace}
-use Rattle.trace_audit.specs.Report.{answer_line, bad_line, closing, no_memory_line, Verdict, audit_line}
+use Rattle.trace_audit.specs.Report.{answer_line, bad_line, Verdict, audit_line}
 use Rattle.trace_audit.specs.Wire.{Begins}
 use Rattle.slot_audit.specs.declared.fault.Fault.TheVariants.{NoMemory}
 use Rattle.trace_audit.specs.declared.grammar.header.Header.{Header}
@@ -35,27 +34,28 @@ pub record Answered (bytes : List ℕ) (end : End) (P : List Request → List �
 -- The bytes have this end, and P holds of their report and of nothing else: of the lines of the answers, that of a bad
 -- line and the closing lines; or of one line alone where no good header line stands first, or where there is no room.
 abbrev pub ReportsTrace : List ℕ → (List ℕ → Type 0) → End → Type 0
-ReportsTrace bytes P Whole = Answered bytes Whole (λ requests lines now. P (lines ++ closing (told_of now)))
+ReportsTrace bytes P Whole = Answered bytes Whole (λ requests lines now. P (lines ++ closing now))
 ReportsTrace bytes P (BadLine k) =
-    Answered bytes (BadLine k) (λ requests lines now. P (lines ++ (bad_line k ++ closing (told_of now))))
+    Answered bytes (BadLine k) (λ requests lines now. P (lines ++ (bad_line k ++ closing now)))
     ⊎ ((k ≡ 1) × (BeginsWithHeader bytes → ⊥) × P (bad_line 1))
-ReportsTrace bytes P NoRoom = BeginsWithHeader bytes × P no_memory_line
+ReportsTrace bytes P NoRoom = BeginsWithHeader bytes × P (codes "R15 NoMemory" ++ 10 ∷ [])
 
 -- ---- a replay
 
--- Q holds of all bytes, those before the reader's first: of what the reader gave with whatever stands behind it, which
--- is nothing where the reader is at its end. So it holds of all of the reader's bytes where they are known.
-abbrev pub HoldsOfAll : List ℕ → Option (List ℕ) → Option (List ℕ) → (List ℕ → Type 0) → Type 0
-HoldsOfAll before left0 left Q = (given : List ℕ) × Consumes left0 left given
-    × ((more : List ℕ) → (IsAtEnd left → more ≡ []) → Q (before ++ (given ++ more)))
+-- Q holds of all of the reader's bytes: of what it gave with whatever stands behind it, which is nothing where the
+-- reader is at its end. So it holds of the bytes that the reader had, where they are known.
+abbrev pub HoldsOfAll : Option (List ℕ) → Option (List ℕ) → (List ℕ → Type 0) → Type 0
+HoldsOfAll left0 left Q = (given : List ℕ) × Consumes left0 left given
+    × ((more : List ℕ) → (IsAtEnd left → more ≡ []) → Q (given ++ more))
 
 -- P holds of the report of all bytes, which have this end
 abbrev pub Reports : Option (List ℕ) → Option (List ℕ) → (List ℕ → Type 0) → End → Type 0
-Reports left0 left P end = HoldsOfAll [] left0 left (λ bytes. ReportsTrace bytes P end)
+Reports left0 left P end = HoldsOfAll left0 left (λ bytes. ReportsTrace bytes P end)
 
--- the beginning of a line of which it is not yet known that it is bad
+-- the beginning of a line of which it is not yet known that it is bad: no line feed, and no more bytes than a line may
+-- have
 abbrev pub IsPartial : List ℕ → Type 0
-IsPartial bytes = Lacks 10 bytes × (length bytes ≤ line_limit)
+IsPartial bytes = ((k : ℕ) → k < length bytes → slice_index bytes k ≢ 10) × (length bytes ≤ 64)
 
 -- No bad line is known in the bytes, and P holds of the lines of the answers to all whole request lines; of no line
 -- where not even a header line is whole.
@@ -66,17 +66,10 @@ AnswersLines bytes P = (IsPartial bytes × P [])
 
 -- Read: the lines of these answers were written, and no closing line. Write: P holds of the report of all bytes, whose
 -- end is P's too.
-abbrev pub FailsBehind : List ℕ → Option (List ℕ) → Option (List ℕ) → (List ℕ → Type 0) → (End → List ℕ → Type 0)
-    → ReplayError → Type 0
-FailsBehind before left0 left Wrote P Read = (given : List ℕ) × Consumes left0 left given
-    × AnswersLines (before ++ given) Wrote
-FailsBehind before left0 left Wrote P Write =
-    HoldsOfAll before left0 left (λ bytes. (end : End) × ReportsTrace bytes (P end) end)
-
--- where nothing was read before
 abbrev pub Fails : Option (List ℕ) → Option (List ℕ) → (List ℕ → Type 0) → (End → List ℕ → Type 0) → ReplayError
     → Type 0
-Fails left0 left Wrote P e = FailsBehind [] left0 left Wrote P e
+Fails left0 left Wrote P Read = (given : List ℕ) × Consumes left0 left given × AnswersLines given Wrote
+Fails left0 left Wrote P Write = HoldsOfAll left0 left (λ bytes. (end : End) × ReportsTrace bytes (P end) end)
 
 abbrev pub error_number : ReplayError → ℕ
 error_number Read = 1

@@ -5,7 +5,7 @@ use Rattle.std.specs.List.{flat_map, AllByRecursion}
 use Rattle.std.specs.Io.KnownBytes.{Appends, Consumes, IsAtEnd}
 use Rattle.event_floor.specs.Floors.{FloorState}
 use Rattle.pool_machine.specs.declared.request.Request.{Request}
-use Rattle.trace_audit.specs.Grammar.{Lacks, IsRequest}
+use Rattle.trace_audit.specs.Grammar.{IsRequest}
 use Rattle.event_floor.specs.headline.Headline.{Applies}
 use Rattle.event_floor.specs.headline.Listing.{listing_of}
 use Rattle.pool_machine.specs.State.{State}
@@ -13,11 +13,12 @@ use Rattle.pool_machine.specs.Steps.{Answer, Run}
 use Rattle.pool_machine.specs.Listing.{Shown}
 use Rattle.region_cut.specs.declared.slot.Slot.{Slot}
 use Rattle.trace_audit.specs.Limits.{held_limit, request_limit}
-use Rattle.trace_audit.specs.Machine.{Tally, told, told_of}
-use Rattle.trace_audit.specs.Report.{answer_line, audit_line, bad_line, closing, Verdict}
-use Rattle.trace_audit.specs.Trace.{request_line, BeginsWithHeader, BeginsWithRequest}
-use Rattle.trace_audit.specs.Replay.{BeginsAudited, Failures, FailsBehind, FindsNothing, HoldsOfAll, IsAudited}
-use Rattle.trace_audit.specs.Replay.{Answered, IsPartial, ReportsTrace, with_audit}
+use Rattle.trace_audit.specs.FloorCounts.{Tally, tally_lines, told}
+use Rattle.trace_audit.specs.Report.{answer_line, audit_line, bad_line, Verdict}
+use Rattle.trace_audit.specs.Trace.{BeginsWithHeader, BeginsWithRequest}
+use Rattle.trace_audit.specs.Replay.{AnswersLines, BeginsAudited, Failures, FindsNothing, IsAudited, IsPartial}
+use Rattle.trace_audit.specs.Replay.{ReportsTrace, with_audit}
+use Rattle.trace_audit.specs.Words.{Lacks, request_line}
 use Rattle.trace_audit.specs.Wire.{Begins}
 use Rattle.trace_audit.specs.declared.lines.Next.{Next}
 use Rattle.trace_audit.specs.declared.lines.Next.TheVariants.{Text, Over, Bad}
@@ -30,13 +31,9 @@ use Rattle.trace_audit.specs.declared.replaying.ending.ReplayError.TheVariants.{
 
 -- the lines behind the answers
 abbrev pub tail_text : Tally → End → List ℕ
-tail_text tally Whole = closing tally
-tail_text tally (BadLine k) = bad_line k ++ closing tally
+tail_text tally Whole = tally_lines tally
+tail_text tally (BadLine k) = bad_line k ++ tally_lines tally
 tail_text tally NoRoom = []
-
--- P holds of the lines of the answers and of those behind them
-abbrev pub ReportsLines : List ℕ → (List ℕ → Type 0) → End → Type 0
-ReportsLines bytes P end = Answered bytes end (λ requests lines now. P (lines ++ tail_text (told_of now) end))
 
 -- what the next line is: bytes is what was held and what was read, held is what is left of it
 abbrev pub Took : List ℕ → List ℕ → Type 0 → Next → Type 0
@@ -148,13 +145,26 @@ abbrev pub BeginsReport : Bool → Option (List ℕ) → Option (List ℕ) → E
 BeginsReport true out0 out end report = BeginsAudited out0 out end report
 BeginsReport false out0 out end report = Begins out0 out report
 
+-- Q holds of all bytes, those before the reader's first
+abbrev pub HoldsBehind : List ℕ → Option (List ℕ) → Option (List ℕ) → (List ℕ → Type 0) → Type 0
+HoldsBehind before left0 left Q = (given : List ℕ) × Consumes left0 left given
+    × ((more : List ℕ) → (IsAtEnd left → more ≡ []) → Q (before ++ (given ++ more)))
+
+-- what was written where the reader or the writer failed, behind the bytes that were read before
+abbrev pub FailsBehind : List ℕ → Option (List ℕ) → Option (List ℕ) → (List ℕ → Type 0) → (End → List ℕ → Type 0)
+    → ReplayError → Type 0
+FailsBehind before left0 left Wrote P Read = (given : List ℕ) × Consumes left0 left given
+    × AnswersLines (before ++ given) Wrote
+FailsBehind before left0 left Wrote P Write =
+    HoldsBehind before left0 left (λ bytes. (end : End) × ReportsTrace bytes (P end) end)
+
 -- What a replay comes to, behind the bytes that were read before: its report was written, or it failed. The flags say
 -- which of reader and writer failed.
 abbrev pub Replayed : Bool → List ℕ → Option (List ℕ) → Option (List ℕ) → Option (List ℕ) → Option (List ℕ) → Bool
     → Bool → Result (End × Option Verdict) ReplayError → Type 0
 Replayed audits before left0 left out0 out reader writer (Ok r) = (reader ≡ false) × (writer ≡ false)
     × IsAsked audits r.0 r.1
-    × HoldsOfAll before left0 left (λ bytes. ReportsTrace bytes (with_audit r.1 (Appends out0 out)) r.0)
+    × HoldsBehind before left0 left (λ bytes. ReportsTrace bytes (with_audit r.1 (Appends out0 out)) r.0)
 Replayed audits before left0 left out0 out reader writer (Err e) =
     Failures reader writer e × FailsBehind before left0 left (Appends out0 out) (BeginsReport audits out0 out) e
 

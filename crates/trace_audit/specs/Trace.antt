@@ -1,4 +1,4 @@
--- What a trace is: a good header line, good request lines, and how it ends.
+-- What a trace is: a good header line, good request lines, and how it ends. A line ends with a line feed, which is 10.
 use Rattle.std.specs.Prelude.{ℕ, ◌≡◌, ◌≢◌, ◌⊎◌, ◌+◌, ◌≤◌, List, [], ◌∷◌, ◌++◌, length}
 use Rattle.std.specs.List.{flat_map, AllByRecursion}
 use Rattle.pool_machine.specs.declared.request.Request.{Request}
@@ -7,14 +7,6 @@ use Rattle.trace_audit.specs.Limits.{request_limit}
 use Rattle.trace_audit.specs.declared.grammar.header.Header.{Header}
 use Rattle.trace_audit.specs.declared.replaying.ending.End.{End}
 use Rattle.trace_audit.specs.declared.replaying.ending.End.TheVariants.{Whole, BadLine, NoRoom}
-
--- Lines: 10 is the line feed.
-
-abbrev pub header_line : Header → List ℕ
-header_line h = header_text h ++ 10 ∷ []
-
-abbrev pub request_line : Request → List ℕ
-request_line r = spelling r ++ 10 ∷ []
 
 -- a good header line stands at the front
 abbrev pub BeginsWithHeader : List ℕ → Type 0
@@ -36,7 +28,7 @@ EndsTrace n rest NoRoom = ⊥
 pub record IsTrace (bytes : List ℕ) (h : Header) (requests : List Request) (end : End) : Type 0 where
   pub header : IsHeader h
   pub rest : List ℕ
-  pub lines : bytes ≡ header_line h ++ (flat_map request_line requests ++ rest)
+  pub lines : bytes ≡ header_text h ++ 10 ∷ (flat_map (λ r. spelling r ++ 10 ∷ []) requests ++ rest)
   pub good : AllByRecursion IsRequest requests
   pub few : length requests ≤ request_limit
   pub ends : EndsTrace (length requests) rest end

@@ -6,7 +6,7 @@ ghost use Rattle.std.specs.Prelude.{◌≡◌, ℕ, ◌<◌, ◌≤◌, ◌+◌,
 ghost use Rattle.std.specs.Prelude.{IsTrue, IfSome, IfNone};
 ghost use Rattle.std.specs.Io.KnownBytes.{Consumes, IsAtEnd, Keeps};
 ghost use Rattle.arrayvec.specs.ArrayVec.{array_vec_len};
-ghost use Rattle.trace_audit.specs.Grammar.{Lacks};
+ghost use Rattle.trace_audit.specs.Words.{Lacks};
 ghost use Rattle.trace_audit.specs.Limits.{held_limit};
 ghost use Rattle.trace_audit.specs.Replay.{IsPartial};
 ghost use Rattle.trace_audit.specs.Steps.{Took};

@@ -3,7 +3,8 @@ ghost use Rattle.std.specs.Prelude.{◌≡◌, ◌^◌, ◌↔◌, IsTrue, IfSom
 ghost use Rattle.region_cut.specs.Classes.{bits_of};
 ghost use Rattle.region_cut.specs.declared.profile.Profile.{Profile};
 ghost use Rattle.trace_audit.specs.declared.grammar.header.Header.{Header};
-ghost use Rattle.trace_audit.specs.Grammar.{profile_text, header_text, header_words, AreWords, IsHeader};
+ghost use Rattle.trace_audit.specs.Grammar.{profile_text, header_text, IsHeader};
+ghost use Rattle.trace_audit.specs.Words.{header_words, AreWords};
 
 use super::words::{cut_at, number, two};
 use region_cut::{MAX_CHUNKS, Profile};

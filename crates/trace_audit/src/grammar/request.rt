@@ -2,7 +2,8 @@
 ghost use Rattle.std.specs.Prelude.{◌≡◌, ℕ, IfSome, IfNone};
 ghost use Rattle.pool_machine.specs.declared.request.Request.{Request};
 ghost use Rattle.trace_audit.specs.declared.grammar.request.Verb.{Verb};
-ghost use Rattle.trace_audit.specs.Grammar.{verb_text, verb_of, words_of, spelling, IsRequest};
+ghost use Rattle.trace_audit.specs.Words.{verb_text, verb_of, words_of};
+ghost use Rattle.trace_audit.specs.Grammar.{spelling, IsRequest};
 
 use super::words::{cut_at, number, two};
 use event_floor::Request;

@@ -1,6 +1,7 @@
 //! The words of a line.
 ghost use Rattle.std.specs.Prelude.{◌≡◌, ℕ, ◌<◌, ◌++◌, ◌∷◌, IfSome, IfNone, decimal};
-ghost use Rattle.trace_audit.specs.Grammar.{Lacks, IsWord, pair};
+ghost use Rattle.trace_audit.specs.Words.{Lacks};
+ghost use Rattle.trace_audit.specs.Grammar.{IsWord, pair};
 
 /// The bytes before the first `mark`, and those behind it.
 pub(crate) fn cut_at(bytes: &[u8], mark: u8) -> Option<(&[u8], &[u8])>

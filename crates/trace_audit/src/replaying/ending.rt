@@ -1,7 +1,7 @@
 //! How a replay ends.
 ghost use Rattle.std.specs.Prelude.{◌≡◌, false};
 ghost use Rattle.trace_audit.specs.FloorSlots.{ShowsPool};
-ghost use Rattle.trace_audit.specs.Machine.{told};
+ghost use Rattle.trace_audit.specs.FloorCounts.{told};
 ghost use Rattle.trace_audit.specs.Replay.{error_number};
 ghost use Rattle.trace_audit.specs.Steps.{tail_text, Finishes, TellsAudit, WritesOnly};
 ghost use Rattle.trace_audit.specs.Wire.{Writes};

@@ -1,11 +1,11 @@
 //! From the header on.
 ghost use Rattle.std.specs.Prelude.{◌≡◌, ◌≤◌, ◌*◌, ◌↔◌, ◌++◌, [], length, false, IfOk, IfErr, IfSome, IsSome};
 ghost use Rattle.std.specs.Io.KnownBytes.{Appends};
-ghost use Rattle.trace_audit.specs.Machine.{Opens, digits_of};
+ghost use Rattle.trace_audit.specs.FloorCounts.{Opens, digits_of};
 ghost use Rattle.trace_audit.specs.Grammar.{IsHeader};
 ghost use Rattle.trace_audit.specs.Replay.{BeginsAudited, Failures, Fails, IsAudited, Reports, with_audit};
 ghost use Rattle.trace_audit.specs.Steps.{Replayed};
-ghost use Rattle.trace_audit.specs.Trace.{header_line};
+ghost use Rattle.trace_audit.specs.Words.{header_line};
 ghost use Rattle.trace_audit.specs.Wire.{Begins};
 
 use super::drive::drive;

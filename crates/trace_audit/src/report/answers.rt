@@ -1,8 +1,9 @@
 //! The lines of answers, and that of a bad line.
-ghost use Rattle.std.specs.Prelude.{◌≡◌, ◌≤◌, ◌+◌, ◌++◌};
+ghost use Rattle.std.specs.Prelude.{◌≡◌, ◌≤◌, ◌+◌, ◌++◌, codes};
 ghost use Rattle.arrayvec.specs.ArrayVec.{array_vec_len};
+ghost use Rattle.pool_machine.specs.RefusalNames.{refusal_name, refusal_number};
 ghost use Rattle.region_cut.specs.Slots.{printed};
-ghost use Rattle.trace_audit.specs.Report.{answer_line, bad_line, reply_text, refusal_text};
+ghost use Rattle.trace_audit.specs.Report.{answer_line, bad_line, reply_text, two_digits};
 
 use super::text::{Line, push_number, push_text};
 use event_floor::{Refusal, Reply};
@@ -55,7 +56,8 @@ fn push_reply(line: &mut Line, reply: Reply)
 /// Adds the number with two digits, a space and the name, as `R04 NeedChunk`.
 fn push_refusal(line: &mut Line, refusal: Refusal)
     requires { array_vec_len line.old ≡ 0 }
-    ensures items { line.new.items ≡ line.old.items ++ refusal_text refusal }
+    ensures items { line.new.items ≡ line.old.items ++ codes "R" ++ two_digits (refusal_number refusal) ++ codes " "
+        ++ refusal_name refusal }
     ensures len { array_vec_len line.new ≤ 100 }
 {
     let number = refusal.number();

@@ -2,8 +2,8 @@
 ghost use Rattle.std.specs.Prelude.{◌≡◌, ◌≤◌, ◌<◌, ◌+◌, ◌++◌, length, count_by, is_some, false};
 ghost use Rattle.arrayvec.specs.ArrayVec.{array_vec_len};
 ghost use Rattle.event_floor.specs.Floors.{desk_count};
-ghost use Rattle.trace_audit.specs.Machine.{counts_at, told};
-ghost use Rattle.trace_audit.specs.Report.{closing, counts_text, desk_line, end_line, total};
+ghost use Rattle.trace_audit.specs.FloorCounts.{counts_at, end_line, tally_lines, told};
+ghost use Rattle.trace_audit.specs.Report.{counts_text, desk_line, total};
 ghost use Rattle.trace_audit.specs.Wire.{Writes};
 
 use super::text::{Line, push_number, push_text};
@@ -19,7 +19,7 @@ pub(crate) struct DeskCounts {
 }
 
 impl DeskCounts {
-    ghost use Rattle.trace_audit.specs.Report.{are_zero, plus};
+    ghost use Rattle.trace_audit.specs.FloorCounts.{are_zero, plus};
 
     /// Whether each of the three is 0.
     fn is_zero(self) -> bool
@@ -109,7 +109,7 @@ fn push_counts(line: &mut Line, counts: DeskCounts)
 pub(crate) fn close<W: Sink>(floor: &Floor<'_>, writer: &mut W) -> Result<(), Failed>
     requires { W.has_failed writer.old ≡ false }
     ensures { Writes (W.contents writer.old) (W.contents writer.new) (W.has_failed writer.new)
-        (closing (told floor.now)) result }
+        (tally_lines (told floor.now)) result }
 {
     let desks = floor.desk_count();
     for desk in 0..desks {

@@ -1,10 +1,11 @@
 use Rattle.std.proofs.Common.{◌≡◌, ℕ, List, subst, sym, ◌∙◌, true, false}
-use Rattle.trace_audit.specs.Grammar.{Lacks, header_words, profile_text}
-use Rattle.trace_audit.proofs.Cuts.{marked, header_line_cut, header_words_fit, same_header, same_profile, in_range_again}
+use Rattle.trace_audit.specs.Words.{Lacks, header_words}
+use Rattle.trace_audit.specs.Grammar.{profile_text}
+use Rattle.trace_audit.proofs.Cuts.{marked, header_line_cut, header_words_fit, same_header, same_profile, in_range_again, titled}
 use Rattle.trace_audit.proofs.grammar.header.read_header.Goals as goal
 
 pub returns-in_err-word-clause-none : goal.returns-in_err-word-clause-none
-returns-in_err-word-clause-none c = rw c.from_residual.ensures (λ h fits is. marked 32 (profile_text h.profile) (header_words h) (subst (λ (w : List ℕ). Lacks 32 w) is c.in_err-word.ensures.none))
+returns-in_err-word-clause-none c = rw c.from_residual.ensures (λ h fits is. marked 32 (profile_text h.profile) (header_words h) (subst (λ (w : List ℕ). Lacks 32 w) (is ∙ titled h) c.in_err-word.ensures.none))
 
 pub returns-in_err-profile-clause-none : goal.returns-in_err-profile-clause-none
 returns-in_err-profile-clause-none c = rw c.from_residual-in_err-profile.ensures (λ h fits is.

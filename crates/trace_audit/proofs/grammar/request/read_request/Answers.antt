@@ -1,10 +1,10 @@
-use Rattle.std.proofs.Common.{ℕ, List, subst}
-use Rattle.trace_audit.specs.Grammar.{Lacks, verb_of}
-use Rattle.trace_audit.proofs.Cuts.{marked, line_cut, read_found, read_none}
+use Rattle.std.proofs.Common.{ℕ, List, ◌∙◌, subst}
+use Rattle.trace_audit.specs.Words.{Lacks, verb_of}
+use Rattle.trace_audit.proofs.Cuts.{marked, line_cut, read_found, read_none, spelled}
 use Rattle.trace_audit.proofs.grammar.request.read_request.Goals as goal
 
 pub returns-in_err-word-clause-none : goal.returns-in_err-word-clause-none
-returns-in_err-word-clause-none c = rw c.from_residual.ensures (λ r fits is. marked 32 _ _ (subst (λ (w : List ℕ). Lacks 32 w) is c.in_err-word.ensures.none))
+returns-in_err-word-clause-none c = rw c.from_residual.ensures (λ r fits is. marked 32 _ _ (subst (λ (w : List ℕ). Lacks 32 w) (is ∙ spelled r) c.in_err-word.ensures.none))
 
 pub returns-in_err-verb-clause-none : goal.returns-in_err-verb-clause-none
 returns-in_err-verb-clause-none c = rw c.from_residual-in_err-verb.ensures (λ r fits is.

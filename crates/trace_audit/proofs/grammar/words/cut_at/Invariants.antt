@@ -1,5 +1,5 @@
 use Rattle.std.proofs.Common.{take}
-use Rattle.trace_audit.specs.Grammar.{Lacks}
+use Rattle.trace_audit.specs.Words.{Lacks}
 use Rattle.trace_audit.proofs.grammar.words.cut_at.Given as goal
 
 abbrev pub invariant-loop-at : goal.invariant-loop-at

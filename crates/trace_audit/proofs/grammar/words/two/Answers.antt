@@ -1,5 +1,5 @@
 use Rattle.std.proofs.Common.{ℕ, List, subst}
-use Rattle.trace_audit.specs.Grammar.{Lacks}
+use Rattle.trace_audit.specs.Words.{Lacks}
 use Rattle.trace_audit.proofs.Cuts.{marked, pair_cut}
 use Rattle.trace_audit.proofs.grammar.words.two.Goals as goal
 

@@ -1,6 +1,6 @@
 use Rattle.std.proofs.Common.{◌∙◌}
 use Rattle.std.proofs.lemmas.Result.{err_from_is_err_and}
-use Rattle.trace_audit.specs.Machine.{told}
+use Rattle.trace_audit.specs.FloorCounts.{told}
 use Rattle.trace_audit.proofs.Closings.{bad_closed, bad_broken}
 use Rattle.trace_audit.proofs.replaying.ending.close_behind.Goals as goal
 

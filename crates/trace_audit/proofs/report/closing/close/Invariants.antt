@@ -1,7 +1,7 @@
 use Rattle.std.proofs.Common.{◌≡◌, false, take}
 use Rattle.std.specs.Io.KnownBytes.{Appends}
-use Rattle.trace_audit.specs.Machine.{told}
-use Rattle.trace_audit.specs.Report.{desk_lines}
+use Rattle.trace_audit.specs.FloorCounts.{told}
+use Rattle.trace_audit.specs.FloorCounts.{desk_lines}
 use Rattle.trace_audit.proofs.report.closing.close.Given as goal
 
 abbrev pub invariant-loop-desk : goal.invariant-loop-desk

@@ -1,5 +1,5 @@
 use Rattle.std.proofs.Common.{◌≡◌, take}
-use Rattle.trace_audit.specs.Machine.{told}
+use Rattle.trace_audit.specs.FloorCounts.{told}
 use Rattle.trace_audit.specs.Report.{total}
 use Rattle.trace_audit.proofs.report.closing.total.Given as goal
 
