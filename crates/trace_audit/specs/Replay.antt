@@ -52,8 +52,7 @@ HoldsOfAll left0 left Q = (given : List ℕ) × Consumes left0 left given
 abbrev pub Reports : Option (List ℕ) → Option (List ℕ) → (List ℕ → Type 0) → End → Type 0
 Reports left0 left P end = HoldsOfAll left0 left (λ bytes. ReportsTrace bytes P end)
 
--- the beginning of a line of which it is not yet known that it is bad: no line feed, and no more bytes than a line may
--- have
+-- the beginning of a line of which it is not yet known that it is bad: it has no line feed, and at most 64 bytes
 abbrev pub IsPartial : List ℕ → Type 0
 IsPartial bytes = ((k : ℕ) → k < length bytes → slice_index bytes k ≢ 10) × (length bytes ≤ 64)
 
