@@ -47,7 +47,8 @@ conditions st (Send a t) =
     ∷ (nat_le (2 ^ 32) st.next, Spent) ∷ []
 conditions st (Link n) = (not (list_any (λ w. (n == w.number) && not w.linked) st.waiting), NoBatch) ∷ []
 conditions st (Take b) =
-    (no_desk st b, NoDesk) ∷ (is_idle st b, Idle) ∷ (not (option_map_or (λ w. w.linked) (front st b) false), Nothing) ∷ []
+    (no_desk st b, NoDesk) ∷ (is_idle st b, Idle)
+    ∷ (not (option_map_or (λ w. w.linked) (front st b) false), Nothing) ∷ []
 
 -- the first of them that holds
 abbrev pub first : List (Bool × Refusal) → Option Refusal

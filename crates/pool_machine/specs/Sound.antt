@@ -7,7 +7,8 @@ use Rattle.pool_machine.specs.State.{Place, InCache, InBatch, Waiting, State, ow
 
 -- the batch brings a slot of this owner, passed on so often, nearer to the owner
 abbrev pub GoesNearer : State → ℕ → ℕ → Waiting → Type 0
-GoesNearer st owner count w = (count ≤ common st.digits owner w.sender) × (common st.digits owner w.sender < common st.digits owner w.address)
+GoesNearer st owner count w = (count ≤ common st.digits owner w.sender)
+    × (common st.digits owner w.sender < common st.digits owner w.address)
 
 -- The batch is well routed: it goes to another desk than its sender, which owns a slot of it, and brings each of its
 -- slots nearer.

@@ -34,7 +34,8 @@ move_one s p r old = if same_slot s r then p else old
 -- the bucket of a for t goes into the next batch
 abbrev pub move_bucket : State → ℕ → ℕ → Slot → Place → Place
 move_bucket st a t s old =
-    if same_place (InCache a) (Some old) && nat_lt (common st.digits a t) (common st.digits (owner_of st s) t) then InBatch st.next else old
+    if same_place (InCache a) (Some old) && nat_lt (common st.digits a t) (common st.digits (owner_of st s) t)
+    then InBatch st.next else old
 
 -- of a batch that b takes, the slots that b owns go home, and the others into the cache of b
 abbrev pub move_batch : State → ℕ → ℕ → Slot → Place → Place

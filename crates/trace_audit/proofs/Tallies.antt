@@ -7,10 +7,10 @@ use Rattle.pool_machine.specs.declared.request.Request.{Request}
 use Rattle.event_floor.specs.headline.TellsCounts.{TellsCounts, FloorsTellCounts}
 use Rattle.event_floor.specs.headline.Listing.{desk_of}
 use Rattle.pool_machine.specs.Laws.{RunsKeepNumbers}
-use Rattle.pool_machine.specs.State.{State}
+use Rattle.pool_machine.specs.State.{State, OnLoan, slots_at}
 use Rattle.trace_audit.specs.Grammar.{IsHeader}
 use Rattle.pool_machine.specs.Steps.{Answer}
-use Rattle.pool_machine.specs.SlotLists.{lent_slots, drawn_count}
+use Rattle.pool_machine.specs.SlotLists.{drawn_count}
 use Rattle.trace_audit.specs.FloorCounts.{Opens, Tally, counts_at, desk_lines, end_line, tally_lines, told}
 use Rattle.trace_audit.specs.Machine.{closing, counts_in, opening_of}
 use Rattle.trace_audit.specs.Report.{bad_line, counts_text, desk_line, total}
@@ -40,7 +40,7 @@ same_desks v st t e = ap (λ n. map (counts_at v) (range_with_len 0 n)) e ∙ ap
 abbrev told_of : State → Tally
 told_of st = record {
   chunks = drawn_count st;
-  lent = length (lent_slots st);
+  lent = length (slots_at st OnLoan);
   desks = map (counts_in st) (range_with_len 0 st.desks);
 }
 
@@ -56,7 +56,7 @@ in_line a b c d e f = simp append_assoc
 -- the lines of what is told of a state are its closing lines
 closing_is : (st : State) → tally_lines (told_of st) ≡ closing st
 closing_is st = ap (λ l. l ++ end_line (told_of st)) (lines_of_desks (counts_in st) 0 st.desks)
-    ∙ in_line (flat_map (λ a. desk_line a (counts_in st a)) (range_with_len 0 st.desks)) (codes "end chunks ") (decimal (drawn_count st)) (codes " lent ") (decimal (length (lent_slots st)))
+    ∙ in_line (flat_map (λ a. desk_line a (counts_in st a)) (range_with_len 0 st.desks)) (codes "end chunks ") (decimal (drawn_count st)) (codes " lent ") (decimal (length (slots_at st OnLoan)))
     (counts_text (total (map (counts_in st) (range_with_len 0 st.desks))))
 
 told_is : MachineLaws → (h : Header) (start now : FloorState) (requests : List Request) (answers : List Answer) → IsHeader h → (opens : Opens h start)

@@ -1,7 +1,11 @@
 -- The limits of a trace.
 use Rattle.std.specs.Prelude.{ℕ}
 
--- the bytes that tell a line that is too long: a good one has at most 64 before its line feed
+-- the most bytes of a line, before its line feed
+abbrev pub line_limit : ℕ
+line_limit = 64
+
+-- the bytes that tell a line that is too long
 abbrev pub held_limit : ℕ
 held_limit = 65
 

@@ -2,8 +2,8 @@
 use Rattle.std.specs.Prelude.{ℕ, List, ◌++◌, length, map, codes, decimal}
 use Rattle.std.specs.List.{flat_map, range_with_len}
 use Rattle.region_cut.specs.Classes.{bits_of}
-use Rattle.pool_machine.specs.State.{State, opening}
-use Rattle.pool_machine.specs.SlotLists.{home_slots, cached_slots, queued_slots, lent_slots, drawn_count}
+use Rattle.pool_machine.specs.State.{State, OnLoan, InCache, opening, slots_at}
+use Rattle.pool_machine.specs.SlotLists.{home_slots, queued_slots, drawn_count}
 use Rattle.trace_audit.specs.Report.{counts_text, desk_line, total}
 use Rattle.trace_audit.specs.declared.grammar.header.Header.{Header}
 use Rattle.trace_audit.specs.declared.report.closing.DeskCounts.{DeskCounts}
@@ -17,7 +17,7 @@ opening_of h = opening h.desks h.chunks (record { width = h.width; bits = bits_o
 abbrev pub counts_in : State → ℕ → DeskCounts
 counts_in st a = record {
   home = length (home_slots st a);
-  cached = length (cached_slots st a);
+  cached = length (slots_at st (InCache a));
   queued = length (queued_slots st a);
 }
 
@@ -25,5 +25,5 @@ counts_in st a = record {
 -- lent, and the sums over the desks
 abbrev pub closing : State → List ℕ
 closing st = flat_map (λ a. desk_line a (counts_in st a)) (range_with_len 0 st.desks)
-    ++ codes "end chunks " ++ decimal (drawn_count st) ++ codes " lent " ++ decimal (length (lent_slots st))
+    ++ codes "end chunks " ++ decimal (drawn_count st) ++ codes " lent " ++ decimal (length (slots_at st OnLoan))
     ++ counts_text (total (map (counts_in st) (range_with_len 0 st.desks)))

@@ -6,7 +6,7 @@ use Rattle.std.specs.Io.KnownBytes.{Consumes, IsAtEnd}
 use Rattle.pool_machine.specs.State.{State}
 use Rattle.pool_machine.specs.Steps.{Answer, Run}
 use Rattle.pool_machine.specs.declared.request.Request.{Request}
-use Rattle.trace_audit.specs.Limits.{request_limit}
+use Rattle.trace_audit.specs.Limits.{line_limit, request_limit}
 use Rattle.trace_audit.specs.Machine.{opening_of, closing}
 use Rattle.trace_audit.specs.Trace.{BeginsWithHeader, IsTrace}
 use Rattle.trace_audit.specs.Report.{answer_line, bad_line, Verdict, audit_line}
@@ -54,7 +54,7 @@ Reports left0 left P end = HoldsOfAll left0 left (λ bytes. ReportsTrace bytes P
 
 -- the beginning of a line of which it is not yet known that it is bad: it has no line feed, and at most 64 bytes
 abbrev pub IsPartial : List ℕ → Type 0
-IsPartial bytes = ((k : ℕ) → k < length bytes → slice_index bytes k ≢ 10) × (length bytes ≤ 64)
+IsPartial bytes = ((k : ℕ) → k < length bytes → slice_index bytes k ≢ 10) × (length bytes ≤ line_limit)
 
 -- No bad line is known in the bytes, and P holds of the lines of the answers to all whole request lines; of no line
 -- where not even a header line is whole.
