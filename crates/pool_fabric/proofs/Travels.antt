@@ -39,7 +39,7 @@ use Rattle.pool_fabric.proofs.notes.Notes.TheSendSync.{the_send as notes_of}
 pub send_fields : (D : Declared) → AllSend (fields D) → IsSend (row D)
 send_fields D all = recorded_send (Struct (shape D)) _ D.to D.to_one (struct_send (shape D) all)
 
-sync_fields : (D : Declared) → AllSync (fields D) → IsSync (row D)
+pub sync_fields : (D : Declared) → AllSync (fields D) → IsSync (row D)
 sync_fields D all = recorded_sync (Struct (shape D)) _ D.to D.to_one (struct_sync (shape D) all)
 
 -- an inbox and its seats

@@ -1,5 +1,6 @@
 //! What all workers share.
-ghost use Rattle.std.specs.Prelude.{◌≡◌, ◌<◌, ◌≤◌, [], ◌++◌, map, length, All, IsTrue, IfOk, IfErr, IfSome, MatchResult};
+ghost use Rattle.std.specs.Prelude.{◌≡◌, ◌<◌, ◌≤◌, [], ◌++◌, map, length, All, IsTrue, IfOk, IfErr, IfSome};
+ghost use Rattle.std.specs.Prelude.{MatchOption, MatchResult};
 ghost use Rattle.slot_chain.specs.Buffer.{Buffer};
 ghost use Rattle.digit_route.specs.Digits.{common};
 ghost use Rattle.pool_fabric.specs.Names.{box_at};
@@ -39,6 +40,24 @@ pub struct Fabric<'r, M: Mailbox, T: Receiver, S: Sender, J: Naming> {
     pub(crate) of: Named<J>,
     ghost boxes: { AreBoxes J.names (map M.id inboxes.items) },
     ghost ledger_is: { ledger ≡ J.names.ledger },
+}
+
+impl<'r, M: Mailbox, T: Receiver, S: Sender, J: Naming> Fabric<'r, M, T, S, J> {
+    /// The inbox of the desk of this number, where there is such a desk. A program with an inbox of
+    /// its own asks it there what it keeps beside its queue.
+    pub fn inbox(&self, number: u16) -> Option<&M>
+        ensures { MatchOption result
+            (J.names.count ≤ number)
+            (λ m. (number < J.names.count) × (M.id m.now ≡ box_at J.names number)) }
+    {
+        let at = usize::from(number);
+        let inboxes = &self.inboxes;
+        if at >= inboxes.len() {
+            return None;
+        }
+        let inbox = &inboxes[at];
+        Some(inbox)
+    }
 }
 
 impl<'r, T: Receiver, S: Sender, M: Mail<'r, TakeSeat = T, SendSeat = S>, J: Naming> Fabric<
