@@ -8,8 +8,7 @@ use Rattle.batch_inbox.specs.declared.mail.Mailbox as Mailbox
 use Rattle.batch_inbox.specs.declared.mail.Receiver as Receiver
 use Rattle.batch_inbox.specs.declared.mail.Sender as Sender
 use Rattle.pool_fabric.specs.declared.naming.Naming as Naming
-use Rattle.pool_fabric.specs.contracts.fabric.Fabric as Fabric
-use Rattle.pool_fabric.proofs.Travels.{held_send, send_fields}
+use Rattle.pool_fabric.proofs.Travels.{fabric_sync, held_send, send_fields}
 use Rattle.pool_jobs.specs.contracts.allocator.Allocator as Allocator
 use Rattle.pool_jobs.specs.contracts.allocator.Allocator.TheInside as InAllocator
 use Rattle.pool_jobs.specs.contracts.allocator.Entrance as Entrance
@@ -17,12 +16,12 @@ use Rattle.pool_jobs.specs.contracts.client.Applicant as Applicant
 use Rattle.pool_jobs.specs.contracts.counting.Counting as Counting
 use Rattle.pool_jobs.specs.contracts.counting.Done as Done
 
--- an applicant crosses where the fabric and the gate are shared, and its seats and its random source cross
+-- an applicant crosses where the inboxes and the gate are shared, and its seats and its random source cross
 module _ (a r : NamedLft) (M T S G J N : RattleType) (m : Mailbox.Ghosts M.Denot) (t : Receiver.Ghosts T.Denot) (s : Sender.Ghosts S.Denot) (j : Naming.Ghosts J.Denot)
-    (f : IsSync (Fabric.the_row r M T S J m t s j)) (z : IsSync G) (x : IsSend T) (y : IsSend S) (n : IsSend N) where
+    (i : IsSync M) (z : IsSync G) (x : IsSend T) (y : IsSend S) (n : IsSend N) where
   in_entrance : AllSend (fields (Entrance.the_type a r M T S G J m t s j))
   in_entrance = (
-    search (sendable, crosses, f) depth 40 fits 6000,
+    search (sendable, crosses, fabric_sync r M T S J m t s j i x y) depth 40 fits 6000,
     (search (sendable, crosses, z) depth 40 fits 6000, (search (sendable, crosses) depth 40 fits 6000, (search (sendable, crosses) depth 40 fits 6000, tt))),
   )
 
@@ -46,12 +45,12 @@ module _ (r : NamedLft) (T S J : RattleType) (t : Receiver.Ghosts T.Denot) (s : 
   pub done_send : IsSend (Done.the_row r T S J t s j)
   done_send = send_fields (Done.the_type r T S J t s j) in_done
 
--- a worker with its allocator crosses where the fabric and the gate are shared, and its seats cross
+-- a worker with its allocator crosses where the inboxes and the gate are shared, and its seats cross
 module _ (a r : NamedLft) (M T S G J : RattleType) (m : Mailbox.Ghosts M.Denot) (t : Receiver.Ghosts T.Denot) (s : Sender.Ghosts S.Denot) (j : Naming.Ghosts J.Denot)
-    (f : IsSync (Fabric.the_row r M T S J m t s j)) (z : IsSync G) (x : IsSend T) (y : IsSend S) where
+    (i : IsSync M) (z : IsSync G) (x : IsSend T) (y : IsSend S) where
   in_allocator : AllSend (fields (InAllocator.the_type a r M T S G J m t s j))
   in_allocator = (
-    search (sendable, crosses, f) depth 40 fits 6000,
+    search (sendable, crosses, fabric_sync r M T S J m t s j i x y) depth 40 fits 6000,
     (
       search (sendable, crosses, z) depth 40 fits 6000,
       (

@@ -2,3 +2,4 @@ pub mod Refusals
 pub mod Serving
 pub mod Ends
 pub mod Written
+pub mod Rounds

@@ -19,7 +19,7 @@ const LARGEST: u32 = 512;
 
 /// One who is about to work in a thread. The trait names no lifetime, so a thread may own a value of
 /// it.
-pub(crate) trait Starter: Drop + Sized {
+pub trait Starter: Drop + Sized {
     type Buffer: Drop;
 
     type Left: Drop;
@@ -60,16 +60,7 @@ pub(crate) trait Worker: Drop + Sized {
 /// One who is about to take up work, with the source of its sizes, and with the station of a worker
 /// before it where that one's last post was refused.
 #[derive(Drop)]
-pub(crate) struct Applicant<
-    'a,
-    'r,
-    M: Mailbox,
-    T: Receiver,
-    S: Sender,
-    G: Gate,
-    J: Naming,
-    N: Drop,
-> {
+pub struct Applicant<'a, 'r, M: Mailbox, T: Receiver, S: Sender, G: Gate, J: Naming, N: Drop> {
     entrance: Entrance<'a, 'r, M, T, S, G, J>,
     station: Option<HeldStation<'r, T, S, J>>,
     random: N,

@@ -16,14 +16,14 @@ use std::sync::Wait;
 
 /// What a worker hands back: its station, where the shelf didn't take it, and its counts.
 #[derive(Drop)]
-pub(crate) struct Done<'r, T: Receiver, S: Sender, J: Naming> {
+pub struct Done<'r, T: Receiver, S: Sender, J: Naming> {
     pub(crate) station: Option<HeldStation<'r, T, S, J>>,
     pub(crate) counts: Counts,
 }
 
 /// An allocator that counts its calls.
 #[derive(Drop)]
-pub(crate) struct Counting<'a, 'r, M: Mailbox, T: Receiver, S: Sender, G: Gate, J: Naming> {
+pub struct Counting<'a, 'r, M: Mailbox, T: Receiver, S: Sender, G: Gate, J: Naming> {
     allocator: Allocator<'a, 'r, M, T, S, G, J>,
     counts: Counts,
 }

@@ -1,11 +1,13 @@
 //! The end of all work.
-ghost use Rattle.std.specs.Prelude.{◌≡◌, List, ◌++◌, IfOk, IfErr};
+ghost use Rattle.std.specs.Prelude.{◌≡◌, ◌-◌, List, ◌++◌, IfOk, IfErr};
 ghost use Rattle.pool_fabric.specs.Stations.{StationState};
 ghost use Rattle.pool_fabric.specs.Whole.{IsWhole, IsAllOf, IsEachDesk, AreNoted};
 ghost use Rattle.pool_fabric.specs.Audited.{Audited};
 ghost use Rattle.pool_jobs.specs.Ends.{slots_found, IsEndFault};
 
+use crate::back::Back;
 use crate::error::JobError;
+use crate::hand::Reported;
 use crate::tally::{Counts, Tally};
 use batch_inbox::{Mail, Receiver, Sender};
 use pool_fabric::{Fabric, Found, GatherError, HeldStation, Naming, account, gather};
@@ -71,4 +73,38 @@ pub fn settle<
         Err(GatherError::NoMemory) => Err(JobError::NoMemory),
         Err(GatherError::Missing) => Err(JobError::NoThread),
     }
+}
+
+/// Gathers all that there is when all tasks have ended, as [`settle`] does. What was allocated and not
+/// freed is counted as lost.
+pub fn settle_tasks<'r, T, S, M, J, A, R>(
+    rt: &R,
+    alloc: Global,
+    fabric: Fabric<'r, M, T, S, J>,
+    reported: Reported<'r, T, S, J, A>,
+) -> Result<Finished<'r, A>, JobError>
+where
+    T: Receiver,
+    S: Sender,
+    M: Mail<'r, TakeSeat = T, SendSeat = S>,
+    J: Naming,
+    A: Drop,
+    R: Wait,
+    ensures whole { IfOk result (λ e. IsWhole e.found.desks.items e.found.batches.items e.found.lent.items
+        e.found.freed.items e.found.parts.items J.names.chunks) }
+    ensures desks { IfOk result (λ e. IsEachDesk J.names.count e.found.desks.items) }
+    ensures drawn { IfOk result (λ e. AreNoted e.found.desks.items e.found.drawn) }
+    ensures audit { IfOk result (λ e. Audited (slots_found e.found.desks.items e.found.batches.items)
+        e.found.drawn e.tally.audit) }
+    ensures answers { IfOk result (λ e. e.answers ≡ reported.entry.answers) }
+    ensures lost { IfOk result (λ e. e.tally.counts.lost ≡ e.tally.counts.allocated - e.tally.counts.freed) }
+{
+    let Reported { answers, back } = reported;
+    let Back { held, counts } = back;
+    let Ended { tally, found } = settle(rt, alloc, fabric, held, counts.with_the_rest_lost())?;
+    Ok(Finished {
+        answers,
+        tally,
+        found,
+    })
 }

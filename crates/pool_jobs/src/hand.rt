@@ -1,7 +1,8 @@
 //! A worker that does one task.
-ghost use Rattle.std.specs.Prelude.{◌≡◌, length, IfOk};
+ghost use Rattle.std.specs.Prelude.{◌≡◌, ◌≤◌, length, IfOk};
 
 use crate::allocator::Entrance;
+use crate::back::Back;
 use crate::buffer::Buffer;
 use crate::channels::{Channels, channels_of};
 use crate::counting::{Counting, Done};
@@ -17,7 +18,7 @@ use std::thread::Threads;
 
 /// One who does a task with an allocator. The trait names no lifetime, so a thread may own a value of
 /// it.
-pub(crate) trait Hand: Drop + Sized {
+pub trait Hand: Drop + Sized {
     type Buffer: Drop;
 
     type Left: Drop;
@@ -33,7 +34,7 @@ pub(crate) trait Hand: Drop + Sized {
 
 /// What is left of a task; nothing where nobody did it.
 #[derive(Drop)]
-pub(crate) struct Served<H: Hand, K: Task> {
+pub struct Served<H: Hand, K: Task> {
     left: Option<H::Left>,
     answer: Option<K::Answer>,
 }
@@ -94,13 +95,13 @@ impl<H: Hand, K: Task> Job for Shift<H, K> {
 }
 
 /// Takes as many stations off the shelf as are wanted, or as there are.
-pub(crate) fn hands<'a, 'r, M, T, S, G, J, R>(
+pub fn hands<'a, 'r, M, T, S, G, J, R>(
     rt: &R,
     alloc: Global,
     fabric: &'a Fabric<'r, M, T, S, J>,
     gate: &'a G,
     wanted: u32,
-) -> Result<Vec<Counting<'a, 'r, M, T, S, G, J>>, AllocError>
+) -> Result<Vec<Counting<'a, 'r, M, T, S, G, J>>, JobError>
 where
     T: Receiver,
     S: Sender,
@@ -108,6 +109,7 @@ where
     G: Gate,
     J: Naming,
     R: Wait,
+    ensures most { IfOk result (λ all. length all.items ≤ wanted) }
 {
     let mut hands = Vec::new(alloc);
     for worker in 0..wanted {
@@ -115,14 +117,19 @@ where
         let Some(allocator) = entrance.enter(rt) else {
             return Ok(hands);
         };
-        hands.push(Counting::new(allocator))?;
+        if hands.push(Counting::new(allocator)).is_err() {
+            return Err(JobError::NoMemory);
+        }
     }
     Ok(hands)
 }
 
 /// Does each task in a thread of its own, and joins them all. The tasks get the hands in order; one
 /// for which there is no hand is not begun.
-pub(crate) fn all_served<H, K, R>(
+///
+/// It is to be called from a free function that names the inbox: elsewhere the check can't tell that
+/// its hands may cross to threads.
+pub fn all_served<H, K, R>(
     rt: &R,
     alloc: Global,
     hands: Vec<H>,
@@ -156,18 +163,26 @@ where
     crew(rt, alloc, shifts)
 }
 
-/// What was left of all tasks, and what they answered, each in order.
+/// What all tasks answered, in order, and what came back of them.
 #[derive(Drop)]
-pub(crate) struct Reports<H: Hand, K: Task> {
-    pub(crate) lefts: Vec<Option<H::Left>>,
-    pub(crate) answers: Vec<Option<K::Answer>>,
+pub struct Reported<'r, T: Receiver, S: Sender, J: Naming, A: Drop> {
+    /// What each task answered; nothing for one that was not begun.
+    pub answers: Vec<Option<A>>,
+    pub back: Back<'r, T, S, J>,
 }
 
-/// Takes apart what came back of all tasks.
-pub(crate) fn reports_of<H: Hand, K: Task>(
+// What was left of all tasks, and what they answered, each in order.
+#[derive(Drop)]
+struct Sorted<H: Hand, K: Task> {
+    lefts: Vec<Option<H::Left>>,
+    answers: Vec<Option<K::Answer>>,
+}
+
+// Takes apart what came back of all tasks.
+fn sorted_out<H: Hand, K: Task>(
     alloc: Global,
     all: Vec<Served<H, K>>,
-) -> Result<Reports<H, K>, AllocError>
+) -> Result<Sorted<H, K>, AllocError>
     ensures each { IfOk result (λ r. length r.answers.items ≡ length all.items) }
 {
     let mut lefts = Vec::new(alloc);
@@ -177,5 +192,29 @@ pub(crate) fn reports_of<H: Hand, K: Task>(
         lefts.push(left)?;
         answers.push(answer)?;
     }
-    Ok(Reports { lefts, answers })
+    Ok(Sorted { lefts, answers })
+}
+
+/// Takes in what came back of all tasks.
+pub fn report_of<'a, 'r, M, T, S, G, J, K>(
+    alloc: Global,
+    all: Vec<Served<Counting<'a, 'r, M, T, S, G, J>, K>>,
+) -> Result<Reported<'r, T, S, J, K::Answer>, JobError>
+where
+    T: Receiver,
+    S: Sender,
+    M: Mail<'r, TakeSeat = T, SendSeat = S>,
+    G: Gate,
+    J: Naming,
+    K: Task,
+    ensures each { IfOk result (λ r. length r.answers.items ≡ length all.entry.items) }
+{
+    let Ok(Sorted { lefts, answers }) = sorted_out(alloc, all) else {
+        return Err(JobError::NoMemory);
+    };
+    let mut back = Back::none(alloc);
+    match back.add(lefts) {
+        Ok(()) => Ok(Reported { answers, back }),
+        Err(_) => Err(JobError::NoMemory),
+    }
 }

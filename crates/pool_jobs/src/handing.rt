@@ -1,4 +1,6 @@
 //! Producers and consumers, and a ring.
+ghost use Rattle.std.specs.Prelude.{◌≡◌, length, IfOk};
+
 use crate::client::{Starter, Worker};
 use crate::crew::Job;
 use crate::error::JobError;
@@ -7,16 +9,16 @@ use crossbeam_channel::{Receiver, Sender};
 use std::alloc::Global;
 use std::sync::Wait;
 
-// What a worker does with its buffers.
+/// What a worker does with its buffers.
 #[derive(Drop)]
-pub(crate) enum Role<B: Drop> {
-    // Hands each over.
+pub enum Role<B: Drop> {
+    /// Hands each over.
     Producer(Sender<B>),
-    // Frees what it receives.
+    /// Frees what it receives.
     Consumer(Receiver<B>),
-    // Hands each over, and then frees what it receives.
+    /// Hands each over, and then frees what it receives.
     Neighbour(Sender<B>, Receiver<B>),
-    // Frees its own.
+    /// Frees its own.
     Alone,
 }
 
@@ -102,7 +104,9 @@ pub(crate) fn paired<S: Starter>(
     alloc: Global,
     starters: Vec<S>,
     count: u32,
-) -> Result<Vec<Turn<S>>, JobError> {
+) -> Result<Vec<Turn<S>>, JobError>
+    ensures each { IfOk result (λ turns. length turns.items ≡ length starters.items) }
+{
     let mut left = starters.len();
     let mut turns = Vec::new(alloc);
     let mut open: Option<Receiver<S::Buffer>> = None;
@@ -146,7 +150,9 @@ pub(crate) fn in_a_ring<S: Starter>(
     alloc: Global,
     starters: Vec<S>,
     count: u32,
-) -> Result<Vec<Turn<S>>, JobError> {
+) -> Result<Vec<Turn<S>>, JobError>
+    ensures each { IfOk result (λ turns. length turns.items ≡ length starters.items) }
+{
     let mut left = starters.len();
     let mut turns = Vec::new(alloc);
     let Ok((first, mut from)) = crossbeam_channel::unbounded(alloc) else {

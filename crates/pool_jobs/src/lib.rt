@@ -7,11 +7,13 @@
 #![tactic(auto)]
 
 mod allocator;
+mod back;
 mod buffer;
 mod channels;
 mod client;
 mod counting;
 mod crew;
+pub mod crossing;
 mod ended;
 mod error;
 mod gate;
@@ -21,6 +23,7 @@ mod heap;
 mod over_inbox;
 mod over_link;
 mod plan;
+mod rounds;
 mod rows;
 mod tally;
 mod task;

@@ -4,17 +4,16 @@ ghost use Rattle.pool_fabric.specs.Whole.{IsWhole, IsEachDesk, AreNoted};
 ghost use Rattle.pool_fabric.specs.Audited.{Audited};
 ghost use Rattle.pool_jobs.specs.Ends.{slots_found};
 
-use crate::buffer::Buffer;
-use crate::client::Applicant;
+use crate::back::Back;
 use crate::counting::Counting;
-use crate::ended::{Ended, Finished, settle};
+use crate::ended::{Ended, Finished, settle, settle_tasks};
 use crate::error::JobError;
 use crate::gate::Gate;
-use crate::hand::{Reports, all_served, hands, reports_of};
+use crate::hand::{Reported, all_served, hands, report_of};
 use crate::plan::{MOST_THREADS, Plan};
-use crate::rows::{Places, Round};
+use crate::rounds::{Rounds, one_round};
 use crate::task::Task;
-use crate::workload::{Back, Sorted, Workload, one_round, sorted_out, starters, turned};
+use crate::workload::Workload;
 use link_inbox::{LinkInbox, SendSeat, TakeSeat};
 use pool_fabric::{Fabric, Naming, Opening};
 use rand_core::{Rng, SeedableRng};
@@ -23,43 +22,11 @@ use std::marker::Brand;
 use std::sync::Wait;
 use std::thread::Threads;
 
-type At<'a, 'r, G, J, N> = Applicant<'a, 'r, LinkInbox<'r>, TakeSeat<'r>, SendSeat<'r>, G, J, N>;
-
-// One round, whose threads are all joined.
-fn round_over<'a, 'r, G, N, J, R>(
+// All rounds, whose threads are all joined.
+fn all_rounds<'a, 'r, G, N, J, R>(
     rt: &R,
     alloc: Global,
-    workload: Workload,
-    starters: Vec<At<'a, 'r, G, J, N>>,
-    rows: Vec<Places<Buffer<'r, J>>>,
-    round: Round,
-    back: &mut Back<'r, TakeSeat<'r>, SendSeat<'r>, J>,
-) -> Result<Vec<Places<Buffer<'r, J>>>, JobError>
-where
-    G: Gate + Sync,
-    N: Rng + Send + Drop,
-    J: Naming + Send + Sync,
-    R: Threads + Wait + Sync,
-{
-    let spent = one_round(rt, alloc, workload, starters, rows, round)?;
-    let Ok(Sorted { lefts, rows }) = sorted_out(alloc, spent) else {
-        return Err(JobError::NoMemory);
-    };
-    match back.add(lefts) {
-        Ok(()) => Ok(rows),
-        Err(_) => Err(JobError::NoMemory),
-    }
-}
-
-// All rounds.
-fn rounds_over<'a, 'r, G, N, J, R>(
-    rt: &R,
-    alloc: Global,
-    fabric: &'a Fabric<'r, LinkInbox<'r>, TakeSeat<'r>, SendSeat<'r>, J>,
-    gate: &'a G,
-    workload: Workload,
-    plan: &Plan,
-    threads: u32,
+    rounds: Rounds<'a, 'r, LinkInbox<'r>, TakeSeat<'r>, SendSeat<'r>, G, J>,
 ) -> Result<Back<'r, TakeSeat<'r>, SendSeat<'r>, J>, JobError>
 where
     G: Gate + Sync,
@@ -67,28 +34,13 @@ where
     J: Naming + Send + Sync,
     R: Threads + Wait + Sync,
 {
-    let rounds = workload.rounds(plan);
-    let mut back = Back::none(alloc);
-    let mut rows = Vec::new(alloc);
-    for number in 0..rounds {
-        let round = Round {
-            count: plan.count,
-            is_first: number == 0,
-            is_last: number.saturating_add(1) == rounds,
-        };
-        let seed = u64::from(plan.seed).wrapping_add(u64::from(number).wrapping_mul(64));
-        let drops = plan.drop_first && back.counts.lost == 0;
-        let Ok(ready) = starters(alloc, fabric, gate, seed, threads, drops, &mut back) else {
-            return Err(JobError::NoMemory);
-        };
-        let next = round_over::<G, N, J, R>(rt, alloc, workload, ready, rows, round, &mut back)?;
-        let Ok(next) = turned(next) else {
-            return Err(JobError::NoMemory);
-        };
-        rows = next;
+    let mut rounds = rounds;
+    for number in 0..rounds.count() {
+        let begun = rounds.begin::<N>(number)?;
+        let spent = one_round(rt, alloc, begun)?;
+        rounds.take_in(spent)?;
     }
-    drop(rows);
-    Ok(back)
+    Ok(rounds.end())
 }
 
 // The same at a fabric that `J` names, and its end.
@@ -113,13 +65,12 @@ where
     ensures audit { IfOk result (λ e. Audited (slots_found e.found.desks.items e.found.batches.items)
         e.found.drawn e.tally.audit) }
 {
-    let threads = opening.desks().min(MOST_THREADS as usize) as u32;
+    let workers = opening.desks().min(MOST_THREADS as usize) as u32;
     let Ok(fabric) = Fabric::open(alloc, opening) else {
         return Err(JobError::NoMemory);
     };
-    let Back { held, counts } = rounds_over::<G, N, J, R>(
-        rt, alloc, &fabric, gate, workload, plan, threads,
-    )?;
+    let rounds = Rounds::new(alloc, &fabric, gate, workload, plan, workers);
+    let Back { held, counts } = all_rounds::<G, N, J, R>(rt, alloc, rounds)?;
     settle(rt, alloc, fabric, held, counts)
 }
 
@@ -148,33 +99,26 @@ where
     worked::<G, N, Brand, R>(rt, alloc, opening, gate, workload, plan)
 }
 
-// Does all tasks, whose threads are all joined. Gives their answers.
-fn served_over<'a, 'r, G, K, J, R>(
+// All tasks, whose threads are all joined.
+fn all_tasks<'a, 'r, G, K, J, R>(
     rt: &R,
     alloc: Global,
     hands: Vec<Counting<'a, 'r, LinkInbox<'r>, TakeSeat<'r>, SendSeat<'r>, G, J>>,
     tasks: Vec<K>,
-    back: &mut Back<'r, TakeSeat<'r>, SendSeat<'r>, J>,
-) -> Result<Vec<Option<K::Answer>>, JobError>
+) -> Result<Reported<'r, TakeSeat<'r>, SendSeat<'r>, J, K::Answer>, JobError>
 where
     G: Gate + Sync,
     K: Task + Send,
     J: Naming + Send + Sync,
     R: Threads + Wait + Sync,
     K::Answer: Send,
-    ensures each { IfOk result (λ answers. length answers.items ≡ length tasks.items) }
+    ensures each { IfOk result (λ r. length r.answers.items ≡ length tasks.items) }
 {
     let served = all_served(rt, alloc, hands, tasks)?;
-    let Ok(Reports { lefts, answers }) = reports_of(alloc, served) else {
-        return Err(JobError::NoMemory);
-    };
-    match back.add(lefts) {
-        Ok(()) => Ok(answers),
-        Err(_) => Err(JobError::NoMemory),
-    }
+    report_of(alloc, served)
 }
 
-// The tasks at a fabric that `J` names, and its end.
+// The same at a fabric that `J` names, and its end.
 fn ran<'r, G, K, J, R>(
     rt: &R,
     alloc: Global,
@@ -202,18 +146,9 @@ where
     let Ok(fabric) = Fabric::open(alloc, opening) else {
         return Err(JobError::NoMemory);
     };
-    let Ok(hands) = hands(rt, alloc, &fabric, gate, wanted) else {
-        return Err(JobError::NoMemory);
-    };
-    let mut back = Back::none(alloc);
-    let answers = served_over::<G, K, J, R>(rt, alloc, hands, tasks, &mut back)?;
-    let Back { held, counts } = back;
-    let Ended { tally, found } = settle(rt, alloc, fabric, held, counts.with_the_rest_lost())?;
-    Ok(Finished {
-        answers,
-        tally,
-        found,
-    })
+    let hands = hands(rt, alloc, &fabric, gate, wanted)?;
+    let reported = all_tasks::<G, K, J, R>(rt, alloc, hands, tasks)?;
+    settle_tasks(rt, alloc, fabric, reported)
 }
 
 /// Runs a program's own tasks as [`run`](crate::run) does, over inboxes of two atomic steps, as

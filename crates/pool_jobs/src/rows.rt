@@ -1,4 +1,6 @@
 //! Rows of buffers, one replaced at a time.
+ghost use Rattle.std.specs.Prelude.{◌≡◌, length, IfOk};
+
 use crate::client::{Starter, Worker};
 use crate::crew::Job;
 use std::alloc::{AllocError, Global};
@@ -9,7 +11,7 @@ const PLACES: u32 = 16;
 
 /// A row of places for buffers.
 #[derive(Drop)]
-pub(crate) struct Places<B: Drop> {
+pub struct Places<B: Drop> {
     places: Vec<Option<B>>,
 }
 
@@ -48,7 +50,7 @@ impl<B: Drop> Places<B> {
 
 /// Which round it is.
 #[derive(Clone, Copy)]
-pub(crate) struct Round {
+pub struct Round {
     pub(crate) count: u32,
     pub(crate) is_first: bool,
     pub(crate) is_last: bool,
@@ -64,7 +66,7 @@ pub(crate) struct Turn<S: Starter> {
 
 /// What a worker hands back after a round, with its row. Nothing is left where it got no allocator.
 #[derive(Drop)]
-pub(crate) struct Spent<S: Starter> {
+pub struct Spent<S: Starter> {
     pub(crate) left: Option<S::Left>,
     pub(crate) row: Places<S::Buffer>,
 }
@@ -135,16 +137,17 @@ impl<S: Starter> Job for Turn<S> {
     }
 }
 
-/// Gives each worker its row.
+/// Gives each worker its row, of which the last worker's comes first.
 pub(crate) fn with_rows<S: Starter>(
     alloc: Global,
     starters: Vec<S>,
     rows: Vec<Places<S::Buffer>>,
     round: Round,
-) -> Result<Vec<Turn<S>>, AllocError> {
+) -> Result<Vec<Turn<S>>, AllocError>
+    ensures each { IfOk result (λ turns. length turns.items ≡ length starters.items) }
+{
     let mut rows = rows;
     let mut turns = Vec::new(alloc);
-    rows.reverse();
     for starter in starters {
         let row = match rows.pop() {
             Some(row) => row,

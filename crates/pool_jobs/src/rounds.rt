@@ -1,0 +1,269 @@
+//! The rounds of a workload, at any inbox.
+ghost use Rattle.std.specs.Prelude.{◌≡◌, length, IfOk};
+ghost use Rattle.pool_jobs.specs.Rounds.{rounds_of};
+
+use crate::allocator::Entrance;
+use crate::back::Back;
+use crate::buffer::Buffer;
+use crate::client::{Applicant, Starter};
+use crate::crew::crew;
+use crate::error::JobError;
+use crate::gate::Gate;
+use crate::handing::{in_a_ring, paired};
+use crate::plan::Plan;
+use crate::rows::{Places, Round, Spent, with_rows};
+use crate::workload::Workload;
+use batch_inbox::{Mail, Mailbox, Receiver, Sender};
+use pool_fabric::{Fabric, Naming};
+use rand_core::{Rng, SeedableRng};
+use std::alloc::{AllocError, Global};
+use std::marker::Model;
+use std::sync::Wait;
+use std::thread::Threads;
+
+/// What one round of a workload begins with.
+#[derive(Drop)]
+pub struct Begun<S: Starter> {
+    /// Those who work in it, each in a thread of its own.
+    pub starters: Vec<S>,
+    workload: Workload,
+    // The last worker's first.
+    rows: Vec<Places<S::Buffer>>,
+    round: Round,
+}
+
+// What several workers left, and their rows, each in order.
+#[derive(Drop)]
+struct Sorted<S: Starter> {
+    lefts: Vec<Option<S::Left>>,
+    rows: Vec<Places<S::Buffer>>,
+}
+
+// Takes apart what came back of a round.
+fn sorted_out<S: Starter>(alloc: Global, spent: Vec<Spent<S>>) -> Result<Sorted<S>, AllocError> {
+    let mut lefts = Vec::new(alloc);
+    let mut rows = Vec::new(alloc);
+    for one in spent {
+        let Spent { left, row } = one;
+        lefts.push(left)?;
+        rows.push(row)?;
+    }
+    Ok(Sorted { lefts, rows })
+}
+
+// The row of each worker goes to the next, the last one's to the first.
+fn turned<B: Drop>(rows: Vec<Places<B>>) -> Result<Vec<Places<B>>, AllocError> {
+    let mut rows = rows;
+    if let Some(last) = rows.pop() {
+        rows.insert(0, last)?;
+    }
+    Ok(rows)
+}
+
+/// Does one round of a workload: each worker runs in a thread of its own, and all are joined.
+///
+/// It is to be called from a free function that names the inbox: elsewhere the check can't tell that
+/// its workers may cross to threads.
+pub fn one_round<S, R>(rt: &R, alloc: Global, begun: Begun<S>) -> Result<Vec<Spent<S>>, JobError>
+where
+    S: Starter + Send,
+    R: Threads + Wait + Sync,
+    S::Buffer: Send,
+    S::Left: Send,
+    ensures each { IfOk result (λ spent. length spent.items ≡ length begun.starters.items) }
+{
+    let Begun {
+        starters,
+        workload,
+        rows,
+        round,
+    } = begun;
+    match workload {
+        Workload::ProdCons => {
+            let turns = paired(alloc, starters, round.count)?;
+            crew(rt, alloc, turns)
+        }
+        Workload::Ring => {
+            let turns = in_a_ring(alloc, starters, round.count)?;
+            crew(rt, alloc, turns)
+        }
+        Workload::Replace => {
+            let Ok(turns) = with_rows(alloc, starters, rows, round) else {
+                return Err(JobError::NoMemory);
+            };
+            crew(rt, alloc, turns)
+        }
+    }
+}
+
+/// The rounds of a workload over a fabric, one after another, and what came back of those that were
+/// done.
+///
+/// ```text
+/// for number in 0..rounds.count() {
+///     let begun = rounds.begin::<N>(number)?;
+///     let spent = one_round(rt, alloc, begun)?;
+///     rounds.take_in(spent)?;
+/// }
+/// let Back { held, counts } = rounds.end();
+/// ```
+#[derive(Drop)]
+pub struct Rounds<'a, 'r, M: Mailbox, T: Receiver, S: Sender, G: Gate, J: Naming> {
+    alloc: Global,
+    fabric: &'a Fabric<'r, M, T, S, J>,
+    gate: &'a G,
+    workload: Workload,
+    plan: Plan,
+    workers: u32,
+    back: Back<'r, T, S, J>,
+    rows: Vec<Places<Buffer<'r, J>>>,
+}
+
+impl<'a, 'r, M: Mailbox, T: Receiver, S: Sender, G: Gate, J: Naming> Model
+    for Rounds<'a, 'r, M, T, S, G, J> {
+    ghost use Rattle.pool_jobs.specs.Rounds.{RoundsState, rounds_of};
+
+    ghost Value = { RoundsState };
+
+    ghost view = { λ r. record {
+      rounds = rounds_of r.workload r.plan;
+      workers = r.workers;
+      counts = r.back.counts;
+    } };
+}
+
+impl<
+    'a,
+    'r,
+    T: Receiver,
+    S: Sender,
+    M: Mail<'r, TakeSeat = T, SendSeat = S>,
+    G: Gate,
+    J: Naming,
+> Rounds<'a, 'r, M, T, S, G, J> {
+    /// The rounds of this workload, each with so many workers. None is done yet.
+    pub fn new(
+        alloc: Global,
+        fabric: &'a Fabric<'r, M, T, S, J>,
+        gate: &'a G,
+        workload: Workload,
+        plan: &Plan,
+        workers: u32,
+    ) -> Rounds<'a, 'r, M, T, S, G, J>
+        ensures { result ≡ record {
+          rounds = rounds_of workload plan.now;
+          workers = workers;
+          counts = record { allocated = 0; freed = 0; starved = 0; lost = 0 };
+        } }
+    {
+        Rounds {
+            alloc,
+            fabric,
+            gate,
+            workload,
+            plan: *plan,
+            workers,
+            back: Back::none(alloc),
+            rows: Vec::new(alloc),
+        }
+    }
+
+    /// How many rounds there are.
+    pub fn count(&self) -> u32
+        ensures { result ≡ self.now.rounds }
+    {
+        self.workload.rounds(&self.plan)
+    }
+
+    // Takes the rows out, the last one first.
+    fn rows_out(&mut self) -> Result<Vec<Places<Buffer<'r, J>>>, AllocError>
+        ensures { self.new ≡ self.old }
+    {
+        let mut rows = Vec::new(self.alloc);
+        for _worker in 0..self.workers {
+            if let Some(row) = self.rows.pop() {
+                rows.push(row)?;
+            }
+        }
+        Ok(rows)
+    }
+
+    // Those who work in one round. What came back of the round before, because a post was refused there,
+    // goes to the first of them.
+    fn starters<N: Rng + SeedableRng + Drop>(
+        &mut self,
+        seed: u64,
+        drop_first: bool,
+    ) -> Result<Vec<Applicant<'a, 'r, M, T, S, G, J, N>>, AllocError>
+        ensures each { IfOk result (λ all. length all.items ≡ self.old.workers) }
+        ensures same { self.new ≡ self.old }
+    {
+        let mut starters = Vec::new(self.alloc);
+        for worker in 0..self.workers {
+            let random = N::seed_from_u64(seed.wrapping_add(u64::from(worker)));
+            let entrance = Entrance::new(self.alloc, self.fabric, self.gate, worker);
+            let station = self.back.held.pop();
+            let drops = drop_first && worker == 0;
+            starters.push(Applicant::new(entrance, station, random, worker, drops))?;
+        }
+        Ok(starters)
+    }
+
+    /// What the round of this number begins with, from 0. The sizes of worker `i` are drawn from an
+    /// `N` made of the seed `seed + 64 * number + i`.
+    pub fn begin<N: Rng + SeedableRng + Drop>(
+        &mut self,
+        number: u32,
+    ) -> Result<Begun<Applicant<'a, 'r, M, T, S, G, J, N>>, JobError>
+        ensures each { IfOk result (λ b. length b.starters.items ≡ self.old.workers) }
+        ensures same { self.new ≡ self.old }
+    {
+        let round = Round {
+            count: self.plan.count,
+            is_first: number == 0,
+            is_last: number.saturating_add(1) == self.count(),
+        };
+        let seed = u64::from(self.plan.seed).wrapping_add(u64::from(number).wrapping_mul(64));
+        let drops = self.plan.drop_first && self.back.counts.lost == 0;
+        let Ok(rows) = self.rows_out() else {
+            return Err(JobError::NoMemory);
+        };
+        let Ok(starters) = self.starters(seed, drops) else {
+            return Err(JobError::NoMemory);
+        };
+        Ok(Begun {
+            starters,
+            workload: self.workload,
+            rows,
+            round,
+        })
+    }
+
+    /// Takes in what a round gave. Its rows go on to the next, by one worker.
+    pub fn take_in<N: Rng + Drop>(
+        &mut self,
+        spent: Vec<Spent<Applicant<'a, 'r, M, T, S, G, J, N>>>,
+    ) -> Result<(), JobError>
+        ensures rounds { self.new.rounds ≡ self.old.rounds }
+        ensures workers { self.new.workers ≡ self.old.workers }
+    {
+        let Ok(Sorted { lefts, rows }) = sorted_out(self.alloc, spent) else {
+            return Err(JobError::NoMemory);
+        };
+        let Ok(rows) = turned(rows) else {
+            return Err(JobError::NoMemory);
+        };
+        self.rows = rows;
+        match self.back.add(lefts) {
+            Ok(()) => Ok(()),
+            Err(_) => Err(JobError::NoMemory),
+        }
+    }
+
+    /// What came back of all rounds. Buffers that are still in a row are dropped.
+    pub fn end(self) -> Back<'r, T, S, J>
+        ensures { result.counts ≡ self.entry.counts }
+    {
+        self.back
+    }
+}
