@@ -49,6 +49,11 @@ def threads_bench():
     return compiled("threads_bench", [*folder.iterdir()], ["g++", *flags, folder / "threads_bench.cpp"])
 
 
+def steps():
+    source = HERE / "cpp" / "steps.cpp"
+    return compiled("steps", [source], ["g++", "-std=c++17", "-O2", "-Wall", "-Wextra", source])
+
+
 def parse():
     source = HERE / "replay" / "parse.c"
     return compiled("parse", [source], ["gcc", "-O2", "-Wall", "-Wextra", source])
