@@ -1,9 +1,11 @@
-//! An inbox of a user's own: one that counts its posts.
+//! An inbox of a user's own, over which a pool can be opened: one that counts its posts.
 ghost use Rattle.std.specs.Prelude.{◌≡◌, ℕ, ◌≤◌, [], ◌++◌, length, Some, slice_get};
 ghost use Rattle.batch_inbox.specs.Views.{batches_of};
 
-use batch_inbox::{Mail, Mailbox, PostError};
-use digit_route::Batch;
+use batch_inbox::{Mail, Mailbox, NewMail, PostError, Receiver, Sender};
+use digit_route::{Batch, Digits};
+use slot_chain::NoMemory;
+use std::alloc::Global;
 use std::sync::Wait;
 use std::sync::atomic::{AtomicU64, Ordering};
 
@@ -27,6 +29,11 @@ impl<M> Counting<M> {
     /// The posts so far.
     pub fn posts(&self) -> u64 {
         self.posts.load(Ordering::SeqCst)
+    }
+
+    /// The count of its posts, which goes on.
+    pub fn counter(&self) -> &AtomicU64 {
+        &self.posts
     }
 }
 
@@ -82,5 +89,18 @@ impl<'r, M: Mail<'r>> Mail<'r> for Counting<M> {
 
     fn sender(seat: &M::SendSeat) -> u16 {
         M::sender(seat)
+    }
+}
+
+impl<T: Receiver, S: Sender, M: NewMail<T, S>> NewMail<T, S> for Counting<M> {
+    fn new_mail(
+        alloc: Global,
+        address: u16,
+        digits: Digits,
+        senders: u16,
+    ) -> Result<(Counting<M>, T, Vec<S>), NoMemory> {
+        let (inner, take, seats) = M::new_mail(alloc, address, digits, senders)?;
+        let posts = AtomicU64::new(0);
+        Ok((Counting { inner, posts }, take, seats))
     }
 }

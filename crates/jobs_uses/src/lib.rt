@@ -6,17 +6,37 @@ mod again;
 #[cfg(test)]
 mod alone;
 #[cfg(test)]
+mod fixed;
+#[cfg(test)]
+mod over_counting;
+#[cfg(test)]
+mod over_counting_link;
+#[cfg(test)]
 mod passing;
 #[cfg(test)]
 mod tests;
 #[cfg(test)]
 mod unheard;
+#[cfg(test)]
+mod watch;
+#[cfg(test)]
+mod watched;
 
 #[cfg(test)]
 pub use again::enter_again;
 #[cfg(test)]
 pub use alone::work_alone;
 #[cfg(test)]
+pub use fixed::Fixed;
+#[cfg(test)]
+pub use over_counting::work_counting;
+#[cfg(test)]
+pub use over_counting_link::work_counting_linked;
+#[cfg(test)]
 pub use passing::{Passed, pass_on};
 #[cfg(test)]
 pub use unheard::{Frees, free_unheard};
+#[cfg(test)]
+pub use watch::{Hold, Watch};
+#[cfg(test)]
+pub use watched::{Seen, Watched};

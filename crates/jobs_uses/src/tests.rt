@@ -1,7 +1,8 @@
-//! Tests of allocators: alone, and two that share a pool.
+//! Tests of allocators: alone, two that share a pool, and a workload whose posts are counted.
 
 mod again;
 mod alone;
+mod counted;
 mod passing;
 mod refused;
 mod unheard;

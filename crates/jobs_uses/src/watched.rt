@@ -1,0 +1,24 @@
+//! What a workload gave whose posts were counted.
+
+use batch_inbox::{Receiver, Sender};
+use pool_fabric::Naming;
+use pool_jobs::Ended;
+use pool_jobs::crossing::Back;
+
+/// What there is when all workers have ended, and what their gate saw.
+#[derive(Drop)]
+pub struct Watched<'r> {
+    pub ended: Ended<'r>,
+    /// How many posts were answered `Ok`, at all inboxes.
+    pub posts: u64,
+    /// Whether a worker was let go before its posts were counted.
+    pub gave_up: bool,
+}
+
+/// What came back of all workers, and what their gate saw.
+#[derive(Drop)]
+pub struct Seen<'r, T: Receiver, S: Sender, J: Naming> {
+    pub back: Back<'r, T, S, J>,
+    pub posts: u64,
+    pub gave_up: bool,
+}
