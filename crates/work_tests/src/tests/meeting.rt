@@ -1,6 +1,6 @@
 //! Workers run at the same time, and hold no lock while the gate holds them.
 
-use super::{Ground, Inboxes, tally_of};
+use super::{BOTH, Ground, tally_of};
 use pool_jobs::{Gate, Plan, Workload};
 use std::sync::atomic::{AtomicBool, Ordering};
 use std::test::Fail;
@@ -50,27 +50,29 @@ impl Gate for Meeting {
 
 #[test]
 fn two_workers_meet(rt: HostRuntime) -> Result<(), Fail> {
-    let meeting = Meeting {
-        is_there: AtomicBool::new(false),
-        is_answered: AtomicBool::new(false),
-        gave_up: AtomicBool::new(false),
-    };
-    let ground = Ground {
-        chunks: 64,
-        desks: 2,
-        width: 2,
-        limit: 4_096,
-        inboxes: Inboxes::Queues,
-    };
-    let plan = Plan {
-        count: 2,
-        rounds: 1,
-        seed: 1,
-        drop_first: false,
-    };
-    let tally = tally_of(&rt, &meeting, ground, Workload::Ring, &plan)?;
-    assert!(rt; !meeting.gave_up.load(Ordering::SeqCst));
-    assert!(rt; tally.counts.allocated == 4 && tally.counts.freed == 4);
-    assert!(rt; tally.audit.is_ok());
+    for inboxes in BOTH {
+        let meeting = Meeting {
+            is_there: AtomicBool::new(false),
+            is_answered: AtomicBool::new(false),
+            gave_up: AtomicBool::new(false),
+        };
+        let ground = Ground {
+            chunks: 64,
+            desks: 2,
+            width: 2,
+            limit: 4_096,
+            inboxes,
+        };
+        let plan = Plan {
+            count: 2,
+            rounds: 1,
+            seed: 1,
+            drop_first: false,
+        };
+        let tally = tally_of(&rt, &meeting, ground, Workload::Ring, &plan)?;
+        assert!(rt; !meeting.gave_up.load(Ordering::SeqCst));
+        assert!(rt; tally.counts.allocated == 4 && tally.counts.freed == 4);
+        assert!(rt; tally.audit.is_ok());
+    }
     Ok(())
 }
