@@ -25,9 +25,7 @@ where
     J::Out: Send,
     ensures each { IfOk result (λ outs. length outs.items ≡ length jobs.items) }
 {
-    let Ok(handles) = Vec::with_capacity(alloc, jobs.len()) else {
-        return Err(JobError::NoMemory);
-    };
+    let handles = Vec::with_capacity(alloc, jobs.len())?;
     thread::scope(
         thread::scope_env(),
         rt,

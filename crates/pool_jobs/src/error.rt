@@ -2,6 +2,8 @@
 ghost use Rattle.std.specs.Prelude.{◌≡◌};
 ghost use Rattle.pool_jobs.specs.Refusals.{shortage_number, job_number};
 
+use slot_chain::NoMemory;
+use std::alloc::{AllocError, AllocFailed};
 use thiserror::Error;
 
 /// Why an allocator gives no buffer.
@@ -51,5 +53,29 @@ impl JobError {
             JobError::NoMemory => 1,
             JobError::NoThread => 2,
         }
+    }
+}
+
+impl From<AllocError> for JobError {
+    fn from(_refused: AllocError) -> JobError
+        ensures { result ≡ JobError.NoMemory }
+    {
+        JobError::NoMemory
+    }
+}
+
+impl<T: Drop> From<AllocFailed<T>> for JobError {
+    fn from(_refused: AllocFailed<T>) -> JobError
+        ensures { result ≡ JobError.NoMemory }
+    {
+        JobError::NoMemory
+    }
+}
+
+impl From<NoMemory> for JobError {
+    fn from(_refused: NoMemory) -> JobError
+        ensures { result ≡ JobError.NoMemory }
+    {
+        JobError::NoMemory
     }
 }

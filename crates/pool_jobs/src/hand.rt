@@ -94,6 +94,26 @@ impl<H: Hand, K: Task> Job for Shift<H, K> {
     }
 }
 
+// The hand of this worker, with a station off the shelf, if there is one left.
+fn next_hand<'a, 'r, M, T, S, G, J, R>(
+    rt: &R,
+    alloc: Global,
+    fabric: &'a Fabric<'r, M, T, S, J>,
+    gate: &'a G,
+    worker: u32,
+) -> Option<Counting<'a, 'r, M, T, S, G, J>>
+where
+    T: Receiver,
+    S: Sender,
+    M: Mail<'r, TakeSeat = T, SendSeat = S>,
+    G: Gate,
+    J: Naming,
+    R: Wait,
+{
+    let allocator = Entrance::new(alloc, fabric, gate, worker).enter(rt)?;
+    Some(Counting::new(allocator))
+}
+
 /// Takes as many stations off the shelf as are wanted, or as there are.
 pub fn hands<'a, 'r, M, T, S, G, J, R>(
     rt: &R,
@@ -113,15 +133,34 @@ where
 {
     let mut hands = Vec::new(alloc);
     for worker in 0..wanted {
-        let entrance = Entrance::new(alloc, fabric, gate, worker);
-        let Some(allocator) = entrance.enter(rt) else {
-            return Ok(hands);
-        };
-        if hands.push(Counting::new(allocator)).is_err() {
-            return Err(JobError::NoMemory);
+        match next_hand(rt, alloc, fabric, gate, worker) {
+            Some(hand) => hands.push(hand)?,
+            None => break,
         }
     }
     Ok(hands)
+}
+
+// Gives each task its channels and a hand, as long as there are hands.
+fn shifts_of<H: Hand, K: Task>(
+    alloc: Global,
+    hands: Vec<H>,
+    tasks: Vec<K>,
+    channels: Vec<Channels<H::Buffer>>,
+) -> Result<Vec<Shift<H, K>>, AllocError>
+    requires { length channels.items ≡ length tasks.items }
+    ensures { IfOk result (λ shifts. length shifts.items ≡ length tasks.items) }
+{
+    let mut hands = hands.into_iter();
+    let mut shifts = Vec::new(alloc);
+    for (task, channels) in tasks.into_iter().zip(channels) {
+        shifts.push(Shift {
+            hand: hands.next(),
+            task,
+            channels,
+        })?;
+    }
+    Ok(shifts)
 }
 
 /// Does each task in a thread of its own, and joins them all. The tasks get the hands in order; one
@@ -144,22 +183,8 @@ where
     K::Answer: Send,
     ensures each { IfOk result (λ all. length all.items ≡ length tasks.items) }
 {
-    let Ok(channels) = channels_of::<H::Buffer, K>(alloc, &tasks) else {
-        return Err(JobError::NoMemory);
-    };
-    let mut hands = hands.into_iter();
-    let mut shifts = Vec::new(alloc);
-    for (task, channels) in tasks.into_iter().zip(channels) {
-        let shift = Shift {
-            hand: hands.next(),
-            task,
-            channels,
-        };
-        if shifts.push(shift).is_err() {
-            return Err(JobError::NoMemory);
-        }
-    }
-    drop(hands);
+    let channels = channels_of::<H::Buffer, K>(alloc, &tasks)?;
+    let shifts = shifts_of(alloc, hands, tasks, channels)?;
     crew(rt, alloc, shifts)
 }
 
@@ -209,12 +234,8 @@ where
     K: Task,
     ensures each { IfOk result (λ r. length r.answers.items ≡ length all.entry.items) }
 {
-    let Ok(Sorted { lefts, answers }) = sorted_out(alloc, all) else {
-        return Err(JobError::NoMemory);
-    };
+    let Sorted { lefts, answers } = sorted_out(alloc, all)?;
     let mut back = Back::none(alloc);
-    match back.add(lefts) {
-        Ok(()) => Ok(Reported { answers, back }),
-        Err(_) => Err(JobError::NoMemory),
-    }
+    back.add(lefts)?;
+    Ok(Reported { answers, back })
 }

@@ -3,10 +3,9 @@ ghost use Rattle.std.specs.Prelude.{◌≡◌, length, IfOk};
 
 use crate::client::{Starter, Worker};
 use crate::crew::Job;
-use crate::error::JobError;
 use crate::rows::{Places, Spent};
 use crossbeam_channel::{Receiver, Sender};
-use std::alloc::Global;
+use std::alloc::{AllocError, Global};
 use std::sync::Wait;
 
 /// What a worker does with its buffers.
@@ -104,7 +103,7 @@ pub(crate) fn paired<S: Starter>(
     alloc: Global,
     starters: Vec<S>,
     count: u32,
-) -> Result<Vec<Turn<S>>, JobError>
+) -> Result<Vec<Turn<S>>, AllocError>
     ensures each { IfOk result (λ turns. length turns.items ≡ length starters.items) }
 {
     let mut left = starters.len();
@@ -120,9 +119,7 @@ pub(crate) fn paired<S: Starter>(
             None => {
                 open = None;
                 if left > 0 {
-                    let Ok((to, from)) = crossbeam_channel::unbounded(alloc) else {
-                        return Err(JobError::NoMemory);
-                    };
+                    let (to, from) = crossbeam_channel::unbounded(alloc)?;
                     open = Some(from);
                     Role::Producer(to)
                 } else {
@@ -130,17 +127,12 @@ pub(crate) fn paired<S: Starter>(
                 }
             }
         };
-        if turns
-            .push(Turn {
-                starter,
-                alloc,
-                count,
-                role,
-            })
-            .is_err()
-        {
-            return Err(JobError::NoMemory);
-        }
+        turns.push(Turn {
+            starter,
+            alloc,
+            count,
+            role,
+        })?;
     }
     Ok(turns)
 }
@@ -150,20 +142,16 @@ pub(crate) fn in_a_ring<S: Starter>(
     alloc: Global,
     starters: Vec<S>,
     count: u32,
-) -> Result<Vec<Turn<S>>, JobError>
+) -> Result<Vec<Turn<S>>, AllocError>
     ensures each { IfOk result (λ turns. length turns.items ≡ length starters.items) }
 {
     let mut left = starters.len();
     let mut turns = Vec::new(alloc);
-    let Ok((first, mut from)) = crossbeam_channel::unbounded(alloc) else {
-        return Err(JobError::NoMemory);
-    };
+    let (first, mut from) = crossbeam_channel::unbounded(alloc)?;
     let mut first = Some(first);
     for starter in starters {
         left = left.saturating_sub(1);
-        let Ok((to, next)) = crossbeam_channel::unbounded(alloc) else {
-            return Err(JobError::NoMemory);
-        };
+        let (to, next) = crossbeam_channel::unbounded(alloc)?;
         let to = if left > 0 {
             to
         } else {
@@ -174,17 +162,12 @@ pub(crate) fn in_a_ring<S: Starter>(
         };
         let role = Role::Neighbour(to, from);
         from = next;
-        if turns
-            .push(Turn {
-                starter,
-                alloc,
-                count,
-                role,
-            })
-            .is_err()
-        {
-            return Err(JobError::NoMemory);
-        }
+        turns.push(Turn {
+            starter,
+            alloc,
+            count,
+            role,
+        })?;
     }
     Ok(turns)
 }

@@ -66,9 +66,7 @@ where
         e.found.drawn e.tally.audit) }
 {
     let workers = opening.desks().min(MOST_THREADS as usize) as u32;
-    let Ok(fabric) = Fabric::open(alloc, opening) else {
-        return Err(JobError::NoMemory);
-    };
+    let fabric = Fabric::open(alloc, opening)?;
     let rounds = Rounds::new(alloc, &fabric, gate, workload, plan, workers);
     let Back { held, counts } = all_rounds::<G, N, J, R>(rt, alloc, rounds)?;
     settle(rt, alloc, fabric, held, counts)
@@ -143,9 +141,7 @@ where
     ensures lost { IfOk result (λ e. e.tally.counts.lost ≡ e.tally.counts.allocated - e.tally.counts.freed) }
 {
     let wanted = tasks.len().min(MOST_THREADS as usize) as u32;
-    let Ok(fabric) = Fabric::open(alloc, opening) else {
-        return Err(JobError::NoMemory);
-    };
+    let fabric = Fabric::open(alloc, opening)?;
     let hands = hands(rt, alloc, &fabric, gate, wanted)?;
     let reported = all_tasks::<G, K, J, R>(rt, alloc, hands, tasks)?;
     settle_tasks(rt, alloc, fabric, reported)

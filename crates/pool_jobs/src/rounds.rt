@@ -88,9 +88,7 @@ where
             crew(rt, alloc, turns)
         }
         Workload::Replace => {
-            let Ok(turns) = with_rows(alloc, starters, rows, round) else {
-                return Err(JobError::NoMemory);
-            };
+            let turns = with_rows(alloc, starters, rows, round)?;
             crew(rt, alloc, turns)
         }
     }
@@ -225,12 +223,8 @@ impl<
         };
         let seed = u64::from(self.plan.seed).wrapping_add(u64::from(number).wrapping_mul(64));
         let drops = self.plan.drop_first && self.back.counts.lost == 0;
-        let Ok(rows) = self.rows_out() else {
-            return Err(JobError::NoMemory);
-        };
-        let Ok(starters) = self.starters(seed, drops) else {
-            return Err(JobError::NoMemory);
-        };
+        let rows = self.rows_out()?;
+        let starters = self.starters(seed, drops)?;
         Ok(Begun {
             starters,
             workload: self.workload,
@@ -247,17 +241,10 @@ impl<
         ensures rounds { self.new.rounds ≡ self.old.rounds }
         ensures workers { self.new.workers ≡ self.old.workers }
     {
-        let Ok(Sorted { lefts, rows }) = sorted_out(self.alloc, spent) else {
-            return Err(JobError::NoMemory);
-        };
-        let Ok(rows) = turned(rows) else {
-            return Err(JobError::NoMemory);
-        };
-        self.rows = rows;
-        match self.back.add(lefts) {
-            Ok(()) => Ok(()),
-            Err(_) => Err(JobError::NoMemory),
-        }
+        let Sorted { lefts, rows } = sorted_out(self.alloc, spent)?;
+        self.rows = turned(rows)?;
+        self.back.add(lefts)?;
+        Ok(())
     }
 
     /// What came back of all rounds. Buffers that are still in a row are dropped.

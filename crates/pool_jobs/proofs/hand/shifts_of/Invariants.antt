@@ -1,5 +1,5 @@
 use Rattle.std.proofs.Common.{◌≡◌, length}
-use Rattle.pool_jobs.proofs.hand.all_served.Given as goal
+use Rattle.pool_jobs.proofs.hand.shifts_of.Given as goal
 
 abbrev pub invariant-loop-task : goal.invariant-loop-task
 invariant-loop-task g l = length l.shifts.items ≡ length l.yielded
