@@ -1,8 +1,9 @@
 //! A station that goes back on the shelf.
 ghost use Rattle.std.specs.Prelude.{◌≡◌};
 
+use crate::pair::Over;
 use link_inbox::{LinkInbox, SendSeat, TakeSeat};
-use pool_fabric::{Fabric, Naming, Opening};
+use pool_fabric::{Naming, Opening};
 use pool_jobs::{Entrance, JobError, NoGate};
 use std::alloc::Global;
 use std::marker::Brand;
@@ -12,7 +13,7 @@ use std::sync::Wait;
 fn puts_back<'a, 'r, J: Naming, R: Wait>(
     rt: &R,
     alloc: Global,
-    fabric: &'a Fabric<'r, LinkInbox<'r>, TakeSeat<'r>, SendSeat<'r>, J>,
+    fabric: &'a Over<'r, J>,
     gate: &'a NoGate,
     worker: u32,
 ) -> bool {
@@ -30,7 +31,7 @@ fn puts_back<'a, 'r, J: Naming, R: Wait>(
 fn at_work<'a, 'r, J: Naming, R: Wait>(
     rt: &R,
     alloc: Global,
-    fabric: &'a Fabric<'r, LinkInbox<'r>, TakeSeat<'r>, SendSeat<'r>, J>,
+    fabric: &'a Over<'r, J>,
     gate: &'a NoGate,
     workers: u32,
 ) -> u32 {
@@ -52,10 +53,7 @@ fn at_fabric<'r, J: Naming, R: Wait>(
 ) -> Result<u32, JobError>
     requires { J.names ≡ opening }
 {
-    let fabric = Fabric::<'r, LinkInbox<'r>, TakeSeat<'r>, SendSeat<'r>, J>::open(alloc, opening);
-    let Ok(fabric) = fabric else {
-        return Err(JobError::NoMemory);
-    };
+    let fabric = Over::<'r, J>::open(alloc, opening)?;
     Ok(at_work(rt, alloc, &fabric, &NoGate, workers))
 }
 

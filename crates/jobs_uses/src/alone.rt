@@ -79,13 +79,8 @@ fn worked<'r, J: Naming, R: Wait>(
     ensures desks { IfOk result (λ e. IsEachDesk opening.entry.count e.found.desks.items) }
     ensures drawn { IfOk result (λ e. AreNoted e.found.desks.items e.found.drawn) }
 {
-    let Ok(fabric) = Fabric::<'r, Inbox<'r>, TakeSeat<'r>, SendSeat<'r>, J>::open(alloc, opening)
-    else {
-        return Err(JobError::NoMemory);
-    };
-    let Ok(Left { held, counts }) = at_work(rt, alloc, &fabric, &NoGate, count, size) else {
-        return Err(JobError::NoMemory);
-    };
+    let fabric = Fabric::<'r, Inbox<'r>, TakeSeat<'r>, SendSeat<'r>, J>::open(alloc, opening)?;
+    let Left { held, counts } = at_work(rt, alloc, &fabric, &NoGate, count, size)?;
     settle(rt, alloc, fabric, held, counts)
 }
 

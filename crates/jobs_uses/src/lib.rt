@@ -12,6 +12,8 @@ mod over_counting;
 #[cfg(test)]
 mod over_counting_link;
 #[cfg(test)]
+mod pair;
+#[cfg(test)]
 mod passing;
 #[cfg(test)]
 mod tests;

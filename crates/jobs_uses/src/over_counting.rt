@@ -53,9 +53,7 @@ where
     J: Naming + Send + Sync,
     R: Threads + Wait + Sync,
 {
-    let Ok(watch) = Watch::over(alloc, fabric, workers, hold) else {
-        return Err(JobError::NoMemory);
-    };
+    let watch = Watch::over(alloc, fabric, workers, hold)?;
     let rounds = Rounds::new(alloc, fabric, &watch, workload, plan, u32::from(workers));
     let back = all_rounds::<Watch, N, J, R>(rt, alloc, rounds)?;
     Ok(Seen {
@@ -87,9 +85,7 @@ where
         Audited (slots_found f.desks.items f.batches.items) f.drawn w.ended.tally.audit) }
 {
     let workers = opening.desks().min(64) as u16;
-    let Ok(fabric) = Fabric::open(alloc, opening) else {
-        return Err(JobError::NoMemory);
-    };
+    let fabric = Fabric::open(alloc, opening)?;
     let Seen {
         back,
         posts,

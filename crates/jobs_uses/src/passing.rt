@@ -2,17 +2,14 @@
 ghost use Rattle.std.specs.Prelude.{◌≡◌, IfOk};
 ghost use Rattle.pool_fabric.specs.Whole.{IsWhole, IsEachDesk, AreNoted};
 
+use crate::pair::{Held, Over, Worker, both_retire, two_workers};
 use link_inbox::{LinkInbox, SendSeat, TakeSeat};
-use pool_fabric::{Fabric, Found, GatherError, HeldStation, Naming, Opening, gather};
-use pool_jobs::{Allocator, Entrance, NoGate};
+use pool_fabric::{Found, GatherError, Naming, Opening, gather};
+use pool_jobs::NoGate;
 use rand_core::Rng;
 use std::alloc::{AllocError, Global};
 use std::marker::Brand;
 use std::sync::Wait;
-
-type Worker<'a, 'r, J> = Allocator<'a, 'r, LinkInbox<'r>, TakeSeat<'r>, SendSeat<'r>, NoGate, J>;
-
-type Held<'r, J> = HeldStation<'r, TakeSeat<'r>, SendSeat<'r>, J>;
 
 // The greatest size that is asked for.
 const LARGEST: u32 = 512;
@@ -49,25 +46,16 @@ fn pass_all<'a, 'r, J: Naming, N: Rng, R: Wait>(
 fn at_work<'a, 'r, J: Naming, N: Rng, R: Wait>(
     rt: &R,
     alloc: Global,
-    fabric: &'a Fabric<'r, LinkInbox<'r>, TakeSeat<'r>, SendSeat<'r>, J>,
+    fabric: &'a Over<'r, J>,
     gate: &'a NoGate,
     random: &mut N,
     count: u32,
 ) -> Result<(u32, Vec<Held<'r, J>>), AllocError> {
-    let mut held = Vec::new(alloc);
-    let Some(mut owner) = Entrance::new(alloc, fabric, gate, 0).enter(rt) else {
-        return Ok((0, held));
-    };
-    let Some(mut stranger) = Entrance::new(alloc, fabric, gate, 1).enter(rt) else {
-        return Ok((0, held));
+    let Some((mut owner, mut stranger)) = two_workers(rt, alloc, fabric, gate) else {
+        return Ok((0, Vec::new(alloc)));
     };
     let allocated = pass_all(rt, &mut owner, &mut stranger, random, count);
-    if let Some(station) = owner.retire(rt) {
-        held.push(station)?;
-    }
-    if let Some(station) = stranger.retire(rt) {
-        held.push(station)?;
-    }
+    let held = both_retire(rt, alloc, owner, stranger)?;
     Ok((allocated, held))
 }
 
@@ -85,8 +73,7 @@ fn at_fabric<'r, J: Naming, N: Rng, R: Wait>(
     ensures desks { IfOk result (λ p. IsEachDesk opening.entry.count p.found.desks.items) }
     ensures drawn { IfOk result (λ p. AreNoted p.found.desks.items p.found.drawn) }
 {
-    let fabric = Fabric::<'r, LinkInbox<'r>, TakeSeat<'r>, SendSeat<'r>, J>::open(alloc, opening);
-    let Ok(fabric) = fabric else {
+    let Ok(fabric) = Over::<'r, J>::open(alloc, opening) else {
         return Err(GatherError::NoMemory);
     };
     let Ok((allocated, held)) = at_work(rt, alloc, &fabric, &NoGate, random, count) else {

@@ -2,16 +2,13 @@
 ghost use Rattle.std.specs.Prelude.{◌≡◌, IfOk};
 ghost use Rattle.pool_fabric.specs.Whole.{IsWhole, IsEachDesk, AreNoted};
 
+use crate::pair::{Held, Over, Worker, both_retire, two_workers};
 use link_inbox::{LinkInbox, SendSeat, TakeSeat};
-use pool_fabric::{Fabric, Found, GatherError, HeldStation, Naming, Opening, gather};
-use pool_jobs::{Allocator, Buffer, Entrance, NoGate, PoolError};
+use pool_fabric::{Found, GatherError, Naming, Opening, gather};
+use pool_jobs::{Buffer, NoGate, PoolError};
 use std::alloc::{AllocError, Global};
 use std::marker::Brand;
 use std::sync::Wait;
-
-type Worker<'a, 'r, J> = Allocator<'a, 'r, LinkInbox<'r>, TakeSeat<'r>, SendSeat<'r>, NoGate, J>;
-
-type Held<'r, J> = HeldStation<'r, TakeSeat<'r>, SendSeat<'r>, J>;
 
 // The bytes that are asked for.
 const SIZE: usize = 16;
@@ -68,38 +65,41 @@ fn ask<'a, 'r, J: Naming, R: Wait>(
     Ok(())
 }
 
+// The owner allocates all that it gets, the stranger frees as is said, and the owner the rest.
+fn allocate_and_free<'a, 'r, J: Naming, R: Wait>(
+    rt: &R,
+    alloc: Global,
+    owner: &mut Worker<'a, 'r, J>,
+    stranger: &mut Worker<'a, 'r, J>,
+    slots: usize,
+    frees: Frees,
+) -> Result<(), AllocError> {
+    let mut buffers = allocated(rt, alloc, owner, slots)?;
+    free_some(rt, stranger, &mut buffers, frees.early);
+    let _asked = ask(rt, owner);
+    if frees.asks {
+        let _asked = ask(rt, stranger);
+    }
+    free_some(rt, stranger, &mut buffers, frees.late);
+    let left = buffers.len();
+    free_some(rt, owner, &mut buffers, left);
+    Ok(())
+}
+
 // Two workers of a fabric, and the stations that don't go back on the shelf.
 fn at_work<'a, 'r, J: Naming, R: Wait>(
     rt: &R,
     alloc: Global,
-    fabric: &'a Fabric<'r, LinkInbox<'r>, TakeSeat<'r>, SendSeat<'r>, J>,
+    fabric: &'a Over<'r, J>,
     gate: &'a NoGate,
     slots: usize,
     frees: Frees,
 ) -> Result<Vec<Held<'r, J>>, AllocError> {
-    let mut held = Vec::new(alloc);
-    let Some(mut owner) = Entrance::new(alloc, fabric, gate, 0).enter(rt) else {
-        return Ok(held);
+    let Some((mut owner, mut stranger)) = two_workers(rt, alloc, fabric, gate) else {
+        return Ok(Vec::new(alloc));
     };
-    let Some(mut stranger) = Entrance::new(alloc, fabric, gate, 1).enter(rt) else {
-        return Ok(held);
-    };
-    let mut buffers = allocated(rt, alloc, &mut owner, slots)?;
-    free_some(rt, &mut stranger, &mut buffers, frees.early);
-    let _asked = ask(rt, &mut owner);
-    if frees.asks {
-        let _asked = ask(rt, &mut stranger);
-    }
-    free_some(rt, &mut stranger, &mut buffers, frees.late);
-    let left = buffers.len();
-    free_some(rt, &mut owner, &mut buffers, left);
-    if let Some(station) = owner.retire(rt) {
-        held.push(station)?;
-    }
-    if let Some(station) = stranger.retire(rt) {
-        held.push(station)?;
-    }
-    Ok(held)
+    allocate_and_free(rt, alloc, &mut owner, &mut stranger, slots, frees)?;
+    both_retire(rt, alloc, owner, stranger)
 }
 
 // The same at a fabric that `J` names, and its end.
@@ -116,8 +116,7 @@ fn unheard<'r, J: Naming, R: Wait>(
     ensures desks { IfOk result (λ f. IsEachDesk opening.entry.count f.desks.items) }
     ensures drawn { IfOk result (λ f. AreNoted f.desks.items f.drawn) }
 {
-    let fabric = Fabric::<'r, LinkInbox<'r>, TakeSeat<'r>, SendSeat<'r>, J>::open(alloc, opening);
-    let Ok(fabric) = fabric else {
+    let Ok(fabric) = Over::<'r, J>::open(alloc, opening) else {
         return Err(GatherError::NoMemory);
     };
     let Ok(held) = at_work(rt, alloc, &fabric, &NoGate, slots, frees) else {

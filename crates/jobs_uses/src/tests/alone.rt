@@ -1,20 +1,23 @@
 //! A worker alone.
+use crate::tests::opening_over;
 use crate::work_alone;
-use digit_route::Digits;
-use pool_fabric::Opening;
-use pool_jobs::{Counts, Ended};
-use region_cut::{CHUNK, cut};
+use pool_jobs::{Counts, Tally};
+use region_cut::CHUNK;
+use std::sync::Wait;
 use std::test::Fail;
+
+// What a worker counts that asks ten times for 512 bytes, over a region of so many bytes.
+fn told<R: AllocGlobal + Wait>(rt: &R, bytes: usize) -> Result<Tally, Fail> {
+    let alloc = rt.alloc();
+    let mut region = Vec::from_elem(alloc, 0u8, bytes)?;
+    let opening = opening_over(alloc, &mut region, 1, 4_096)?;
+    let ended = work_alone(rt, alloc, opening, 10, 512)?;
+    Ok(ended.tally)
+}
 
 #[test]
 fn a_worker_alone(rt: HostRuntime) -> Result<(), Fail> {
-    let alloc = rt.alloc();
-    let mut region = Vec::from_elem(alloc, 0u8, CHUNK)?;
-    let parts = cut(alloc, region.as_mut_slice())?;
-    let digits = Digits::new(2).ok_or("two bits")?;
-    let opening = Opening::new(alloc, parts, 1, digits, 4_096)?;
-    let Ended { tally, found } = work_alone(&rt, alloc, opening, 10, 512)?;
-    drop(found);
+    let tally = told(&rt, CHUNK)?;
     let wanted = Counts {
         allocated: 10,
         freed: 10,
@@ -28,13 +31,7 @@ fn a_worker_alone(rt: HostRuntime) -> Result<(), Fail> {
 
 #[test]
 fn no_chunk(rt: HostRuntime) -> Result<(), Fail> {
-    let alloc = rt.alloc();
-    let mut region = Vec::from_elem(alloc, 0u8, CHUNK - 1)?;
-    let parts = cut(alloc, region.as_mut_slice())?;
-    let digits = Digits::new(2).ok_or("two bits")?;
-    let opening = Opening::new(alloc, parts, 1, digits, 4_096)?;
-    let Ended { tally, found } = work_alone(&rt, alloc, opening, 10, 512)?;
-    drop(found);
+    let tally = told(&rt, CHUNK - 1)?;
     assert_eq!(rt; tally.counts.starved, 10);
     assert_eq!(rt; tally.counts.allocated, 0);
     assert!(rt; tally.audit.is_ok());

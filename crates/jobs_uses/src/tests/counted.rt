@@ -1,10 +1,9 @@
 //! Freed buffers come home by posts, which are counted.
 
+use crate::tests::opening_over;
 use crate::{Fixed, Hold, Watched, work_counting, work_counting_linked};
-use digit_route::Digits;
-use pool_fabric::Opening;
-use pool_jobs::{Counts, Plan, Workload};
-use region_cut::{CHUNK, cut};
+use pool_jobs::{Counts, Plan, Tally, Workload};
+use region_cut::CHUNK;
 use std::sync::Wait;
 use std::test::Fail;
 use std::thread::Threads;
@@ -16,6 +15,16 @@ enum Inner {
     Link,
 }
 
+const PLAN: Plan = Plan {
+    count: 16,
+    rounds: 1,
+    seed: 0,
+    drop_first: false,
+};
+
+// The producer waits before its eleventh call until all eight slots are on their way home.
+const HOLD: Hold = Hold { call: 11, posts: 8 };
+
 // A producer of 16 buffers has a chunk of eight slots, and its consumer posts each buffer that it
 // frees. The first two calls of the producer meet want of a chunk, so the ninth buffer is asked for by
 // its eleventh.
@@ -25,53 +34,54 @@ fn watched_over<'r, R: AllocGlobal + Threads + Wait + Sync>(
     inner: Inner,
 ) -> Result<Watched<'r>, Fail> {
     let alloc = rt.alloc();
-    let parts = cut(alloc, region.as_mut_slice())?;
-    let digits = Digits::new(2).ok_or("two bits")?;
-    let plan = Plan {
-        count: 16,
-        rounds: 1,
-        seed: 0,
-        drop_first: false,
-    };
-    let hold = Hold { call: 11, posts: 8 };
+    let prodcons = Workload::ProdCons;
     match inner {
         Inner::Queue => {
-            let opening = Opening::new(alloc, parts, 2, digits, 0)?;
-            Ok(work_counting::<Fixed, R>(rt, alloc, opening, hold, Workload::ProdCons, &plan)?)
+            let opening = opening_over(alloc, region, 2, 0)?;
+            Ok(work_counting::<Fixed, R>(rt, alloc, opening, HOLD, prodcons, &PLAN)?)
         }
         Inner::Link => {
-            let opening = Opening::new(alloc, parts, 2, digits, 0)?;
-            Ok(work_counting_linked::<Fixed, R>(
-                rt,
-                alloc,
-                opening,
-                hold,
-                Workload::ProdCons,
-                &plan,
-            )?)
+            let opening = opening_over(alloc, region, 2, 0)?;
+            Ok(work_counting_linked::<Fixed, R>(rt, alloc, opening, HOLD, prodcons, &PLAN)?)
         }
     }
 }
 
+// What came of it.
+#[derive(Drop)]
+struct Outcome {
+    tally: Tally,
+    posts: u64,
+    gave_up: bool,
+}
+
+fn outcome_of<R: AllocGlobal + Threads + Wait + Sync>(
+    rt: &R,
+    inner: Inner,
+) -> Result<Outcome, Fail> {
+    let mut region = Vec::from_elem(rt.alloc(), 0u8, CHUNK)?;
+    let watched = watched_over(rt, &mut region, inner)?;
+    Ok(Outcome {
+        tally: watched.ended.tally,
+        posts: watched.posts,
+        gave_up: watched.gave_up,
+    })
+}
+
 #[test]
 fn eight_slots_serve_sixteen_buffers(rt: HostRuntime) -> Result<(), Fail> {
+    let wanted = Counts {
+        allocated: 16,
+        freed: 16,
+        starved: 0,
+        lost: 0,
+    };
     for inner in [Inner::Queue, Inner::Link] {
-        let mut region = Vec::from_elem(rt.alloc(), 0u8, CHUNK)?;
-        let Watched {
-            ended,
-            posts,
-            gave_up,
-        } = watched_over(&rt, &mut region, inner)?;
-        let wanted = Counts {
-            allocated: 16,
-            freed: 16,
-            starved: 0,
-            lost: 0,
-        };
-        assert!(rt; !gave_up);
-        assert_eq!(rt; posts, 16);
-        assert_eq!(rt; ended.tally.counts, wanted);
-        assert!(rt; ended.tally.audit.is_ok());
+        let outcome = outcome_of(&rt, inner)?;
+        assert!(rt; !outcome.gave_up);
+        assert_eq!(rt; outcome.posts, 16);
+        assert_eq!(rt; outcome.tally.counts, wanted);
+        assert!(rt; outcome.tally.audit.is_ok());
     }
     Ok(())
 }

@@ -2,12 +2,12 @@
 
 ghost use Rattle.std.specs.Prelude.{◌≤◌};
 
+use crate::tests::opening_over;
 use crate::{Passed, pass_on};
-use digit_route::Digits;
-use pool_fabric::{Opening, account};
+use pool_fabric::account;
 use rand_core::SeedableRng;
 use rand_pcg::Pcg32;
-use region_cut::{CHUNK, cut};
+use region_cut::CHUNK;
 use std::process::Abort;
 use std::sync::Wait;
 use std::test::Fail;
@@ -23,9 +23,7 @@ fn passed<R: Abort + AllocGlobal + Wait>(rt: &R, limit: u64) -> Result<u32, Fail
 {
     let alloc = rt.alloc();
     let mut region = Vec::from_elem(alloc, 0u8, CHUNKS * CHUNK)?;
-    let parts = cut(alloc, region.as_mut_slice())?;
-    let digits = Digits::new(2).ok_or("two bits")?;
-    let opening = Opening::new(alloc, parts, 2, digits, limit)?;
+    let opening = opening_over(alloc, &mut region, 2, limit)?;
     let mut random = Pcg32::seed_from_u64(1);
     let Passed { allocated, found } = pass_on(rt, alloc, opening, &mut random, BUFFERS)
         .ok()

@@ -1,8 +1,8 @@
 //! A worker whose posts are refused goes on, and tries again only now and then.
+use crate::tests::opening_over;
 use crate::{Frees, free_unheard};
-use digit_route::Digits;
-use pool_fabric::{Opening, account};
-use region_cut::{CHUNK, cut};
+use pool_fabric::account;
+use region_cut::CHUNK;
 use std::process::Abort;
 use std::sync::Wait;
 use std::test::Fail;
@@ -14,9 +14,7 @@ const SLOTS: usize = 256;
 fn batches_left<R: Abort + AllocGlobal + Wait>(rt: &R, frees: Frees) -> Result<usize, Fail> {
     let alloc = rt.alloc();
     let mut region = Vec::from_elem(alloc, 0u8, CHUNK)?;
-    let parts = cut(alloc, region.as_mut_slice())?;
-    let digits = Digits::new(2).ok_or("two bits")?;
-    let opening = Opening::new(alloc, parts, 2, digits, 0)?;
+    let opening = opening_over(alloc, &mut region, 2, 0)?;
     let found = free_unheard(rt, alloc, opening, SLOTS, frees)
         .ok()
         .ok_or("all that there is")?;
