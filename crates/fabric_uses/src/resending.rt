@@ -24,11 +24,12 @@ pub struct Resent<'r> {
     pub found: Found<'r>,
 }
 
-// Stations that were asked, and how many batches they took.
+// How many batches came to the other stations at each try, and all stations.
 #[derive(Drop)]
-struct Asked<'r, J: Naming> {
-    stations: Vec<Held<'r, J>>,
-    taken: u32,
+struct Tried<'r, J: Naming> {
+    first: u32,
+    second: u32,
+    held: Vec<Held<'r, J>>,
 }
 
 // All stations that are on the shelf lend a buffer each, which is freed to this one.
@@ -51,33 +52,39 @@ fn lend_all<'r, J: Naming, R: Wait>(
     Ok(others)
 }
 
-// Each station takes what is in its inbox.
+// Each station takes what is in its inbox. Says how many batches there were.
 fn take_all<'r, J: Naming, R: Wait>(
+    rt: &R,
+    fabric: &Over<'r, J>,
+    stations: &mut [Held<'r, J>],
+) -> u32 {
+    let mut taken = 0u32;
+    for station in stations {
+        taken = taken.saturating_add(station.take(rt, fabric));
+    }
+    taken
+}
+
+// One station posts what was freed to it, twice, and the others take.
+fn tries<'r, J: Naming, R: Wait>(
     rt: &R,
     alloc: Global,
     fabric: &Over<'r, J>,
-    stations: Vec<Held<'r, J>>,
-) -> Result<Asked<'r, J>, AllocError> {
-    let mut asked = Asked {
-        stations: Vec::new(alloc),
-        taken: 0,
-    };
-    for station in stations {
-        let mut station = station;
-        asked.taken = asked.taken.saturating_add(station.take(rt, fabric));
-        asked.stations.push(station)?;
-    }
-    Ok(asked)
-}
-
-// These stations and one more.
-fn with_one<'r, J: Naming>(
-    stations: Vec<Held<'r, J>>,
-    station: Held<'r, J>,
-) -> Result<Vec<Held<'r, J>>, AllocError> {
-    let mut all = stations;
-    all.push(station)?;
-    Ok(all)
+    poster: Held<'r, J>,
+    desks: usize,
+) -> Result<Tried<'r, J>, AllocError> {
+    let mut poster = poster;
+    let mut held = lend_all(rt, alloc, fabric, &mut poster, desks)?;
+    poster.post(rt, fabric);
+    let first = take_all(rt, fabric, &mut held);
+    poster.post(rt, fabric);
+    let second = take_all(rt, fabric, &mut held);
+    held.push(poster)?;
+    Ok(Tried {
+        first,
+        second,
+        held,
+    })
 }
 
 // The same at a fabric that `J` names.
@@ -93,32 +100,24 @@ fn post_twice_at<'r, J: Naming, R: Wait>(
     ensures drawn { IfOk result (λ r. AreNoted r.found.desks.items r.found.drawn) }
 {
     let desks = opening.desks();
-    let Ok(fabric) = Fabric::<'r, Refusing<'r>, TakeSeat<'r>, SendSeat<'r>, J>::open(alloc, opening)
-    else {
+    let Ok(fabric) = Over::<'r, J>::open(alloc, opening) else {
         return Err(GatherError::NoMemory);
     };
     let Some(station) = fabric.station(rt) else {
         return Err(GatherError::NoMemory);
     };
-    let mut poster = station.adopt(0);
-    let Ok(others) = lend_all(rt, alloc, &fabric, &mut poster, desks) else {
+    let Ok(tried) = tries(rt, alloc, &fabric, station.adopt(0), desks) else {
         return Err(GatherError::NoMemory);
     };
-    poster.post(rt, &fabric);
-    let Ok(first) = take_all(rt, alloc, &fabric, others) else {
-        return Err(GatherError::NoMemory);
-    };
-    poster.post(rt, &fabric);
-    let Ok(second) = take_all(rt, alloc, &fabric, first.stations) else {
-        return Err(GatherError::NoMemory);
-    };
-    let Ok(held) = with_one(second.stations, poster) else {
-        return Err(GatherError::NoMemory);
-    };
+    let Tried {
+        first,
+        second,
+        held,
+    } = tried;
     let found = gather(rt, alloc, fabric, held)?;
     Ok(Resent {
-        first: first.taken,
-        second: second.taken,
+        first,
+        second,
         found,
     })
 }

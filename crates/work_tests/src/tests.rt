@@ -49,8 +49,8 @@ fn opening_over<'r, T: Receiver, S: Sender, M: NewMail<T, S>, R: AllocGlobal>(
     requires { (1 ≤ ground.desks) × (ground.desks ≤ 64) × (ground.limit ≤ 1048576) }
 {
     let alloc = rt.alloc();
-    let parts = cut(alloc, region.as_mut_slice())?;
     let digits = Digits::new(ground.width).ok_or("a width")?;
+    let parts = cut(alloc, region.as_mut_slice())?;
     Ok(Opening::new(alloc, parts, ground.desks, digits, ground.limit)?)
 }
 

@@ -19,17 +19,17 @@ fn a_new_inbox_hands_out_nothing(rt: HostRuntime) {
 }
 
 // Posts to an inbox without a receiver are answered Ok, and the inbox goes with its batches.
-fn posts_to_nobody<'r>(rt: &impl Abort, alloc: Global, mut supply: Supply<'r>) {
+fn posts_to_nobody<'r>(rt: &impl Abort, alloc: Global, supply: &mut Supply<'r>) {
     let (inbox, take, mut seats) = open(rt, alloc, 1);
     let mut seat = take_last_seat(&inbox, &mut seats).expect(rt, "a seat");
     drop(take);
-    post_some(rt, alloc, &inbox, &mut seat, &mut supply, 0, 16);
+    post_some(rt, alloc, &inbox, &mut seat, supply, 0, 16);
     drop(seat);
 }
 
 #[test]
 fn a_post_succeeds_without_a_receiver(rt: HostRuntime) {
     let mut region = region(rt.alloc(), 1).expect(&rt, "memory");
-    let supply = Supply::new(rt.alloc(), &mut region).expect(&rt, "chunks");
-    posts_to_nobody(&rt, rt.alloc(), supply);
+    let mut supply = Supply::new(rt.alloc(), &mut region).expect(&rt, "chunks");
+    posts_to_nobody(&rt, rt.alloc(), &mut supply);
 }
