@@ -50,14 +50,22 @@ fn batch_of<'r>(
     supply.batch(alloc, sender, number).expect(rt, "a batch")
 }
 
+// The batch belongs to this inbox and this seat.
+fn belongs(rt: &impl Abort, inbox: &Inbox<'_>, seat: &SendSeat<'_>, batch: &Batch<'_>)
+    ensures { (batch.now.sender ≡ seat.now.sender) × (batch.now.address ≡ inbox.now.place.address)
+        × (batch.now.digits ≡ inbox.now.place.digits) }
+{
+    assert!(rt; batch.sender() == seat.sender());
+    assert!(rt; batch.address() == inbox.address());
+    assert!(rt; batch.digits() == inbox.digits());
+}
+
 // Posts a batch. Where it is refused it comes back, and the next try works.
 fn post<'r, R: Abort + Wait>(rt: &R, inbox: &Inbox<'r>, seat: &mut SendSeat<'r>, batch: Batch<'r>)
     requires { seat.old.inbox ≡ inbox.now }
     ensures { (seat.new.inbox ≡ seat.old.inbox) × (seat.new.sender ≡ seat.old.sender) }
 {
-    assert!(rt; batch.sender() == seat.sender());
-    assert!(rt; batch.address() == inbox.address());
-    assert!(rt; batch.digits() == inbox.digits());
+    belongs(rt, inbox, seat, &batch);
     if let Err((batch, error)) = inbox.post(rt, seat, batch) {
         assert!(rt; error == PostError::NoRoom);
         assert!(rt; inbox.post(rt, seat, batch).is_ok());

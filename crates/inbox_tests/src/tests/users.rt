@@ -1,7 +1,7 @@
 //! Generic callers, over the inbox and over a user's own.
 ghost use Rattle.std.specs.Prelude.{◌≡◌};
 
-use super::{batch_of, open};
+use super::{batch_of, belongs, open};
 use batch_inbox::{Inbox, Mail, SendSeat, TakeSeat};
 use digit_route::Batch;
 use inbox_uses::{Counting, Supply, region, take_last_seat};
@@ -20,9 +20,7 @@ fn counted<'r, R: Abort + Wait>(
     requires take { take.old.inbox ≡ inbox }
     requires seat { seat.old.inbox ≡ inbox }
 {
-    assert!(rt; batch.sender() == seat.sender());
-    assert!(rt; batch.address() == inbox.address());
-    assert!(rt; batch.digits() == inbox.digits());
+    belongs(rt, &inbox, seat, &batch);
     let inbox = Counting::new(inbox);
     assert!(rt; inbox.post(rt, seat, batch).is_ok());
     assert!(rt; inbox.posts() == 1);
