@@ -29,6 +29,8 @@ fn route_command<'a>(
     ensures app { IfOk result (λ c. app_of c ≡ route_app name.entry.now greatest) }
     ensures local { IfOk result (λ c. (fields_of c).has_globals ≡ false) }
 {
+    let command = plain_command(alloc, name, about);
+    let command = with_argument(command, number(alloc, "WIDTH", 1, 6, "Bits of a digit"))?;
     let from = number(
         alloc,
         "FROM",
@@ -36,6 +38,7 @@ fn route_command<'a>(
         greatest,
         "Number of the desk that has the buffer",
     );
+    let command = with_argument(command, from)?;
     let owner = number(
         alloc,
         "OWNER",
@@ -43,9 +46,6 @@ fn route_command<'a>(
         greatest,
         "Number of the desk that owns it",
     );
-    let command = plain_command(alloc, name, about);
-    let command = with_argument(command, number(alloc, "WIDTH", 1, 6, "Bits of a digit"))?;
-    let command = with_argument(command, from)?;
     with_argument(command, owner)
 }
 
@@ -183,15 +183,15 @@ pub fn commands<'a>(alloc: Global) -> Result<Command<'a>, AllocError>
     ensures { IfOk result (λ c. app_of c ≡ command_line) }
 {
     let classes = plain_command(alloc, "classes", CLASSES);
-    let classes2 = plain_command(alloc, "classes2", CLASSES2);
-    let route = route_command(alloc, "route", ROUTE, 63)?;
-    let route2 = route_command(alloc, "route2", ROUTE2, 4095)?;
-    let replay = replay_command(alloc)?;
-    let work = work_command(alloc)?;
     let command = with_subcommand(program(alloc), classes)?;
+    let classes2 = plain_command(alloc, "classes2", CLASSES2);
     let command = with_subcommand(command, classes2)?;
+    let route = route_command(alloc, "route", ROUTE, 63)?;
     let command = with_subcommand(command, route)?;
+    let route2 = route_command(alloc, "route2", ROUTE2, 4095)?;
     let command = with_subcommand(command, route2)?;
+    let replay = replay_command(alloc)?;
     let command = with_subcommand(command, replay)?;
+    let work = work_command(alloc)?;
     with_subcommand(command, work)
 }
