@@ -1,4 +1,4 @@
-use Rattle.std.proofs.Common.{◌≡◌, ◌⊎◌, inl, inr, ℕ, zero, suc, ◌≤◌, ◌<◌, List, [], ◌∷◌, ◌++◌, length, get_or, Option, refl, sym, ◌∙◌, ap, subst, arith, decimal, length-append, append_assoc}
+use Rattle.std.proofs.Common.{◌≡◌, ◌⊎◌, inl, inr, ℕ, zero, suc, ◌+◌, ◌≤◌, ◌<◌, List, [], ◌∷◌, ◌++◌, length, take, drop, get_or, Option, refl, sym, ◌∙◌, ap, subst, arith, decimal, length-append, append_assoc}
 use Rattle.std.proofs.Math.Seq.{get_or-append_seam}
 use Rattle.std.proofs.Math.ListN.{get_or-append}
 use Rattle.std.proofs.lemmas.Fmt.{length-decimal-le}
@@ -122,6 +122,11 @@ bad_end bytes at_end lacks ends = inr (ends, λ (r, rest, fits, is). marked 10 (
 
 pub answered_line : (bytes text line held : List ℕ) (r : Request) → bytes ≡ text ++ 10 ∷ held → line ≡ text → line ≡ spelling r → bytes ≡ request_line r ++ held
 answered_line bytes text line held r e same is = e ∙ ap (λ w. w ++ 10 ∷ held) (sym same ∙ is) ∙ sym (append_assoc (spelling r) (10 ∷ []) held)
+
+-- the first line was taken out of what is held
+pub taken_line : (bytes held rest : List ℕ) (n : ℕ) → bytes ≡ held → held ≡ take n held ++ 10 ∷ drop (n + 1) held → rest ≡ drop (n + 1) held
+    → bytes ≡ take n held ++ 10 ∷ rest
+taken_line bytes held rest n e first same = e ∙ first ∙ ap (λ w. take n held ++ 10 ∷ w) (sym same)
 
 pub not_empty : (bytes : List ℕ) → 0 < length bytes → bytes ≡ [] → ⊥
 not_empty bytes h e = omega (arith, ap length e)

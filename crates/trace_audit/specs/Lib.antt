@@ -7,6 +7,7 @@ pub mod Machine
 pub mod Replay
 pub mod Words
 pub mod FloorCounts
+pub mod HeldBytes
 pub mod Steps
 pub mod Laws
 pub mod FloorSlots

@@ -1,5 +1,5 @@
 -- What the parts of a replay come to. Only contracts of private functions speak of these.
-use Rattle.std.specs.Prelude.{ℕ, ◌≡◌, ◌≢◌, ◌⊎◌, ◌+◌, ◌<◌, ◌≤◌, List, [], ◌∷◌, ◌++◌, length, Option, Some, None}
+use Rattle.std.specs.Prelude.{ℕ, ◌≡◌, ◌≢◌, ◌⊎◌, ◌+◌, ◌<◌, ◌≤◌, List, [], ◌∷◌, ◌++◌, length, take, drop, Option, Some, None}
 use Rattle.std.specs.Prelude.{Result, Ok, Err, Bool, true, false}
 use Rattle.std.specs.List.{flat_map, AllByRecursion}
 use Rattle.std.specs.Io.KnownBytes.{Appends, Consumes, IsAtEnd}
@@ -35,9 +35,13 @@ tail_text tally Whole = tally_lines tally
 tail_text tally (BadLine k) = bad_line k ++ tally_lines tally
 tail_text tally NoRoom = []
 
--- what the next line is: bytes is what was held and what was read, held is what is left of it
+-- the first line of these bytes has so many before its line feed
+abbrev pub IsFirstLine : List ℕ → ℕ → Type 0
+IsFirstLine bytes count = (bytes ≡ take count bytes ++ 10 ∷ drop (count + 1) bytes) × Lacks 10 (take count bytes)
+
+-- what the next line is: bytes is what was held and what was read, held is what is held then
 abbrev pub Took : List ℕ → List ℕ → Type 0 → Next → Type 0
-Took bytes held at_end (Text text) = (bytes ≡ text.items ++ 10 ∷ held) × Lacks 10 text.items
+Took bytes held at_end (Text count) = (bytes ≡ held) × IsFirstLine held count
 Took bytes held at_end Over = (bytes ≡ []) × (held ≡ []) × at_end
 Took bytes held at_end Bad = (bytes ≡ held) × Lacks 10 held
     × ((held_limit ≤ length held) ⊎ ((0 < length held) × at_end))

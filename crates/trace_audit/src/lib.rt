@@ -10,6 +10,7 @@
 
 mod auditing;
 mod grammar;
+mod held;
 pub mod laws;
 mod lines;
 mod replaying;

@@ -5,71 +5,38 @@
 ghost use Rattle.std.specs.Prelude.{◌≡◌, ℕ, ◌<◌, ◌≤◌, ◌+◌, List, [], ◌∷◌, ◌++◌, length, true, false, IfOk, IfErr};
 ghost use Rattle.std.specs.Prelude.{IsTrue, IfSome, IfNone};
 ghost use Rattle.std.specs.Io.KnownBytes.{Consumes, IsAtEnd, Keeps};
-ghost use Rattle.arrayvec.specs.ArrayVec.{array_vec_len};
 ghost use Rattle.trace_audit.specs.Words.{Lacks};
 ghost use Rattle.trace_audit.specs.Limits.{held_limit};
 ghost use Rattle.trace_audit.specs.Replay.{IsPartial};
-ghost use Rattle.trace_audit.specs.Steps.{Took};
+ghost use Rattle.trace_audit.specs.Steps.{IsFirstLine, Took};
 
 use crate::grammar::cut_at;
+use crate::held::{HELD_LIMIT, Held};
 use crate::wire::{Failed, Source};
-use arrayvec::ArrayVec;
-
-/// How many bytes may be held. A good line has at most 64 before its line feed, so one more tells a line that is too
-/// long.
-const HELD_LIMIT: usize = 65;
-
-/// The bytes that were read and belong to no line so far.
-pub(crate) type Held = ArrayVec<u8, HELD_LIMIT>;
 
 /// What stands next in a trace.
-#[derive(Drop)]
+#[derive(Clone, Copy, Drop)]
 pub(crate) enum Next {
-    /// A line, without its line feed.
-    Text(Held),
+    /// A line of so many bytes before its line feed, which stands first in what is held.
+    Text(usize),
     /// The end, directly after a line feed.
     Over,
     /// A line that is too long, or that the input ends within.
     Bad,
 }
 
-/// Adds the bytes.
-fn hold(held: &mut Held, bytes: &[u8])
-    requires { array_vec_len held.old + length bytes.now ≤ held_limit }
-    ensures { held.new.items ≡ held.old.items ++ bytes.now }
+/// How many bytes the first line has before its line feed, if all of it is held.
+fn first_line(held: &Held) -> Option<usize>
+    ensures some { IfSome result (λ count. IsFirstLine held.now.items count) }
+    ensures none { IfNone result (Lacks 10 held.now.items) }
 {
-    let _ = held.try_extend_from_slice(bytes);
-}
-
-fn copied(bytes: &[u8]) -> Held
-    requires { length bytes.now ≤ held_limit }
-    ensures { result.items ≡ bytes.now }
-{
-    let mut held = Held::new();
-    hold(&mut held, bytes);
-    held
-}
-
-/// Takes the first line out, if all of it is held.
-fn take_line(held: &mut Held) -> Option<Held>
-    ensures some { IfSome result (λ text. (held.old.items ≡ text.items ++ 10 ∷ held.new.items) × Lacks 10 text.items) }
-    ensures none { IfNone result ((held.new.items ≡ held.old.items) × Lacks 10 held.old.items) }
-{
-    let bytes = held.as_slice();
-    match cut_at(bytes, b'\n') {
-        Some((line, rest)) => {
-            let text = copied(line);
-            let rest = copied(rest);
-            *held = rest;
-            Some(text)
-        }
-        None => None,
-    }
+    let (line, _rest) = cut_at(held.as_slice(), b'\n')?;
+    Some(line.len())
 }
 
 /// Reads once. False at the end of the input.
 fn refill<R: Source>(held: &mut Held, reader: &mut R) -> Result<bool, Failed>
-    requires room { array_vec_len held.old < held_limit }
+    requires room { length held.old.items < held_limit }
     requires down { R.has_failed reader.old ≡ false }
     ensures more { IfOk result (λ more.
         IsTrue more → (given : List ℕ) × (0 < length given)
@@ -88,13 +55,13 @@ fn refill<R: Source>(held: &mut Held, reader: &mut R) -> Result<bool, Failed>
     match reader.read(&mut piece[..room])? {
         0 => Ok(false),
         count => {
-            hold(held, &piece[..count]);
+            held.add(&piece[..count]);
             Ok(true)
         }
     }
 }
 
-/// Takes the next line, reading as far as it must.
+/// Looks for the next line, reading as far as it must.
 pub(crate) fn next_line<R: Source>(held: &mut Held, reader: &mut R) -> Result<Next, Failed>
     requires { R.has_failed reader.old ≡ false }
     ensures ok { IfOk result (λ next.
@@ -107,8 +74,8 @@ pub(crate) fn next_line<R: Source>(held: &mut Held, reader: &mut R) -> Result<Ne
     ensures up { IfErr result (λ _. R.has_failed reader.new ≡ true) }
 {
     'reading: loop {
-        if let Some(text) = take_line(held) {
-            return Ok(Next::Text(text));
+        if let Some(count) = first_line(held) {
+            return Ok(Next::Text(count));
         }
         if held.is_full() {
             return Ok(Next::Bad);

@@ -5,7 +5,9 @@ ghost use Rattle.trace_audit.specs.Steps.{Driven, Stopped};
 
 use super::turn::{Turn, one_line};
 use super::{End, ReplayError};
-use crate::lines::{Held, is_over};
+use crate::held::Held;
+use crate::lines::is_over;
+use crate::report::Line;
 use crate::wire::{Sink, Source};
 use event_floor::Floor;
 use std::alloc::Global;
@@ -32,8 +34,9 @@ pub(crate) fn drive<R: Source, W: Sink>(
         (W.contents writer.new) e) }
     ensures up { IfErr result (λ e. Failures (R.has_failed reader.new) (W.has_failed writer.new) e) }
 {
+    let mut line = Line::new();
     for number in 2..TOO_MANY {
-        match one_line(alloc, floor, held, reader, writer)? {
+        match one_line(alloc, floor, held, &mut line, reader, writer)? {
             Turn::Answered => {}
             Turn::Over => return Ok(End::Whole),
             Turn::Bad => return Ok(End::BadLine(number)),

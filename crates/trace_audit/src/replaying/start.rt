@@ -13,7 +13,8 @@ use super::ending::{finish, only};
 use super::{End, ReplayError};
 use crate::Fault;
 use crate::grammar::{Header, read_header};
-use crate::lines::{Held, Next, next_line};
+use crate::held::Held;
+use crate::lines::{Next, next_line};
 use crate::wire::{Sink, Source};
 use digit_route::Digits;
 use event_floor::Floor;
@@ -168,8 +169,11 @@ fn play<R: Source, W: Sink>(
 {
     let mut held = Held::new();
     match next_line(&mut held, reader) {
-        Ok(Next::Text(text)) => match read_header(text.as_slice()) {
-            Some(header) => on_floor(alloc, header, &mut held, reader, writer, audits),
+        Ok(Next::Text(count)) => match read_header(held.front(count)) {
+            Some(header) => {
+                held.pass(count + 1);
+                on_floor(alloc, header, &mut held, reader, writer, audits)
+            }
             None => only(writer, BAD_HEADER, End::BadLine(1)),
         },
         Ok(Next::Over) => only(writer, BAD_HEADER, End::BadLine(1)),

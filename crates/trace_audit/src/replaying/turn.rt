@@ -7,8 +7,9 @@ ghost use Rattle.trace_audit.specs.Steps.{Turned, Broke};
 
 use super::ReplayError;
 use crate::grammar::read_request;
-use crate::lines::{Held, Next, next_line};
-use crate::report::line_of_answer;
+use crate::held::Held;
+use crate::lines::{Next, next_line};
+use crate::report::{Line, set_answer};
 use crate::wire::{Sink, Source, write_all};
 use event_floor::{Floor, Refusal, Reply, Request};
 use std::alloc::Global;
@@ -31,11 +32,12 @@ fn answer_of(alloc: Global, floor: &mut Floor<'_>, request: Request) -> Result<R
     floor.apply(alloc, request)
 }
 
-/// Reads one line, and answers it where it is a request.
+/// Reads one line, and answers it where it is a request. `line` is for the answer; what it was doesn't matter.
 pub(crate) fn one_line<R: Source, W: Sink>(
     alloc: Global,
     floor: &mut Floor<'_>,
     held: &mut Held,
+    line: &mut Line,
     reader: &mut R,
     writer: &mut W,
 ) -> Result<Turn, ReplayError>
@@ -53,10 +55,11 @@ pub(crate) fn one_line<R: Source, W: Sink>(
     ensures up { IfErr result (λ e. Failures (R.has_failed reader.new) (W.has_failed writer.new) e) }
 {
     match next_line(held, reader) {
-        Ok(Next::Text(text)) => match read_request(text.as_slice()) {
+        Ok(Next::Text(count)) => match read_request(held.front(count)) {
             Some(request) => {
+                held.pass(count + 1);
                 let answer = answer_of(alloc, floor, request);
-                let line = line_of_answer(answer);
+                set_answer(line, answer);
                 match write_all(writer, line.as_slice()) {
                     Ok(()) => Ok(Turn::Answered),
                     Err(_) => Err(ReplayError::Write),

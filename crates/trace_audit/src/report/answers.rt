@@ -67,17 +67,17 @@ fn push_refusal(line: &mut Line, refusal: Refusal)
     push_text(line, refusal.name().as_bytes());
 }
 
-/// The line of an answer.
-pub(crate) fn line_of_answer(answer: Result<Reply, Refusal>) -> Line
-    ensures { result.items ≡ answer_line answer }
+/// Makes this the line of an answer, whatever it was before. One line serves all answers of a trace: a new one is filled
+/// with zeros first.
+pub(crate) fn set_answer(line: &mut Line, answer: Result<Reply, Refusal>)
+    ensures { line.new.items ≡ answer_line answer }
 {
-    let mut line = Line::new();
+    line.clear();
     match answer {
-        Ok(reply) => push_reply(&mut line, reply),
-        Err(refusal) => push_refusal(&mut line, refusal),
+        Ok(reply) => push_reply(line, reply),
+        Err(refusal) => push_refusal(line, refusal),
     }
-    push_text(&mut line, b"\n");
-    line
+    push_text(line, b"\n");
 }
 
 /// The line that names a bad line.

@@ -1,7 +1,8 @@
-use Rattle.std.proofs.Common.{List, [], ℕ, ◌++◌, inl, ◌∙◌, ap, subst}
+use Rattle.std.proofs.Common.{List, [], ℕ, ◌++◌, inl, ◌∙◌, ap, subst, take}
 use Rattle.std.proofs.KnownBytes.{Appends-nil}
 use Rattle.trace_audit.specs.Replay.{IsPartial}
 use Rattle.trace_audit.proofs.Headers.{bad_line_one, first_is, header_bad, header_bad_text, header_over, header_taken, none_asked}
+use Rattle.trace_audit.proofs.Fronts.{taken_line}
 use Rattle.trace_audit.proofs.Replays.{behind_header, only_line}
 use Rattle.trace_audit.proofs.WholeTraces.{bad_header}
 use Rattle.trace_audit.proofs.replaying.start.play.Goals as goal
@@ -10,13 +11,13 @@ pub returns-in-Some : goal.returns-in-Some
 returns-in-Some g c =
     let t = rw c.in-Ok-Text.field-0-is at c.in-Ok-Text.ensures.ok in
     behind_header c.args.audits _ _ _ _ _ _ _ _ t.0 c.on_floor.result t.1
-    (header_taken t.0 c.in-Ok-Text.text.items c.as_slice.result.now c.next_line.new.held.items c.in-Some.header (first_is _ _ _ c.new-held.ensures t.2.0) c.as_slice.ensures.value c.in-Some.ensures.found.1) c.on_floor.ensures
+    (header_taken t.0 (take c.in-Ok-Text.count c.next_line.new.held.items) c.front.result.now c.pass.new.self.items c.in-Some.header (first_is _ _ _ c.new-held.ensures (taken_line _ _ _ c.in-Ok-Text.count t.2.0 t.2.1.0 c.pass.ensures)) c.front.ensures c.in-Some.ensures.found.1) c.on_floor.ensures
 
 pub returns-in-None : goal.returns-in-None
 returns-in-None g c =
     let t = rw c.in-Ok-Text.field-0-is at c.in-Ok-Text.ensures.ok in
     only_line c.args.audits _ _ [] _ _ _ _ _ _ _ c.only.result bad_line_one (none_asked c.args.audits) (λ P p. bad_header _ _ t.0 t.1
-    (header_bad_text t.0 c.in-Ok-Text.text.items _ _ (first_is _ _ _ c.new-held.ensures t.2.0) t.2.1 (λ h fits is. c.in-None.ensures.none h fits (c.as_slice.ensures.value ∙ is))) P p) c.only.ensures c.in-Ok-Text.ensures.down
+    (header_bad_text t.0 (take c.in-Ok-Text.count c.next_line.new.held.items) _ _ (first_is _ _ _ c.new-held.ensures (t.2.0 ∙ t.2.1.0)) t.2.1.1 (λ h fits is. c.in-None.ensures.none h fits (c.front.ensures ∙ is))) P p) c.only.ensures c.in-Ok-Text.ensures.down
 
 pub returns-in-Ok-Over : goal.returns-in-Ok-Over
 returns-in-Ok-Over g c =

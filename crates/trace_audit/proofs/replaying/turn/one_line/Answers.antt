@@ -1,6 +1,6 @@
-use Rattle.std.proofs.Common.{ℕ, List, ◌∙◌, refl, sym, subst}
+use Rattle.std.proofs.Common.{ℕ, List, ◌∙◌, refl, sym, subst, take}
 use Rattle.std.specs.Io.KnownBytes.{Appends}
-use Rattle.trace_audit.proofs.Fronts.{bad_text, answered_line, begins_same, not_empty, longer, bad_front}
+use Rattle.trace_audit.proofs.Fronts.{bad_text, answered_line, begins_same, not_empty, longer, bad_front, taken_line}
 use Rattle.trace_audit.proofs.replaying.turn.one_line.Goals as goal
 
 pub returns-in-Err-write_all-clause-broke : goal.returns-in-Err-write_all-clause-broke
@@ -12,9 +12,9 @@ returns-in-Err-write_all-clause-broke g c =
         c.in-Some.request,
         c.answer_of-answer.result,
         c.in-Some.ensures.found.0,
-        answered_line _ c.in-Ok-Text.text.items c.as_slice.result.now _ c.in-Some.request p.2.0 c.as_slice.ensures.value c.in-Some.ensures.found.1,
+        answered_line _ (take c.in-Ok-Text.count c.next_line.new.held.items) c.front.result.now _ c.in-Some.request (taken_line _ _ _ c.in-Ok-Text.count p.2.0 p.2.1.0 c.pass.ensures) c.front.ensures c.in-Some.ensures.found.1,
         c.answer_of-answer.ensures,
-        begins_same _ _ _ _ (c.as_slice-in-Some.ensures.value ∙ c.line_of_answer-line.ensures) c.in-Err-write_all.ensures.0,
+        begins_same _ _ _ _ (c.as_slice.ensures.value ∙ c.set_answer.ensures) c.in-Err-write_all.ensures.0,
       ),
     )
 
@@ -24,8 +24,8 @@ returns-in-None-clause-turn g c =
       p.0,
       p.1,
       (
-        λ e. not_empty _ (rw p.2.0 (longer _ _)) e,
-        bad_text _ c.in-Ok-Text.text.items _ _ p.2.0 p.2.1 (λ r fits is. c.in-None.ensures.none r fits (c.as_slice.ensures.value ∙ is)),
+        λ e. not_empty _ (rw (p.2.0 ∙ p.2.1.0) (longer _ _)) e,
+        bad_text _ (take c.in-Ok-Text.count c.next_line.new.held.items) _ _ (p.2.0 ∙ p.2.1.0) p.2.1.1 (λ r fits is. c.in-None.ensures.none r fits (c.front.ensures ∙ is)),
         refl,
         refl,
       ),
@@ -45,10 +45,10 @@ returns-in-Ok-clause-turn g c =
         c.in-Some.request,
         c.answer_of-answer.result,
         c.in-Some.ensures.found.0,
-        answered_line _ c.in-Ok-Text.text.items c.as_slice.result.now _ c.in-Some.request p.2.0 c.as_slice.ensures.value c.in-Some.ensures.found.1,
+        answered_line _ (take c.in-Ok-Text.count c.next_line.new.held.items) c.front.result.now _ c.in-Some.request (taken_line _ _ _ c.in-Ok-Text.count p.2.0 p.2.1.0 c.pass.ensures) c.front.ensures c.in-Some.ensures.found.1,
         c.answer_of-answer.ensures,
         subst (λ (w : List ℕ). Appends (g.W.Sink.contents c.args.writer.now) (g.W.Sink.contents c.write_all.new.writer) w)
-            (c.as_slice-in-Some.ensures.value ∙ c.line_of_answer-line.ensures) c.in-Ok.ensures.0,
+            (c.as_slice.ensures.value ∙ c.set_answer.ensures) c.in-Ok.ensures.0,
       ),
     )
 
