@@ -59,6 +59,7 @@ struct InBoxes {
   };
   using Lent = Node *;
   using List = Linked<InBoxes, Lent>;
+  using Home = List;
 
   static Lent made(Chunks &, uint8_t *bytes, size_t k, uint16_t owner) {
     return new Node{0, static_cast<uint32_t>(k), 0, owner, bytes, SIZES[k], Tagged<Node>()};
@@ -78,6 +79,7 @@ struct InSlots {
   };
   using Lent = Link *;
   using List = Linked<InSlots, Lent>;
+  using Home = List;
 
   static Lent made(Chunks &, uint8_t *bytes, size_t, uint16_t) { return new (bytes) Link{nullptr}; }
   static uint8_t *bytes(Chunks &, Lent it) { return reinterpret_cast<uint8_t *>(it); }
@@ -88,10 +90,10 @@ struct InSlots {
   static void unlink(Lent) {}
 };
 
-// each slot has a boxed node with room for pointers to a few others: of so many and one, a list links one, which names
-// the others, so that most nodes are only read where they go from thread to thread
+// each slot has a boxed node with room for pointers to a few others: of so many and one, a list that goes to another
+// thread links one, which names the others, so that most nodes are only read there; at home each is linked
 struct InGroups {
-  static constexpr size_t OTHERS = 15;
+  static constexpr size_t OTHERS = 3;
 
   struct Node {
     uint32_t slot;
@@ -125,6 +127,7 @@ struct InGroups {
       return it;
     }
   };
+  using Home = Linked<InGroups, Lent>;
 
   static Lent made(Chunks &, uint8_t *bytes, size_t k, uint16_t owner) {
     return new Node{0, static_cast<uint32_t>(k), owner, 0, 0, bytes, SIZES[k], nullptr, {}};
@@ -132,6 +135,7 @@ struct InGroups {
   static uint8_t *bytes(Chunks &, Lent it) { return it->bytes; }
   static uint16_t owner(Chunks &, Lent it) { return it->owner; }
   static size_t class_number(Chunks &, Lent it) { return it->class_number; }
+  static Lent below(Lent it) { return it->below; }
   static void link(Lent it, Lent below) { it->below = below; }
   static void unlink(Lent) {}
 };
@@ -170,7 +174,7 @@ private:
   uint16_t number = workers++;
   uint32_t since_look = 0;
   size_t cached = 0;
-  List homes[CLASSES];
+  typename Slots::Home homes[CLASSES];
   Bucket buckets[WORKERS];
 
   void keep(Lent it) { homes[Slots::class_number(chunks, it)].push(it); }
