@@ -30,12 +30,11 @@ impl<'r> Model for Buf<'r> {
 
     ghost Value = { Buffer };
 
-    ghost use Rattle.slot_chain.specs.Buffer.{IsBuffer};
-    ghost use Rattle.slot_chain.specs.Chains.{buffer_of};
+    ghost use Rattle.slot_chain.specs.Chains.{buffer_of, IsAlone};
 
     ghost view = { λ a. buffer_of a.node.value };
 
-    ghost invariant = { λ a. IsBuffer (buffer_of a.node.value) };
+    ghost invariant = { λ a. IsAlone a.node.value };
 }
 
 impl<'r> Buf<'r> {
@@ -75,11 +74,14 @@ impl<'r> Buf<'r> {
         self.node.forwards
     }
 
-    /// Sets the count of [`Buf::forwards`], and changes nothing else.
+    /// Sets the count of [`Buf::forwards`], and changes nothing else. Where the count stays as it
+    /// is, the buffer's box is not written to, so that its cache line may stay where it is.
     pub fn set_forwards(&mut self, forwards: u32)
         ensures { self.new ≡ record self.old { forwards = forwards } }
     {
-        self.node.forwards = forwards;
+        if self.node.forwards != forwards {
+            self.node.forwards = forwards;
+        }
     }
 
     /// The bytes of the slot, as many as its class has.
@@ -125,7 +127,7 @@ impl<'r> Buf<'r> {
         ensures rest { rest_of result ≡ self.entry.bytes.now }
     {
         let Buf { node } = self;
-        let (lease, _below) = Box::into_inner(node).into_parts();
+        let lease = Box::into_inner(node).into_lease();
         Front::new(lease.into_bytes())
     }
 }

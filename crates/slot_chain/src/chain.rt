@@ -14,7 +14,7 @@ use std::marker::Model;
 use std::mem;
 
 /// A list of buffers. In contracts a chain is that list; its last buffer is on top, where
-/// [`Chain::push`] and [`Chain::pop`] work.
+/// [`Chain::push`], [`Chain::push_beside`] and [`Chain::pop`] work.
 ///
 /// A chain is one pointer. No call takes memory, none can fail, and none changes or copies a
 /// buffer. A chain may be dropped, with all its buffers, however long it is.
@@ -51,8 +51,9 @@ impl Drop for Chain<'_> {
             match top {
                 None => return,
                 Some(node) => {
-                    let (lease, below) = Box::into_inner(node).into_parts();
+                    let (lease, below, beside) = Box::into_inner(node).into_parts();
                     drop(lease);
+                    drop(beside);
                     self = below;
                 }
             }
@@ -76,14 +77,43 @@ impl<'r> Chain<'r> {
         Chain { top: None }
     }
 
-    /// Puts a buffer on top. Takes constant time.
+    /// Lets an empty chain go.
+    #[inline]
+    pub(crate) fn close(self)
+        requires { self ≡ [] }
+    {
+        let Chain { top } = self;
+        match top {
+            None => {}
+            Some(_) => unreachable!(),
+        }
+    }
+
+    /// Puts a buffer on top, in a box of its own: for a list that stays with its thread. Takes
+    /// constant time.
     pub fn push(&mut self, buf: Buf<'r>)
         ensures { self.new ≡ self.old ++ buf.entry ∷ [] }
     {
         let Buf { mut node } = buf;
         mem::swap(&mut node.below, self);
-        // nothing is below a buffer that is in no chain, so there is nothing to drop
+        // nothing was below the buffer, so there is nothing to drop
         mem::forget(mem::replace(&mut self.top, Some(node)));
+    }
+
+    /// Puts a buffer on top, as [`Chain::push`] does: for a list that goes to another thread. Takes
+    /// constant time.
+    ///
+    /// `push` writes to the box of each buffer. Where a buffer then goes to another thread, the
+    /// cache line of its box has to move from core to core. Here the box on top names up to three
+    /// more buffers, whose own boxes are not written to: of four buffers only one is. For a list that
+    /// stays, `push` is better: [`Chain::pop`] takes fewer steps where a box names no others.
+    pub fn push_beside(&mut self, buf: Buf<'r>)
+        ensures { self.new ≡ self.old ++ buf.entry ∷ [] }
+    {
+        match &mut self.top {
+            Some(node) if node.beside.has_room() => node.beside.push(buf),
+            _ => self.push(buf),
+        }
     }
 
     /// Takes the buffer on top, which came last, or `None` where there is none. Takes constant
@@ -91,6 +121,11 @@ impl<'r> Chain<'r> {
     pub fn pop(&mut self) -> Option<Buf<'r>>
         ensures { MatchOption result ((self.old ≡ []) × (self.new ≡ [])) (λ b. self.old ≡ self.new ++ b ∷ []) }
     {
+        if let Some(node) = &mut self.top {
+            if !node.beside.is_empty() {
+                return node.beside.pop();
+            }
+        }
         match self.top.take() {
             None => None,
             Some(mut taken) => {
@@ -100,18 +135,16 @@ impl<'r> Chain<'r> {
         }
     }
 
-    // Moves the top node, and says whether there was one.
+    // Moves the top buffer, and says whether there was one.
     fn shift(&mut self, other: &mut Chain<'r>) -> bool
         ensures { MatchBool result
             ((b : Buffer) × (other.old ≡ other.new ++ b ∷ []) × (self.new ≡ self.old ++ b ∷ []))
             ((other.old ≡ []) × (other.new ≡ []) × (self.new ≡ self.old)) }
     {
-        match other.top.take() {
+        match other.pop() {
             None => false,
-            Some(mut moved) => {
-                mem::swap(&mut moved.below, other);
-                mem::swap(&mut moved.below, self);
-                mem::forget(mem::replace(&mut self.top, Some(moved)));
+            Some(moved) => {
+                self.push(moved);
                 true
             }
         }
@@ -119,9 +152,9 @@ impl<'r> Chain<'r> {
 
     /// Puts all buffers of `other` on top, in their order, and leaves it empty.
     ///
-    /// Takes time for the length of `other` alone, whose links are turned, and turned back as they
-    /// are put on top: two moves of a pointer for each. None of the buffers that are here already
-    /// is looked at.
+    /// Takes time for the length of `other` alone, which is turned round, and back as its buffers
+    /// are put on top: two moves for each, after which it is in a box of its own. None of the
+    /// buffers that are here already is looked at.
     #[tactic(auto, using(crate::proofs::Sums::reverse_push, crate::proofs::Sums::append_push))]
     pub fn append(&mut self, other: &mut Chain<'r>)
         ensures list { self.new ≡ self.old ++ other.old }
@@ -142,7 +175,7 @@ impl<'r> Chain<'r> {
             match &at.top {
                 None => return count,
                 Some(node) => {
-                    count = count.saturating_add(1);
+                    count = count.saturating_add(1 + node.beside.len() as u64);
                     at = &node.below;
                 }
             }
@@ -156,16 +189,11 @@ impl<'r> Chain<'r> {
         ensures { result ≡ capped (sizes self.now) }
     {
         let mut total = 0u64;
-        let mut at = self;
-        loop {
-            match &at.top {
-                None => return total,
-                Some(node) => {
-                    total = total.saturating_add(node.class.size() as u64);
-                    at = &node.below;
-                }
-            }
+        let mut walk = self.walk();
+        while let Some(tag) = walk.next() {
+            total = total.saturating_add(tag.class.size() as u64);
         }
+        total
     }
 
     /// Whether there is no buffer. Takes constant time.
@@ -192,8 +220,16 @@ impl<'r> Chain<'r> {
     pub fn walk(&self) -> Walk<'_, 'r>
         ensures { result ≡ self.now }
     {
-        Walk { at: self }
+        let others = match &self.top {
+            None => 0,
+            Some(node) => node.beside.len(),
+        };
+        Walk {
+            at: &self.top,
+            others,
+        }
     }
+
     /// Adds the slot of each buffer to the end of `slots`, in no order. Where memory for that is
     /// refused, `slots` is as before. Takes a walk over the buffers.
     pub fn list_slots(&self, slots: &mut Vec<Slot>) -> Result<(), NoMemory>

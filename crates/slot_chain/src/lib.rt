@@ -5,9 +5,11 @@
 //! [`Chain`] is a list of buffers. As in snmalloc (ISMM 2019) a list is linked through places that
 //! its objects already have, so that a buffer is freed, cached and sent without taking memory. Here
 //! the link is no part of the slot: it stands in a box of its own, a [`Room`], which is made before
-//! the buffer is. A buffer moves as the one pointer to that box.
+//! the buffer is. A buffer moves as the one pointer to that box. A box can also name up to three more
+//! buffers, so that of a list that goes to another thread few boxes are written to.
 #![tactic(auto)]
 
+mod beside;
 mod buf;
 mod chain;
 mod error;

@@ -1,12 +1,15 @@
 //! What a box of a chain holds.
-ghost use Rattle.std.specs.Prelude.{◌≡◌};
+ghost use Rattle.std.specs.Prelude.{◌≡◌, []};
 
+use crate::beside::Beside;
 use crate::chain::Chain;
 use crate::lease::Lease;
+use crate::walk::Tag;
 use region_cut::{Class, Slot};
 
-// One buffer, and the chain below it. A node belongs to its buffer, also while that is in no chain:
-// then nothing is below.
+// One buffer, the chain below it, and the buffers beside it, which came after it. A node belongs to
+// its buffer, also while that is in no chain or beside another: then nothing is below and nothing
+// beside.
 #[cycle(chain)]
 pub(crate) struct Node<'r> {
     pub(crate) slot: Slot,
@@ -15,13 +18,29 @@ pub(crate) struct Node<'r> {
     pub(crate) forwards: u32,
     pub(crate) lease: Lease<'r>,
     pub(crate) below: Chain<'r>,
+    pub(crate) beside: Beside<'r>,
 }
 
 impl<'r> Node<'r> {
-    /// Takes it apart: the bytes of the buffer, and the chain below it.
+    /// What a walk shows of it.
+    pub(crate) fn tag(&self) -> Tag
+        ensures slot { result.slot ≡ self.now.slot }
+        ensures class { result.class ≡ self.now.class }
+        ensures owner { result.owner ≡ self.now.owner }
+    {
+        Tag {
+            slot: self.slot,
+            class: self.class,
+            owner: self.owner,
+        }
+    }
+
+    /// Takes it apart: the bytes of the buffer, the chain below it, and the buffers beside it.
     #[inline]
-    pub(crate) fn into_parts(self) -> (Lease<'r>, Chain<'r>)
-        ensures { (result.0 ≡ self.entry.lease) × (result.1 ≡ self.entry.below) }
+    pub(crate) fn into_parts(self) -> (Lease<'r>, Chain<'r>, Beside<'r>)
+        ensures lease { result.0 ≡ self.entry.lease }
+        ensures below { result.1 ≡ self.entry.below }
+        ensures beside { result.2 ≡ self.entry.beside }
     {
         let Node {
             slot: _,
@@ -30,16 +49,31 @@ impl<'r> Node<'r> {
             forwards: _,
             lease,
             below,
+            beside,
         } = self;
-        (lease, below)
+        (lease, below, beside)
+    }
+
+    /// Takes it apart where nothing is below it and nothing beside it: the bytes of the buffer.
+    #[inline]
+    pub(crate) fn into_lease(self) -> Lease<'r>
+        requires below { self.below ≡ [] }
+        requires beside { self.beside ≡ [] }
+        ensures { result ≡ self.entry.lease }
+    {
+        let (lease, below, beside) = self.into_parts();
+        below.close();
+        beside.close();
+        lease
     }
 }
 
 // By hand, so that it is proved here once, and not again in each crate that lets a buffer go.
 impl Drop for Node<'_> {
     fn drop(self) {
-        let (lease, below) = self.into_parts();
+        let (lease, below, beside) = self.into_parts();
         drop(lease);
         drop(below);
+        drop(beside);
     }
 }

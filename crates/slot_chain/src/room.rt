@@ -4,6 +4,7 @@ ghost use Rattle.region_cut.specs.Classes.{size_of};
 ghost use Rattle.region_cut.specs.Pieces.{place_of, slice_of};
 ghost use Rattle.slot_chain.specs.Buffer.{owner_limit};
 
+use crate::beside::Beside;
 use crate::buf::Buf;
 use crate::chain::Chain;
 use crate::error::NoMemory;
@@ -22,9 +23,13 @@ pub struct Room<'r> {
 }
 
 impl<'r> Model for Room<'r> {
+    ghost use Rattle.std.specs.Prelude.{◌≡◌, []};
+
     ghost Value = { Unit {0} };
 
     ghost view = { λ _. tt };
+
+    ghost invariant = { λ a. (a.node.value.below ≡ []) × (a.node.value.beside ≡ []) };
 }
 
 impl<'r> Room<'r> {
@@ -37,6 +42,7 @@ impl<'r> Room<'r> {
             forwards: 0,
             lease: Lease::new(Default::default()),
             below: Chain::new(),
+            beside: Beside::none(),
         };
         Ok(Room {
             node: Box::new(alloc, node)?,

@@ -1,5 +1,5 @@
 //! Walks over chains that only look.
-use crate::chain::Chain;
+use crate::node::Node;
 use region_cut::{Class, Slot};
 use std::marker::Model;
 
@@ -18,7 +18,10 @@ pub struct Tag {
 /// be shown; the next one is the last of them.
 #[derive(Drop)]
 pub struct Walk<'a, 'r> {
-    pub(crate) at: &'a Chain<'r>,
+    // the top of the chain that is still to be shown
+    pub(crate) at: &'a Option<Box<Node<'r>>>,
+    // how many of those beside that node are to be shown
+    pub(crate) others: usize,
 }
 
 impl<'a, 'r> Model for Walk<'a, 'r> {
@@ -27,7 +30,11 @@ impl<'a, 'r> Model for Walk<'a, 'r> {
 
     ghost Value = { List Buffer };
 
-    ghost view = { λ w. w.at.now };
+    ghost use Rattle.slot_chain.specs.Chains.{to_show, has_beside};
+
+    ghost view = { λ w. to_show w.at.now w.others };
+
+    ghost invariant = { λ w. has_beside w.at.now w.others };
 }
 
 impl<'a, 'r> Iterator for Walk<'a, 'r> {
@@ -41,17 +48,18 @@ impl<'a, 'r> Iterator for Walk<'a, 'r> {
     ghost remaining = { item_count (λ buffers. buffers) };
 
     fn next(&mut self) -> Option<Tag> {
-        let at = self.at;
-        match &at.top {
+        match self.at {
             None => None,
-            Some(node) => {
-                self.at = &node.below;
-                Some(Tag {
-                    slot: node.slot,
-                    class: node.class,
-                    owner: node.owner,
-                })
-            }
+            Some(node) => match node.beside.last_of(self.others) {
+                Some(other) => {
+                    self.others -= 1;
+                    Some(other.tag())
+                }
+                None => {
+                    *self = node.below.walk();
+                    Some(node.tag())
+                }
+            },
         }
     }
 }

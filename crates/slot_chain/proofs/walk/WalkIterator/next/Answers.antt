@@ -1,0 +1,7 @@
+use Rattle.std.proofs.Common.{arith, rules, append_assoc}
+use Rattle.slot_chain.specs.Chains.{buffer_of}
+use Rattle.slot_chain.proofs.walk.WalkIterator.next.Goals as goal
+
+pub returns-in-Some-last_of-clause-steps : goal.returns-in-Some-last_of-clause-steps
+returns-in-Some-last_of-clause-steps c =
+    (buffer_of c.in-Some-last_of.other.now, grind (arith, append_assoc), search rules, search rules, search rules)
