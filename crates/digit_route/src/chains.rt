@@ -32,13 +32,13 @@ pub(crate) fn empty_chains<'r>(n: usize) -> Chains<'r>
     chains
 }
 
-/// Puts a buffer on the chain at `k`.
+/// Puts a buffer on the chain at `k`, which goes to another thread.
 pub(crate) fn push_at<'r>(chains: &mut Chains<'r>, k: usize, item: Buf<'r>)
     requires { k < array_vec_len chains.old }
     ensures { chains.new.items ≡ slice_set chains.old.items k
         (slice_index_or chains.old.items k [] ++ item.entry ∷ []) }
 {
-    chains[k].push(item);
+    chains[k].push_beside(item);
 }
 
 /// Takes out the whole chain at `k`.

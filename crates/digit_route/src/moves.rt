@@ -61,9 +61,9 @@ pub(crate) fn split<'r>(
     let mut others = Chain::new();
     while let Some(item) = chain.pop() {
         if digits.common(item.owner(), t) > near {
-            nearer.push(item);
+            nearer.push_beside(item);
         } else {
-            others.push(item);
+            others.push_beside(item);
         }
     }
     (nearer, others)
