@@ -9,6 +9,7 @@ mod giving;
 mod long;
 mod order;
 mod refusal;
+mod sending;
 
 use chain_uses::fill_region;
 use region_cut::{Class, Part, cut};

@@ -8,7 +8,7 @@ use std::process::Abort;
 
 // A chain for each chunk of the region, which has eight slots of 512 bytes, and belongs to the
 // allocator 7 or, from its second chunk on, to 4,095.
-fn chains<'r>(
+pub(super) fn chains<'r>(
     rt: &impl Abort,
     alloc: Global,
     region: &'r mut [u8],
@@ -26,7 +26,7 @@ fn chains<'r>(
 }
 
 // The slots that a chain gives, from the one that came last.
-fn popped(alloc: Global, mut chain: Chain<'_>) -> Result<Vec<Slot>, NoMemory> {
+pub(super) fn popped(alloc: Global, mut chain: Chain<'_>) -> Result<Vec<Slot>, NoMemory> {
     let mut slots = Vec::new(alloc);
     while let Some(buf) = chain.pop() {
         slots.push(buf.slot())?;
