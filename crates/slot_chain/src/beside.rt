@@ -151,10 +151,10 @@ impl<'r> Beside<'r> {
     }
 
     /// Takes the buffer that came last.
-    // Not inlined, so that `Chain::pop` is short where nothing is beside.
-    #[inline(never)]
-    pub(crate) fn pop(&mut self) -> Option<Buf<'r>>
-        ensures { MatchOption result ((self.old ≡ []) × (self.new ≡ [])) (λ b. self.old ≡ self.new ++ b ∷ []) }
+    #[inline]
+    pub(crate) fn take_last(&mut self) -> Buf<'r>
+        requires { 0 < length self.old }
+        ensures { self.old ≡ self.new ++ result ∷ [] }
     {
         let (left, last) = mem::replace(self, Beside::none()).split();
         // none are left there, so there is nothing to drop
@@ -179,21 +179,19 @@ impl<'r> Beside<'r> {
         Beside { others }
     }
 
-    // The last one, and those that came before it.
+    // Those that came before the last one, and that.
     #[inline]
-    fn split(self) -> (Beside<'r>, Option<Buf<'r>>)
-        ensures { MatchOption result.1 ((self.entry ≡ []) × (result.0 ≡ []))
-            (λ b. self.entry ≡ result.0 ++ b ∷ []) }
+    fn split(self) -> (Beside<'r>, Buf<'r>)
+        requires { 0 < length self }
+        ensures { self.entry ≡ result.0 ++ result.1 ∷ [] }
     {
         let Beside { others } = self;
         let (others, last) = match others {
-            Others::Empty => (Others::Empty, None),
-            Others::One(first) => (Others::Empty, Some(Buf { node: first })),
-            Others::Two(first, second) => (Others::One(first), Some(Buf { node: second })),
-            Others::Three(first, second, third) => {
-                (Others::Two(first, second), Some(Buf { node: third }))
-            }
+            Others::Empty => unreachable!(),
+            Others::One(first) => (Others::Empty, first),
+            Others::Two(first, second) => (Others::One(first), second),
+            Others::Three(first, second, third) => (Others::Two(first, second), third),
         };
-        (Beside { others }, last)
+        (Beside { others }, Buf { node: last })
     }
 }

@@ -1,6 +1,7 @@
 //! Lists of buffers, linked through the boxes that they lie in.
 ghost use Rattle.std.specs.Prelude.{◌≡◌, [], ◌∷◌, ◌++◌, length, map, MatchOption, MatchBool, IsTrue, ◌↔◌, OnOk, OnErr};
-ghost use Rattle.slot_chain.specs.Buffer.{Buffer, ended_of};
+ghost use Rattle.slot_chain.specs.Buffer.{Buffer, IsBuffer, ended_of};
+ghost use Rattle.slot_chain.specs.Chains.{buffer_of, buffers_from, buffers_of, top_is_buffer};
 ghost use Rattle.slot_chain.specs.Counts.{capped, sizes};
 ghost use Rattle.slot_chain.specs.Slots.{AddsSlots, slot_of};
 
@@ -21,7 +22,19 @@ use std::mem;
 #[must_use]
 #[cycle(chain)]
 pub struct Chain<'r> {
-    pub(crate) top: Option<Box<Node<'r>>>,
+    pub(crate) top: Top<'r>,
+}
+
+// What is on top of a chain. Its variant tells whether others may be beside the box on top, so that
+// a list that stays with its thread needs no look at that.
+#[derive(Drop)]
+#[cycle(chain)]
+pub(crate) enum Top<'r> {
+    Empty,
+    // a box that names no others
+    Alone(Box<Node<'r>>),
+    // a box that may name others
+    Group(Box<Node<'r>>),
 }
 
 impl<'r> Model for Chain<'r> {
@@ -49,8 +62,8 @@ impl Drop for Chain<'_> {
         loop {
             let Chain { top } = self;
             match top {
-                None => return,
-                Some(node) => {
+                Top::Empty => return,
+                Top::Alone(node) | Top::Group(node) => {
                     let (lease, below, beside) = Box::into_inner(node).into_parts();
                     drop(lease);
                     drop(beside);
@@ -74,7 +87,7 @@ impl<'r> Chain<'r> {
     pub fn new() -> Chain<'r>
         ensures { result ≡ [] }
     {
-        Chain { top: None }
+        Chain { top: Top::Empty }
     }
 
     /// Lets an empty chain go.
@@ -84,9 +97,19 @@ impl<'r> Chain<'r> {
     {
         let Chain { top } = self;
         match top {
-            None => {}
-            Some(_) => unreachable!(),
+            Top::Empty => {}
+            _ => unreachable!(),
         }
+    }
+
+    // Gives an empty chain its top. There is nothing to drop, and none is looked for.
+    #[inline]
+    fn set_top(&mut self, top: Top<'r>)
+        requires empty { self.old ≡ [] }
+        requires buffer { top_is_buffer top }
+        ensures { self.new ≡ buffers_of top.entry }
+    {
+        mem::forget(mem::replace(&mut self.top, top));
     }
 
     /// Puts a buffer on top, in a box of its own: for a list that stays with its thread. Takes
@@ -96,8 +119,7 @@ impl<'r> Chain<'r> {
     {
         let Buf { mut node } = buf;
         mem::swap(&mut node.below, self);
-        // nothing was below the buffer, so there is nothing to drop
-        mem::forget(mem::replace(&mut self.top, Some(node)));
+        self.set_top(Top::Alone(node));
     }
 
     /// Puts a buffer on top, as [`Chain::push`] does: for a list that goes to another thread. Takes
@@ -111,9 +133,18 @@ impl<'r> Chain<'r> {
         ensures { self.new ≡ self.old ++ buf.entry ∷ [] }
     {
         match &mut self.top {
-            Some(node) if node.beside.has_room() => node.beside.push(buf),
-            _ => self.push(buf),
+            Top::Group(node) if node.beside.has_room() => node.beside.push(buf),
+            _ => self.begin_group(buf),
         }
+    }
+
+    // Puts a buffer on top, in a box beside which others may come.
+    fn begin_group(&mut self, buf: Buf<'r>)
+        ensures { self.new ≡ self.old ++ buf.entry ∷ [] }
+    {
+        let Buf { node: mut first } = buf;
+        mem::swap(&mut first.below, self);
+        self.set_top(Top::Group(first));
     }
 
     /// Takes the buffer on top, which came last, or `None` where there is none. Takes constant
@@ -121,18 +152,31 @@ impl<'r> Chain<'r> {
     pub fn pop(&mut self) -> Option<Buf<'r>>
         ensures { MatchOption result ((self.old ≡ []) × (self.new ≡ [])) (λ b. self.old ≡ self.new ++ b ∷ []) }
     {
-        if let Some(node) = &mut self.top {
-            if !node.beside.is_empty() {
-                return node.beside.pop();
-            }
-        }
-        match self.top.take() {
-            None => None,
-            Some(mut taken) => {
+        match mem::replace(&mut self.top, Top::Empty) {
+            Top::Empty => None,
+            Top::Alone(mut taken) => {
                 mem::swap(&mut taken.below, self);
                 Some(Buf { node: taken })
             }
+            Top::Group(taken) => Some(self.pop_of_group(taken)),
         }
+    }
+
+    // Takes the last buffer of the group that was on top, and puts back the rest.
+    #[inline(never)]
+    fn pop_of_group(&mut self, group: Box<Node<'r>>) -> Buf<'r>
+        requires taken { self.old ≡ [] }
+        requires buffer { IsBuffer (buffer_of group.value) }
+        ensures { buffers_from group.entry.value ≡ self.new ++ result ∷ [] }
+    {
+        let mut group = group;
+        if group.beside.is_empty() {
+            mem::swap(&mut group.below, self);
+            return Buf { node: group };
+        }
+        let last = group.beside.take_last();
+        self.set_top(Top::Group(group));
+        last
     }
 
     // Moves the top buffer, and says whether there was one.
@@ -173,8 +217,8 @@ impl<'r> Chain<'r> {
         let mut at = self;
         loop {
             match &at.top {
-                None => return count,
-                Some(node) => {
+                Top::Empty => return count,
+                Top::Alone(node) | Top::Group(node) => {
                     count = count.saturating_add(1 + node.beside.len() as u64);
                     at = &node.below;
                 }
@@ -201,8 +245,8 @@ impl<'r> Chain<'r> {
         ensures { IsTrue result ↔ (self.now ≡ []) }
     {
         match self.top {
-            None => true,
-            Some(_) => false,
+            Top::Empty => true,
+            _ => false,
         }
     }
 
@@ -221,8 +265,8 @@ impl<'r> Chain<'r> {
         ensures { result ≡ self.now }
     {
         let others = match &self.top {
-            None => 0,
-            Some(node) => node.beside.len(),
+            Top::Empty | Top::Alone(_) => 0,
+            Top::Group(node) => node.beside.len(),
         };
         Walk {
             at: &self.top,

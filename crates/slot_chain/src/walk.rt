@@ -1,5 +1,5 @@
 //! Walks over chains that only look.
-use crate::node::Node;
+use crate::chain::Top;
 use region_cut::{Class, Slot};
 use std::marker::Model;
 
@@ -19,7 +19,7 @@ pub struct Tag {
 #[derive(Drop)]
 pub struct Walk<'a, 'r> {
     // the top of the chain that is still to be shown
-    pub(crate) at: &'a Option<Box<Node<'r>>>,
+    pub(crate) at: &'a Top<'r>,
     // how many of those beside that node are to be shown
     pub(crate) others: usize,
 }
@@ -49,8 +49,8 @@ impl<'a, 'r> Iterator for Walk<'a, 'r> {
 
     fn next(&mut self) -> Option<Tag> {
         match self.at {
-            None => None,
-            Some(node) => match node.beside.last_of(self.others) {
+            Top::Empty => None,
+            Top::Alone(node) | Top::Group(node) => match node.beside.last_of(self.others) {
                 Some(other) => {
                     self.others -= 1;
                     Some(other.tag())
