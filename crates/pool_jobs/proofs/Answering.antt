@@ -7,7 +7,7 @@ use Rattle.pool_fabric.proofs.Posting.{handled_stays}
 use Rattle.pool_fabric.specs.Names.{Names}
 use Rattle.pool_fabric.specs.Posts.{TakesSome}
 use Rattle.pool_fabric.specs.Stations.{StationState}
-use Rattle.pool_jobs.specs.Serving.{SameDesk, Keeps, LendsOut, IsClassFor, Serves}
+use Rattle.pool_jobs.specs.Serving.{Keeps, IsClassFor, Serves}
 use Rattle.pool_jobs.specs.declared.error.PoolError.{PoolError}
 use Rattle.pool_jobs.specs.declared.error.PoolError.TheVariants.{TooLarge, UsedUp, NoMemory}
 

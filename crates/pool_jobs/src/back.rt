@@ -1,5 +1,6 @@
 //! What came back of several workers.
-ghost use Rattle.std.specs.Prelude.{◌≡◌};
+ghost use Rattle.std.specs.Prelude.{◌≡◌, [], ◌∷◌, ◌++◌, IfOk, OnOk, OnErr};
+ghost use Rattle.pool_jobs.specs.Counted.{both, counted_by, counts_of, none_counted, stations_of};
 
 use crate::counting::Done;
 use crate::tally::Counts;
@@ -17,7 +18,8 @@ pub struct Back<'r, T: Receiver, S: Sender, J: Naming> {
 impl<'r, T: Receiver, S: Sender, J: Naming> Back<'r, T, S, J> {
     /// Nothing came back yet.
     pub(crate) fn none(alloc: Global) -> Back<'r, T, S, J>
-        ensures { result.counts ≡ record { allocated = 0; freed = 0; starved = 0; lost = 0 } }
+        ensures counts { result.counts ≡ none_counted }
+        ensures held { result.held.items ≡ [] }
     {
         Back {
             held: Vec::new(alloc),
@@ -25,17 +27,49 @@ impl<'r, T: Receiver, S: Sender, J: Naming> Back<'r, T, S, J> {
         }
     }
 
-    /// Takes in what came back.
-    pub(crate) fn add(&mut self, dones: Vec<Option<Done<'r, T, S, J>>>) -> Result<(), AllocError> {
-        for done in dones {
-            let Some(Done { station, counts }) = done else {
-                continue;
-            };
-            self.counts = self.counts.plus(counts);
-            if let Some(station) = station {
-                self.held.push(station)?;
-            }
+    /// What these workers left, in order.
+    pub(crate) fn of(
+        alloc: Global,
+        lefts: Vec<Option<Done<'r, T, S, J>>>,
+    ) -> Result<Back<'r, T, S, J>, AllocError>
+        ensures counts { IfOk result (λ b. b.counts ≡ counted_by lefts.entry.items) }
+        ensures held { IfOk result (λ b. b.held.items ≡ stations_of lefts.entry.items) }
+    {
+        let mut held = Vec::new(alloc);
+        let mut counts = Counts::none();
+        for left in lefts {
+            let more = kept(&mut held, left)?;
+            counts = counts.plus(more);
         }
+        Ok(Back { held, counts })
+    }
+
+    /// Takes in what came back of others. Where memory for that is refused, it is as before.
+    pub(crate) fn add(&mut self, more: Back<'r, T, S, J>) -> Result<(), AllocError>
+        ensures counts { OnOk result (self.new.counts ≡ both self.old.counts more.entry.counts) }
+        ensures held { OnOk result (self.new.held.items ≡ self.old.held.items ++ more.entry.held.items) }
+        ensures err { OnErr result ((self.new.counts ≡ self.old.counts) × (self.new.held.items ≡ self.old.held.items)) }
+    {
+        let Back { mut held, counts } = more;
+        self.held.append(&mut held)?;
+        self.counts = self.counts.plus(counts);
         Ok(())
     }
+}
+
+// Keeps the station that one worker left, if any, and tells what it counted.
+fn kept<'r, T: Receiver, S: Sender, J: Naming>(
+    held: &mut Vec<HeldStation<'r, T, S, J>>,
+    left: Option<Done<'r, T, S, J>>,
+) -> Result<Counts, AllocError>
+    ensures counts { IfOk result (λ c. c ≡ counts_of left.entry) }
+    ensures held { OnOk result (held.new.items ≡ held.old.items ++ stations_of (left.entry ∷ [])) }
+{
+    let Some(Done { station, counts }) = left else {
+        return Ok(Counts::none());
+    };
+    if let Some(station) = station {
+        held.push(station)?;
+    }
+    Ok(counts)
 }

@@ -2,6 +2,7 @@
 ghost use Rattle.std.specs.Prelude.{◌≡◌, ◌≤◌, ◌+◌, [], ◌∷◌, ◌++◌, IfOk, IfSome, MatchResult};
 ghost use Rattle.region_cut.specs.Classes.{size_of};
 ghost use Rattle.slot_chain.specs.Counts.{capped};
+ghost use Rattle.pool_jobs.specs.Counted.{none_counted};
 ghost use Rattle.pool_jobs.specs.Serving.{Keeps, SameDesk, Serves};
 
 use crate::allocator::Allocator;
@@ -42,7 +43,7 @@ impl<'a, 'r, M: Mailbox, T: Receiver, S: Sender, G: Gate, J: Naming> Counting<
         allocator: Allocator<'a, 'r, M, T, S, G, J>,
     ) -> Counting<'a, 'r, M, T, S, G, J>
         ensures same { result.allocator ≡ allocator.entry }
-        ensures counts { result.counts ≡ record { allocated = 0; freed = 0; starved = 0; lost = 0 } }
+        ensures counts { result.counts ≡ none_counted }
     {
         Counting {
             allocator,

@@ -1,5 +1,6 @@
 //! A worker that does one task.
-ghost use Rattle.std.specs.Prelude.{◌≡◌, ◌≤◌, length, IfOk};
+ghost use Rattle.std.specs.Prelude.{◌≡◌, ◌≤◌, length, map, IfOk};
+ghost use Rattle.pool_jobs.specs.Counted.{counted_by, stations_of};
 
 use crate::allocator::Entrance;
 use crate::back::Back;
@@ -209,6 +210,7 @@ fn sorted_out<H: Hand, K: Task>(
     all: Vec<Served<H, K>>,
 ) -> Result<Sorted<H, K>, AllocError>
     ensures each { IfOk result (λ r. length r.answers.items ≡ length all.items) }
+    ensures lefts { IfOk result (λ r. r.lefts.items ≡ map (λ s. s.left) all.items) }
 {
     let mut lefts = Vec::new(alloc);
     let mut answers = Vec::new(alloc);
@@ -233,9 +235,10 @@ where
     J: Naming,
     K: Task,
     ensures each { IfOk result (λ r. length r.answers.items ≡ length all.entry.items) }
+    ensures counted { IfOk result (λ r. r.back.counts ≡ counted_by (map (λ s. s.left) all.entry.items)) }
+    ensures held { IfOk result (λ r. r.back.held.items ≡ stations_of (map (λ s. s.left) all.entry.items)) }
 {
     let Sorted { lefts, answers } = sorted_out(alloc, all)?;
-    let mut back = Back::none(alloc);
-    back.add(lefts)?;
+    let back = Back::of(alloc, lefts)?;
     Ok(Reported { answers, back })
 }

@@ -1,5 +1,6 @@
 //! The rounds of a workload, at any inbox.
-ghost use Rattle.std.specs.Prelude.{◌≡◌, length, IfOk};
+ghost use Rattle.std.specs.Prelude.{◌≡◌, length, map, IfOk, OnOk};
+ghost use Rattle.pool_jobs.specs.Counted.{both, counted_by, none_counted};
 ghost use Rattle.pool_jobs.specs.Rounds.{rounds_of};
 
 use crate::allocator::Entrance;
@@ -40,7 +41,9 @@ struct Sorted<S: Starter> {
 }
 
 // Takes apart what came back of a round.
-fn sorted_out<S: Starter>(alloc: Global, spent: Vec<Spent<S>>) -> Result<Sorted<S>, AllocError> {
+fn sorted_out<S: Starter>(alloc: Global, spent: Vec<Spent<S>>) -> Result<Sorted<S>, AllocError>
+    ensures lefts { IfOk result (λ r. r.lefts.items ≡ map (λ s. s.left) spent.items) }
+{
     let mut lefts = Vec::new(alloc);
     let mut rows = Vec::new(alloc);
     for one in spent {
@@ -151,7 +154,7 @@ impl<
         ensures { result ≡ record {
           rounds = rounds_of workload plan.now;
           workers = workers;
-          counts = record { allocated = 0; freed = 0; starved = 0; lost = 0 };
+          counts = none_counted;
         } }
     {
         Rounds {
@@ -240,10 +243,12 @@ impl<
     ) -> Result<(), JobError>
         ensures rounds { self.new.rounds ≡ self.old.rounds }
         ensures workers { self.new.workers ≡ self.old.workers }
+        ensures counted { OnOk result (self.new.counts
+            ≡ both self.old.counts (counted_by (map (λ s. s.left) spent.entry.items))) }
     {
         let Sorted { lefts, rows } = sorted_out(self.alloc, spent)?;
         self.rows = turned(rows)?;
-        self.back.add(lefts)?;
+        self.back.add(Back::of(self.alloc, lefts)?)?;
         Ok(())
     }
 

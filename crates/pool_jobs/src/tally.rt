@@ -1,6 +1,6 @@
 //! What was counted.
-ghost use Rattle.std.specs.Prelude.{◌≡◌, ◌+◌, ◌-◌};
-ghost use Rattle.slot_chain.specs.Counts.{capped};
+ghost use Rattle.std.specs.Prelude.{◌≡◌, ◌-◌};
+ghost use Rattle.pool_jobs.specs.Counted.{both, none_counted};
 
 use slot_audit::Fault;
 
@@ -20,7 +20,7 @@ pub struct Counts {
 impl Counts {
     /// Nothing was counted.
     pub fn none() -> Counts
-        ensures { result ≡ record { allocated = 0; freed = 0; starved = 0; lost = 0 } }
+        ensures { result ≡ none_counted }
     {
         Counts {
             allocated: 0,
@@ -32,12 +32,7 @@ impl Counts {
 
     /// Both counts, added up.
     pub fn plus(self, other: Counts) -> Counts
-        ensures { result ≡ record {
-          allocated = capped (self.allocated + other.allocated);
-          freed = capped (self.freed + other.freed);
-          starved = capped (self.starved + other.starved);
-          lost = capped (self.lost + other.lost);
-        } }
+        ensures { result ≡ both self other }
     {
         Counts {
             allocated: self.allocated.saturating_add(other.allocated),

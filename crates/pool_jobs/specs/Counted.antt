@@ -1,0 +1,40 @@
+-- What workers left, and what they counted together.
+use Rattle.std.specs.Prelude.{◌+◌, List, Option, Some, None, sum_by, filter_map}
+use Rattle.slot_chain.specs.Counts.{capped}
+use Rattle.pool_fabric.specs.Stations.{StationState}
+use Rattle.pool_jobs.specs.declared.counting.Done.{Done}
+use Rattle.pool_jobs.specs.declared.tally.Counts.{Counts}
+
+-- nothing was counted
+abbrev pub none_counted : Counts
+none_counted = record { allocated = 0; freed = 0; starved = 0; lost = 0 }
+
+-- who got no allocator left no station and counted nothing
+abbrev pub station_of : {T S J : Type 0} → Option (Done T S J) → Option StationState
+station_of None = None
+station_of (Some d) = d.station
+
+abbrev pub counts_of : {T S J : Type 0} → Option (Done T S J) → Counts
+counts_of None = none_counted
+counts_of (Some d) = d.counts
+
+abbrev pub stations_of : {T S J : Type 0} → List (Option (Done T S J)) → List StationState
+stations_of lefts = filter_map station_of lefts
+
+-- two counts added up, none beyond the greatest u64
+abbrev pub both : Counts → Counts → Counts
+both a b = record {
+  allocated = capped (a.allocated + b.allocated);
+  freed = capped (a.freed + b.freed);
+  starved = capped (a.starved + b.starved);
+  lost = capped (a.lost + b.lost);
+}
+
+-- what all of these counted
+abbrev pub counted_by : {T S J : Type 0} → List (Option (Done T S J)) → Counts
+counted_by lefts = record {
+  allocated = capped (sum_by (λ left. (counts_of left).allocated) lefts);
+  freed = capped (sum_by (λ left. (counts_of left).freed) lefts);
+  starved = capped (sum_by (λ left. (counts_of left).starved) lefts);
+  lost = capped (sum_by (λ left. (counts_of left).lost) lefts);
+}
