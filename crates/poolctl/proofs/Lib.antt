@@ -1,4 +1,3 @@
 mod Begun
 mod ClassLines
-mod Spelled
 mod Written

@@ -11,7 +11,7 @@ use Rattle.trace_audit.specs.declared.replaying.ending.ReplayError.{ReplayError}
 use Rattle.trace_audit.specs.declared.replaying.ending.ReplayError.TheVariants.{Read, Write}
 use Rattle.poolctl.specs.Commands.{BeginsAll, BreaksOff, TellsFault, WritesAll, WritesUpTo}
 use Rattle.poolctl.specs.Outcomes.{audited_outcome_of, outcome_of}
-use Rattle.poolctl.specs.declared.asked.Asked.TheVariants.{Replay, AuditedReplay}
+use Rattle.poolctl_words.specs.declared.asked.Asked.TheVariants.{Replay, AuditedReplay}
 use Rattle.poolctl.specs.declared.outcome.Outcome.{Outcome}
 use Rattle.poolctl.specs.declared.outcome.Outcome.TheVariants.{Done, Stopped, AuditFailed, ReadFailed, WriteFailed}
 

@@ -10,13 +10,13 @@ use Rattle.trace_audit.specs.declared.replaying.ending.End.{End}
 use Rattle.trace_audit.specs.declared.replaying.ending.End.TheVariants.{Whole}
 use Rattle.trace_audit.specs.declared.replaying.ending.ReplayError.{ReplayError}
 use Rattle.trace_audit.specs.declared.replaying.ending.ReplayError.TheVariants.{Write}
-use Rattle.poolctl.specs.Asked.{Asks}
+use Rattle.poolctl_words.specs.Asked.{Asks}
 use Rattle.poolctl.specs.Classes.{class_lines}
 use Rattle.pool_jobs.specs.declared.tally.Tally.{Tally}
 use Rattle.poolctl.specs.Routes.{route_text}
 use Rattle.poolctl.specs.Works.{work_text}
-use Rattle.poolctl.specs.declared.asked.Asked.{Asked}
-use Rattle.poolctl.specs.declared.asked.Asked.TheVariants.{Classes, Route, Replay, AuditedReplay, Work}
+use Rattle.poolctl_words.specs.declared.asked.Asked.{Asked}
+use Rattle.poolctl_words.specs.declared.asked.Asked.TheVariants.{Classes, Route, Replay, AuditedReplay, Work}
 
 -- the audit says yes, where there is one
 abbrev pub SaysYes : Option Verdict → Type 0

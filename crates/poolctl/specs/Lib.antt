@@ -1,5 +1,3 @@
-pub mod CommandLine
-pub mod Asked
 pub mod Outcomes
 pub mod Classes
 pub mod Commands

@@ -3,9 +3,9 @@ use Rattle.std.specs.Prelude.{ℕ, List, ◌++◌, codes}
 use Rattle.trace_audit.specs.Report.{audit_line}
 use Rattle.pool_jobs.specs.declared.tally.Counts.{Counts}
 use Rattle.pool_jobs.specs.declared.tally.Tally.{Tally}
-use Rattle.poolctl.specs.Asked.{workload_name}
+use Rattle.poolctl_words.specs.Asked.{workload_name}
 use Rattle.poolctl.specs.Lines.{number_line, word_line}
-use Rattle.poolctl.specs.declared.asked.Work.{Work}
+use Rattle.poolctl_words.specs.declared.asked.Work.{Work}
 
 -- the workload, its threads, and what they counted
 abbrev pub counts_text : Work → Counts → List ℕ

@@ -1,16 +1,15 @@
 //! What each subcommand does.
 ghost use Rattle.std.specs.Prelude.{◌≡◌, ◌↔◌, ◌⊎◌, false, true, map, string_bytes};
 ghost use Rattle.trace_audit.specs.declared.replaying.ending.ReplayError.TheVariants.{Read};
-ghost use Rattle.poolctl.specs.Asked.{AreGood};
+ghost use Rattle.poolctl_words.specs.Asked.{AreGood};
 ghost use Rattle.poolctl.specs.Commands.{AsksFor, BeginsAll, BeginsClasses, BreaksOff, IsWorkload, TellsFault};
 ghost use Rattle.poolctl.specs.Commands.{WritesAll, WritesUpTo};
 
-use crate::asked::Asked;
 use crate::classes::write_classes;
 use crate::outcome::{Outcome, audited, replayed};
 use crate::route::write_route;
-use crate::words::{self, Unread};
 use crate::work::run_work;
+use poolctl_words::{Asked, Unread, read};
 use std::alloc::Global;
 use std::sync::Wait;
 use std::thread::Threads;
@@ -67,7 +66,7 @@ pub fn command<R: Source, W: Sink, H: Threads + Wait + Sync>(
     ensures refused { (text : _) → result ≡ Outcome.Refused text →
         (AreGood (map string_bytes words.now) → ⊥) × (source.new ≡ source.old) × (sink.new ≡ sink.old) }
 {
-    match words::read(alloc, words) {
+    match read(alloc, words) {
         Ok(Asked::Classes(profile)) => write_classes(alloc, profile, sink),
         Ok(Asked::Route(route)) => write_route(alloc, route, sink),
         Ok(Asked::Replay) => replayed(replay(alloc, source, sink)),

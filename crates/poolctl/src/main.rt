@@ -1,17 +1,14 @@
 //! The command line over the buffer pool: traces replayed, the size classes, and routes.
 #![tactic(auto)]
 
-mod asked;
 mod classes;
 mod commands;
 mod lines;
 mod outcome;
 mod route;
 mod streams;
-mod words;
 mod work;
 
-pub use asked::{Asked, Route};
 pub use commands::command;
 pub use outcome::Outcome;
 use std::process::ExitCode;

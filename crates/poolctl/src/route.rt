@@ -4,10 +4,10 @@ ghost use Rattle.std.specs.Io.KnownBytes.{Appends};
 ghost use Rattle.trace_audit.specs.Wire.{Begins};
 ghost use Rattle.poolctl.specs.Routes.{digits_line, route_text};
 
-use crate::asked::Route;
 use crate::lines::push_number;
 use crate::outcome::Outcome;
 use digit_route::Digits;
+use poolctl_words::Route;
 use std::alloc::{AllocError, Global};
 use trace_audit::{Sink, write_all};
 

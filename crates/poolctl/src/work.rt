@@ -4,15 +4,15 @@ ghost use Rattle.trace_audit.specs.Report.{audit_line};
 ghost use Rattle.trace_audit.specs.Wire.{Begins, Writes};
 ghost use Rattle.std.specs.Io.KnownBytes.{Appends};
 ghost use Rattle.pool_jobs.specs.declared.tally.Tally.{Tally as Counted};
-ghost use Rattle.poolctl.specs.Asked.{CanRun, workload_name};
+ghost use Rattle.poolctl_words.specs.Asked.{CanRun, workload_name};
 ghost use Rattle.poolctl.specs.Works.{counts_text, work_text};
 
-use crate::asked::Work;
 use crate::lines::{push_number, push_word};
 use crate::outcome::Outcome;
 use link_inbox::{LinkInbox, SendSeat, TakeSeat};
 use pool_fabric::Opening;
 use pool_jobs::{Counts, JobError, NoGate, Plan, Tally, Workload, work_linked};
+use poolctl_words::Work;
 use rand_pcg::Pcg32;
 use region_cut::{CHUNK, cut};
 use std::alloc::{AllocError, Global};

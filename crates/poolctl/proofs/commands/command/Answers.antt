@@ -1,6 +1,6 @@
-use Rattle.poolctl.proofs.Spelled.{asked_can_run}
+use Rattle.poolctl_words.proofs.Spelled.{asked_can_run}
 use Rattle.poolctl.proofs.Written.{all_begun, all_broken_off, all_written, no_memory_told, plain_all, plain_begun, plain_broken_off, plain_up_to, written_up_to}
-use Rattle.poolctl.specs.declared.asked.Asked.TheVariants.{Replay, AuditedReplay}
+use Rattle.poolctl_words.specs.declared.asked.Asked.TheVariants.{Replay, AuditedReplay}
 use Rattle.poolctl.proofs.commands.command.Goals as goal
 
 pub returns-in-Ok-Replay-clause-done : goal.returns-in-Ok-Replay-clause-done

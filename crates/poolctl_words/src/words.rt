@@ -1,7 +1,7 @@
 //! The words of the command line, read with `clap`.
 ghost use Rattle.std.specs.Prelude.{◌≡◌, map, string_bytes, IfOk, IfErr};
 ghost use Rattle.clap.specs.Words.{kind_of};
-ghost use Rattle.poolctl.specs.Asked.{AreGood, Asks};
+ghost use Rattle.poolctl_words.specs.Asked.{AreGood, Asks};
 
 mod arguments;
 mod found;

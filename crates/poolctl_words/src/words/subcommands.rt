@@ -2,7 +2,7 @@
 ghost use Rattle.std.specs.Prelude.{◌≡◌, codes, false, IfOk};
 ghost use Rattle.clap.specs.Words.{app_of, kind_of, new_app, with_rule, with_subcommand};
 ghost use Rattle.clap.specs.declared.Command.TheViews.{out-Command as fields_of};
-ghost use Rattle.poolctl.specs.CommandLine.{command_line, replay_app, route_app, wants_subcommand, work_app};
+ghost use Rattle.poolctl_words.specs.CommandLine.{command_line, replay_app, route_app, wants_subcommand, work_app};
 
 use super::arguments::{Choice, flag, number, option, plain_command, text, with_argument};
 use clap::error::ErrorKind;

@@ -1,8 +1,8 @@
 use Rattle.std.proofs.Common.{◌∙◌}
 use Rattle.clap.specs.Words.{found_of}
 use Rattle.clap.proofs.WalkLemmas.{first_value-rows}
-use Rattle.poolctl.proofs.Spelled.{no_workload_is}
-use Rattle.poolctl.proofs.words.found.names_no_workload.Goals as goal
+use Rattle.poolctl_words.proofs.Spelled.{no_workload_is}
+use Rattle.poolctl_words.proofs.words.found.names_no_workload.Goals as goal
 
 pub returns-in-Some : goal.returns-in-Some
 returns-in-Some c _ w named =

@@ -1,7 +1,7 @@
 use Rattle.std.proofs.Common.{◌∙◌, ap, ap₂}
 use Rattle.std.proofs.lemmas.Result.{IfOk-weaker}
 use Rattle.clap.specs.Words.{App, with_subcommand}
-use Rattle.poolctl.proofs.words.subcommands.commands.Goals as goal
+use Rattle.poolctl_words.proofs.words.subcommands.commands.Goals as goal
 
 pub returns : goal.returns
 returns c =

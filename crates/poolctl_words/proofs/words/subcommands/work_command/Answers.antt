@@ -1,7 +1,7 @@
 use Rattle.std.proofs.Common.{◌∙◌, ap₂}
 use Rattle.std.proofs.lemmas.Result.{IfOk-weaker}
 use Rattle.clap.specs.Words.{with_rule}
-use Rattle.poolctl.proofs.words.subcommands.work_command.Goals as goal
+use Rattle.poolctl_words.proofs.words.subcommands.work_command.Goals as goal
 
 pub returns-clause-app : goal.returns-clause-app
 returns-clause-app c =

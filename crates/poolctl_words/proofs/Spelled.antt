@@ -4,9 +4,9 @@ use Rattle.std.specs.Str.Parse.{ParsesUnsigned}
 use Rattle.clap.specs.Words.{ReadsOne, Row, Text, found_of, one_text, rows_of}
 use Rattle.clap.specs.declared.ArgMatches.{ArgMatches}
 use Rattle.clap.proofs.WalkLemmas.{one_text-rows}
-use Rattle.poolctl.specs.Asked.{AskedBy, CanRun, HasFlag, Reads, workload_name}
-use Rattle.poolctl.specs.declared.asked.Work as declared_work
-use Rattle.poolctl.specs.declared.asked.Asked.TheVariants.{Work}
+use Rattle.poolctl_words.specs.Asked.{AskedBy, CanRun, HasFlag, Reads, workload_name}
+use Rattle.poolctl_words.specs.declared.asked.Work as declared_work
+use Rattle.poolctl_words.specs.declared.asked.Asked.TheVariants.{Work}
 use Rattle.pool_jobs.specs.declared.workload.Workload.{Workload}
 use Rattle.pool_jobs.specs.declared.workload.Workload.TheVariants.{ProdCons, Ring, Replace}
 

@@ -1,7 +1,7 @@
 use Rattle.std.proofs.Common.{◌∙◌, ap, map, string_bytes, subst, sym}
 use Rattle.clap.specs.Words.{App, is_simple, subcommand_of, takes}
-use Rattle.poolctl.specs.Asked.{AskedBy, NamesWorkload}
-use Rattle.poolctl.proofs.words.read.Goals as goal
+use Rattle.poolctl_words.specs.Asked.{AskedBy, NamesWorkload}
+use Rattle.poolctl_words.proofs.words.read.Goals as goal
 
 pub returns-clause-refused : goal.returns-clause-refused
 returns-clause-refused c = λ good. c.why.ensures (c.in-Err.ensures.passes (ap (λ (a : App). takes a (map string_bytes c.args.words.now)) c.in-Ok.ensures ∙ good.0))

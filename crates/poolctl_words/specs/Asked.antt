@@ -5,11 +5,11 @@ use Rattle.region_cut.specs.Classes.{bits_of}
 use Rattle.region_cut.specs.declared.profile.Profile.{Profile}
 use Rattle.region_cut.specs.declared.profile.Profile.TheVariants.{Pool, Pool2}
 use Rattle.clap.specs.Words.{Row, Text, first_of, one_of, subcommand_of, takes}
-use Rattle.poolctl.specs.CommandLine.{command_line}
-use Rattle.poolctl.specs.declared.asked.Asked.{Asked}
-use Rattle.poolctl.specs.declared.asked.Asked.TheVariants.{Classes, Route, Replay, AuditedReplay, Work}
-use Rattle.poolctl.specs.declared.asked.Route as declared_route
-use Rattle.poolctl.specs.declared.asked.Work as declared_work
+use Rattle.poolctl_words.specs.CommandLine.{command_line}
+use Rattle.poolctl_words.specs.declared.asked.Asked.{Asked}
+use Rattle.poolctl_words.specs.declared.asked.Asked.TheVariants.{Classes, Route, Replay, AuditedReplay, Work}
+use Rattle.poolctl_words.specs.declared.asked.Route as declared_route
+use Rattle.poolctl_words.specs.declared.asked.Work as declared_work
 use Rattle.pool_jobs.specs.declared.workload.Workload.{Workload}
 use Rattle.pool_jobs.specs.declared.workload.Workload.TheVariants.{ProdCons, Ring, Replace}
 
