@@ -13,7 +13,7 @@ ghost use Rattle.digit_route.specs.Route.{GivesBucket};
 
 use crate::counter::{bytes_left, bytes_without};
 use crate::row::Row;
-use crate::{Batch, BatchSink, Digits, Posting, RouteError};
+use crate::{Batch, BatchSink, Digits, Posting, RouteError, Takers};
 use region_cut::Slot;
 use region_cut::endings::Endings;
 use slot_chain::{Buf, NoMemory};
@@ -50,14 +50,29 @@ impl<'r> Model for Cache<'r> {
 }
 
 impl<'r> Cache<'r> {
-    /// An empty cache for the desk `number`. It is due once it has more than `limit` bytes.
+    /// An empty cache for the desk `number`. It is due once it has more than `limit` bytes. Any
+    /// thread may take its batches.
     pub fn new(number: u16, digits: Digits, limit: u64) -> Cache<'r>
         requires number { number < 2 ^ digits.bits }
         requires limit { limit ≤ largest_limit }
         ensures { result ≡ record { number = number; digits = digits; limit = limit; items = [] } }
     {
         Cache {
-            row: Row::new(number, digits),
+            row: Row::new(number, digits, Takers::AnyThread),
+            limit,
+            bytes: 0,
+        }
+    }
+
+    /// An empty cache, as [`Cache::new`] makes it, for desks of one thread: then its lists are
+    /// linked in fewer steps. Its batches may go to other threads as well, where they cost more.
+    pub fn for_one_thread(number: u16, digits: Digits, limit: u64) -> Cache<'r>
+        requires number { number < 2 ^ digits.bits }
+        requires limit { limit ≤ largest_limit }
+        ensures { result ≡ record { number = number; digits = digits; limit = limit; items = [] } }
+    {
+        Cache {
+            row: Row::new(number, digits, Takers::SameThread),
             limit,
             bytes: 0,
         }
@@ -257,7 +272,7 @@ impl<'r> Cache<'r> {
         ensures value { MatchOption result ((self.old.items ≡ []) × (self.new.items ≡ []))
             (λ b. GivesBucket self.old.digits self.old.number self.old.items b self.new.items) }
     {
-        let empty = Row::new(self.row.number(), self.row.digits());
+        let empty = Row::new(self.row.number(), self.row.digits(), self.row.takers());
         let row = mem::replace(&mut self.row, empty);
         let (batch, row) = first_batch(row, self.limit);
         self.bytes = bytes_left(self.bytes, bytes_of(&batch), &row);

@@ -8,6 +8,7 @@ ghost use Rattle.slot_chain.specs.Counts.{capped, sizes};
 ghost use Rattle.digit_route.specs.Limits.{width_limit};
 ghost use Rattle.slot_chain.specs.Slots.{AddsSlots, slot_of};
 
+use crate::Takers;
 use arrayvec::ArrayVec;
 use region_cut::Slot;
 use region_cut::endings::Endings;
@@ -32,13 +33,13 @@ pub(crate) fn empty_chains<'r>(n: usize) -> Chains<'r>
     chains
 }
 
-/// Puts a buffer on the chain at `k`, which goes to another thread.
-pub(crate) fn push_at<'r>(chains: &mut Chains<'r>, k: usize, item: Buf<'r>)
+/// Puts a buffer on the chain at `k`.
+pub(crate) fn push_at<'r>(chains: &mut Chains<'r>, k: usize, item: Buf<'r>, takers: Takers)
     requires { k < array_vec_len chains.old }
     ensures { chains.new.items ≡ slice_set chains.old.items k
         (slice_index_or chains.old.items k [] ++ item.entry ∷ []) }
 {
-    chains[k].push_beside(item);
+    takers.push(&mut chains[k], item);
 }
 
 /// Takes out the whole chain at `k`.

@@ -5,8 +5,8 @@ ghost use Rattle.arrayvec.specs.ArrayVec.{array_vec_len};
 ghost use Rattle.slot_chain.specs.Counts.{capped};
 ghost use Rattle.digit_route.specs.Rows.{IsByDigit, Splits};
 
-use crate::Digits;
 use crate::chains::{Chains, push_at};
+use crate::{Digits, Takers};
 use slot_chain::Chain;
 
 /// Moves each buffer of `chain` into the chain of its owner's digit `round`, and counts them.
@@ -15,6 +15,7 @@ pub(crate) fn scatter<'r>(
     digits: Digits,
     round: u32,
     chain: Chain<'r>,
+    takers: Takers,
 ) -> u64
     requires { array_vec_len chains.old ≡ 2 ^ digits.width }
     ensures by_digit { IsByDigit digits round chains.old.items → IsByDigit digits round chains.new.items }
@@ -27,14 +28,20 @@ pub(crate) fn scatter<'r>(
     let mut moved = 0u64;
     while let Some(item) = chain.pop() {
         let k = digits.digit(item.owner(), round);
-        push_at(chains, k as usize, item);
+        push_at(chains, k as usize, item, takers);
         moved = moved.saturating_add(1);
     }
     moved
 }
 
 /// Moves all buffers of `from` into the chains of their owners' digits `round`.
-pub(crate) fn scatter_all<'r>(chains: &mut Chains<'r>, digits: Digits, round: u32, from: Chains<'r>)
+pub(crate) fn scatter_all<'r>(
+    chains: &mut Chains<'r>,
+    digits: Digits,
+    round: u32,
+    from: Chains<'r>,
+    takers: Takers,
+)
     requires { array_vec_len chains.old ≡ 2 ^ digits.width }
     ensures by_digit { IsByDigit digits round chains.old.items → IsByDigit digits round chains.new.items }
     ensures items { IsPermutation (flat_map (λ x. x) chains.old.items ++ flat_map (λ x. x) from.entry.items)
@@ -43,7 +50,7 @@ pub(crate) fn scatter_all<'r>(chains: &mut Chains<'r>, digits: Digits, round: u3
 {
     let mut from = from;
     while let Some(chain) = from.pop() {
-        let _moved = scatter(chains, digits, round, chain);
+        let _moved = scatter(chains, digits, round, chain, takers);
     }
 }
 
@@ -53,6 +60,7 @@ pub(crate) fn split<'r>(
     digits: Digits,
     near: u32,
     t: u16,
+    takers: Takers,
 ) -> (Chain<'r>, Chain<'r>)
     ensures { Splits digits near t chain.entry result.0 result.1 }
 {
@@ -61,9 +69,9 @@ pub(crate) fn split<'r>(
     let mut others = Chain::new();
     while let Some(item) = chain.pop() {
         if digits.common(item.owner(), t) > near {
-            nearer.push_beside(item);
+            takers.push(&mut nearer, item);
         } else {
-            others.push_beside(item);
+            takers.push(&mut others, item);
         }
     }
     (nearer, others)

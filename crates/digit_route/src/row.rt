@@ -15,7 +15,7 @@ use crate::chains::{
 };
 use crate::moves::{scatter, scatter_all, split};
 use crate::walks::{fault_in, some_owner};
-use crate::{Batch, Digits, RouteError};
+use crate::{Batch, Digits, RouteError, Takers};
 use region_cut::Slot;
 use region_cut::endings::Endings;
 use slot_chain::{Buf, Chain, NoMemory};
@@ -27,6 +27,7 @@ pub(crate) struct Row<'r> {
     number: u16,
     digits: Digits,
     round: u32,
+    takers: Takers,
     chains: Chains<'r>,
 }
 
@@ -54,6 +55,7 @@ impl Drop for Row<'_> {
             number: _,
             digits: _,
             round: _,
+            takers: _,
             chains,
         } = self;
         drop(chains);
@@ -62,7 +64,7 @@ impl Drop for Row<'_> {
 
 impl<'r> Row<'r> {
     /// An empty row, by the first digit.
-    pub(crate) fn new(number: u16, digits: Digits) -> Row<'r>
+    pub(crate) fn new(number: u16, digits: Digits, takers: Takers) -> Row<'r>
         requires { number < 2 ^ digits.bits }
         ensures { result ≡ record { number = number; digits = digits; round = 0; items = [] } }
     {
@@ -72,8 +74,14 @@ impl<'r> Row<'r> {
             number,
             digits,
             round: 0,
+            takers,
             chains,
         }
+    }
+
+    /// Who takes its buffers.
+    pub(crate) fn takers(&self) -> Takers {
+        self.takers
     }
 
     /// The desk.
@@ -137,6 +145,7 @@ impl<'r> Row<'r> {
             number: _,
             digits: _,
             round: _,
+            takers: _,
             chains,
         } = self;
         end_all(chains, endings);
@@ -149,7 +158,7 @@ impl<'r> Row<'r> {
         ensures items { IsPermutation (self.old.items ++ item.entry ∷ []) self.new.items }
     {
         let k = self.digits.digit(item.owner(), self.round);
-        push_at(&mut self.chains, k as usize, item);
+        push_at(&mut self.chains, k as usize, item, self.takers);
     }
 
     /// Adds the buffers of a chain.
@@ -158,7 +167,13 @@ impl<'r> Row<'r> {
         ensures same { self.new ≡ record self.old { items = self.new.items } }
         ensures items { IsPermutation (self.old.items ++ chain.entry) self.new.items }
     {
-        let _moved = scatter(&mut self.chains, self.digits, self.round, chain);
+        let _moved = scatter(
+            &mut self.chains,
+            self.digits,
+            self.round,
+            chain,
+            self.takers,
+        );
     }
 
     /// Why no bucket for `t` is taken.
@@ -188,7 +203,7 @@ impl<'r> Row<'r> {
         let near = self.digits.common(self.number, t);
         let k = self.digits.digit(t, 0) as usize;
         let whole = take_at(&mut self.chains, k);
-        let (nearer, others) = split(whole, self.digits, near, t);
+        let (nearer, others) = split(whole, self.digits, near, t, self.takers);
         set_at(&mut self.chains, k, others);
         nearer
     }
@@ -268,7 +283,13 @@ impl<'r> Row<'r> {
         let own = self.digits.digit(self.number, self.round);
         let chain = take_at(&mut self.chains, own as usize);
         self.round += 1;
-        scatter(&mut self.chains, self.digits, self.round, chain)
+        scatter(
+            &mut self.chains,
+            self.digits,
+            self.round,
+            chain,
+            self.takers,
+        )
     }
 
     /// The same buffers by the first digit.
@@ -283,14 +304,16 @@ impl<'r> Row<'r> {
             number,
             digits,
             round: _,
+            takers,
             chains,
         } = self;
         let mut fresh = empty_chains(digits.values());
-        scatter_all(&mut fresh, digits, 0, chains);
+        scatter_all(&mut fresh, digits, 0, chains, takers);
         Row {
             number,
             digits,
             round: 0,
+            takers,
             chains: fresh,
         }
     }

@@ -9,12 +9,12 @@ loop-item-init c = rw (c.new-nearer.ensures, c.new-others.ensures) (Parts-start 
 pub loop-item-preserved-then-common-near : goal.loop-item-preserved-then-common-near
 loop-item-preserved-then-common-near c =
     let is : c.common.result ≡ common c.args.digits c.in-Some.item.owner c.args.t = rw (← c.owner.ensures.value) c.common.ensures.value in
-    rw c.push_beside.ensures (Parts-taken _ _ _ _ _ _ _ _ _ c.loop-item.invariant c.in-Some.ensures (rw is at c.if-common-near.true))
+    rw c.push.ensures (Parts-taken _ _ _ _ _ _ _ _ _ c.loop-item.invariant c.in-Some.ensures (rw is at c.if-common-near.true))
 
 pub loop-item-preserved : goal.loop-item-preserved
 loop-item-preserved c =
     let is : c.common.result ≡ common c.args.digits c.in-Some.item.owner c.args.t = rw (← c.owner.ensures.value) c.common.ensures.value in
-    rw c.push_beside-else-common-near.ensures (Parts-kept _ _ _ _ _ _ _ _ _ c.loop-item.invariant c.in-Some.ensures (rw is at c.if-common-near.false))
+    rw c.push-else-common-near.ensures (Parts-kept _ _ _ _ _ _ _ _ _ c.loop-item.invariant c.in-Some.ensures (rw is at c.if-common-near.false))
 
 pub loop-item-smaller-then-common-near : goal.loop-item-smaller-then-common-near
 loop-item-smaller-then-common-near c = popped _ _ _ c.in-Some.ensures
