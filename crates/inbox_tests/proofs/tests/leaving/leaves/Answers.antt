@@ -1,0 +1,13 @@
+use denote.Exit.{no}
+use denote.Ref.{NamedLft}
+use denote.Param.Send.{IsSend, sendable, param_send, arg_send}
+use Rattle.std.proofs.Crossing.{crosses}
+use Rattle.pool_desk.proofs.Travels.{desk_send}
+use Rattle.inbox_tests.specs.contracts.tests.leaving.Leaving as Leaving
+use Rattle.inbox_tests.proofs.tests.leaving.leaves.Goals as goal
+
+leaving_send : (a : NamedLft) → IsSend (Leaving.the_row a)
+leaving_send a = search (sendable, crosses, desk_send) depth 40 fits 6000
+
+pub run_beside-seat-requires-send-X : goal.run_beside-seat-requires-send-X
+run_beside-seat-requires-send-X g c κs within = param_send _ _ (arg_send _ no _ (leaving_send (record { mir = _; lft = _ })))
