@@ -44,6 +44,10 @@ def refused(edit):
     with tempfile.TemporaryDirectory() as work:
         repository = pathlib.Path(work) / "repository"
         shutil.copytree(TOP, repository, ignore=shutil.ignore_patterns("out", ".git"))
+        # Where a crate has a folder for what is kept, though an empty one, rt takes over nothing that another copy on
+        # this machine kept of other sources. It would build the libraries over that before it looks at the edit.
+        for folder in (repository / "crates").iterdir():
+            (folder / "out" / "incremental").mkdir(parents=True)
         crate = repository / "crates" / edit.parent.parent.name
         path = crate / file
         text = path.read_text()
