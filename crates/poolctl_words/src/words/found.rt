@@ -1,7 +1,8 @@
 //! What `clap` found in the words.
 ghost use Rattle.std.specs.Prelude.{◌≡◌, ◌≢◌, ◌≤◌, true, codes, Some, IfSome};
 ghost use Rattle.clap.specs.Words.{first_of, found_of, rows_of, subcommand_rows_of};
-ghost use Rattle.poolctl_words.specs.Asked.{AskedBy, HasFlag, IsReplay, IsRoute, IsWork, NamesWorkload, Reads, workload_name};
+ghost use Rattle.poolctl_words.specs.Asked.{AskedBy, HasFlag, IsReplay, IsRoute, IsWork, NamesWorkload, Reads};
+ghost use Rattle.poolctl_words.specs.Asked.{workload_name};
 ghost use Rattle.pool_jobs.specs.declared.workload.Workload.{Workload};
 
 use super::subcommands::{AUDIT, DROP, NAME};

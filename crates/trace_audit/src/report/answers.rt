@@ -67,8 +67,8 @@ fn push_refusal(line: &mut Line, refusal: Refusal)
     push_text(line, refusal.name().as_bytes());
 }
 
-/// Makes this the line of an answer, whatever it was before. One line serves all answers of a trace: a new one is filled
-/// with zeros first.
+/// Makes this the line of an answer, whatever it was before. One line serves all answers of a trace: a new one is
+/// filled with zeros first.
 pub(crate) fn set_answer(line: &mut Line, answer: Result<Reply, Refusal>)
     ensures { line.new.items ≡ answer_line answer }
 {
