@@ -4,6 +4,6 @@ use Rattle.batch_inbox.specs.declared.error.PostError.{PostError}
 use Rattle.batch_inbox.specs.declared.error.PostError.TheVariants.{NoRoom, NoNode}
 
 -- they are told apart by these numbers
-abbrev pub number_of : PostError → ℕ
-number_of NoRoom = 1
-number_of NoNode = 2
+abbrev pub refusal_number : PostError → ℕ
+refusal_number NoRoom = 1
+refusal_number NoNode = 2

@@ -1,6 +1,6 @@
 //! Why a batch is not posted.
 ghost use Rattle.std.specs.Prelude.{◌≡◌};
-ghost use Rattle.batch_inbox.specs.Refusals.{number_of};
+ghost use Rattle.batch_inbox.specs.Refusals.{refusal_number};
 
 use thiserror::Error;
 
@@ -18,7 +18,7 @@ pub enum PostError {
 impl PostError {
     /// Its number, from 1.
     pub fn number(self) -> u32
-        ensures { result ≡ number_of self }
+        ensures { result ≡ refusal_number self }
     {
         match self {
             PostError::NoRoom => 1,

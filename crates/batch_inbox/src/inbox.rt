@@ -2,6 +2,7 @@
 ghost use Rattle.std.specs.Prelude.{◌≡◌, ℕ, ◌≤◌, [], ◌∷◌, ◌++◌};
 ghost use Rattle.std.specs.Prelude.{length, Some, slice_get, IfOk, IfErr, IfNone, MatchResult, MatchOption};
 ghost use Rattle.crossbeam_queue.specs.Fifo.{Learns};
+ghost use Rattle.batch_inbox.specs.Limits.{sender_limit};
 ghost use Rattle.batch_inbox.specs.Order.{IsInOrder};
 ghost use Rattle.batch_inbox.specs.States.{SendState, AreSeatsOf, AreNew, left, view_of};
 ghost use Rattle.batch_inbox.specs.Views.{batches_of, place_of};
@@ -57,7 +58,7 @@ impl<'r> Inbox<'r> {
         digits: Digits,
         senders: u16,
     ) -> Result<(Inbox<'r>, TakeSeat<'r>, Vec<SendSeat<'r>>), NoMemory>
-        requires senders { (1 ≤ senders) × (senders ≤ 64) }
+        requires senders { (1 ≤ senders) × (senders ≤ sender_limit) }
         ensures inbox { IfOk result (λ r. r.0.place ≡ record { address = address; digits = digits }) }
         ensures receiver { IfOk result (λ r. r.1 ≡ record { inbox = r.0; senders = senders; taken = [] }) }
         ensures senders { IfOk result (λ r.

@@ -1,5 +1,6 @@
 //! Inboxes that can be made new.
 ghost use Rattle.std.specs.Prelude.{◌≡◌, ℕ, true, ◌≤◌, [], length, Some, slice_get, IfOk};
+ghost use Rattle.batch_inbox.specs.Limits.{sender_limit};
 
 use crate::mail::{Mailbox, Receiver, Sender};
 use crate::{Inbox, SendSeat, TakeSeat};
@@ -20,7 +21,7 @@ pub trait NewMail<T: Receiver, S: Sender>: Mailbox + Sized {
         digits: Digits,
         senders: u16,
     ) -> Result<(Self, T, Vec<S>), NoMemory>
-        requires senders { (1 ≤ senders) × (senders ≤ 64) }
+        requires senders { (1 ≤ senders) × (senders ≤ sender_limit) }
         ensures inbox { IfOk result (λ r. (Self.id r.0).place ≡ record { address = address; digits = digits }) }
         ensures receiver { IfOk result (λ r.
             (T.inbox r.1 ≡ Self.id r.0) × (T.senders r.1 ≡ senders) × (T.taken r.1 ≡ [])) }

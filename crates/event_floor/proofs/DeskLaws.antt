@@ -22,7 +22,7 @@ use Rattle.pool_desk.specs.declared.freed.Freed.{Freed}
 use Rattle.pool_desk.specs.declared.freed.Freed.TheVariants.{Home, Cached, Due}
 use Rattle.event_floor.specs.declared.any_desk.AnyDesk.{AnyDesk}
 use Rattle.event_floor.specs.declared.any_desk.AnyDesk.TheVariants.{Idle, Held}
-use Rattle.event_floor.specs.Desks.{IsNumbered, HasPlace, held_by, Releases}
+use Rattle.event_floor.specs.Desks.{IsNumbered, HasPlace, in_hands_of, Releases}
 use Rattle.event_floor.specs.Floors.{IsKnown, IsDeskOf}
 
 -- a test holds of each number below n
@@ -182,7 +182,7 @@ handle_keeps digits limit n chunks a d d' bs h k s = record {
       (passed_known n chunks (others d.number bs) (All-filter (λ (b : Buffer). not (b.owner == d.number)) (IsKnown n chunks) bs k)) h.known);
 }
 
-pub adopt_keeps : (digits : Scheme) (limit n chunks a worker : ℕ) (s : AnyDesk) → IsDeskOf digits limit n chunks a s → IsDeskOf digits limit n chunks a (held_by worker s)
+pub adopt_keeps : (digits : Scheme) (limit n chunks a worker : ℕ) (s : AnyDesk) → IsDeskOf digits limit n chunks a s → IsDeskOf digits limit n chunks a (in_hands_of worker s)
 adopt_keeps digits limit n chunks a worker (Idle d) h = record { numbered = h.numbered; placed = h.placed; known = All-nil (IsKnown n chunks) }
 adopt_keeps digits limit n chunks a worker (Held d) h = h
 

@@ -15,7 +15,7 @@ use Rattle.pool_desk.specs.Desks.{DeskState, profile_at}
 use Rattle.event_floor.specs.declared.any_desk.AnyDesk.{AnyDesk}
 use Rattle.event_floor.specs.declared.any_desk.AnyDesk.TheVariants.{Idle, Held}
 use Rattle.event_floor.specs.Desks.{new_desk, new_desks, HasPlace}
-use Rattle.event_floor.specs.Lent.{AreInPlace, lent_at, place_of}
+use Rattle.event_floor.specs.Lent.{AreInPlace, lent_at, index_of}
 use Rattle.event_floor.specs.Inboxes.{QueuedState, inbox_at}
 use Rattle.event_floor.specs.Floors.{AreOwned, IsKnown, IsDeskOf, IsQueuedAt, IsFloorOf, IsFloor, no_desk, last_number}
 
@@ -121,7 +121,7 @@ nothing_owned : (n count : ℕ) → AreOwned n (replicate count None)
 nothing_owned n count i = none_at (λ (b : Buffer). b.owner < n) count i
 
 pub nothing_placed : (count : ℕ) → AreInPlace (replicate count None)
-nothing_placed count i = none_at (λ (b : Buffer). (place_of b.slot ≡ i) × (b.slot.index < 256)) count i
+nothing_placed count i = none_at (λ (b : Buffer). (index_of b.slot ≡ i) × (b.slot.index < 256)) count i
 
 owner_of : (n : ℕ) (test : Bool) (o : Option Buffer) (b : Buffer) → IfSome o (λ (b : Buffer). b.owner < n) → (if test then o else None) ≡ Some b → b.owner < n
 owner_of n true o b own is = subst (λ (z : Option Buffer). IfSome z (λ (b : Buffer). b.owner < n)) is own

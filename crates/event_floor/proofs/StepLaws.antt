@@ -28,7 +28,7 @@ use Rattle.event_floor.specs.Inboxes.{QueuedState, SendsTo, TakesFrom}
 use Rattle.event_floor.specs.Floors.{FloorState, IsHeld, with_desk, last_number}
 use Rattle.event_floor.specs.Steps.{Answers, Refuses, Does, DrawsChunk, LendsSlot, TakesBack, SendsBatch, TakesFront, Routes, class_limit}
 use Rattle.event_floor.specs.DeskAnswers.{reply_of, refusal_of, route_refusal}
-use Rattle.event_floor.specs.Lent.{lent_at, place_of}
+use Rattle.event_floor.specs.Lent.{lent_at, index_of}
 use Rattle.pool_machine.specs.declared.request.Request.{Request}
 use Rattle.pool_machine.specs.declared.request.Request.TheVariants.{Alloc, Free, Send}
 use Rattle.pool_machine.specs.declared.reply.Reply.{Reply}
@@ -70,7 +70,7 @@ alloc_refused v w a size d e refusal same held n f is =
     subst (λ (z : FloorState). Refuses z (Alloc a size) refusal) same (subst (λ z. Refuses v (Alloc a size) z) (sym is) (alloc_fault v a size d e held n f))
 
 pub lends_slot : (v w : FloorState) (a size : ℕ) (slot : Slot) (d d' : DeskState) (b : Buffer) (lent : List (Option Buffer)) → v ≡ w → IsHeld v a d → Allocs d size (Ok b) d'
-    → slot ≡ b.slot → lent ≡ set v.lent (place_of b.slot) (Some b) → LendsSlot w a size slot (record (with_desk v a d') { lent = lent })
+    → slot ≡ b.slot → lent ≡ set v.lent (index_of b.slot) (Some b) → LendsSlot w a size slot (record (with_desk v a d') { lent = lent })
 lends_slot v w a size slot d d' b lent same held allocs is put =
     subst (λ (z : FloorState). LendsSlot z a size slot (record (with_desk v a d') { lent = lent })) same (record {
       before = d;
@@ -79,7 +79,7 @@ lends_slot v w a size slot d d' b lent same held allocs is put =
       held = held;
       allocs = allocs;
       is_slot = sym is;
-      same = ap (λ (z : List (Option Buffer)). record (with_desk v a d') { lent = z }) (put ∙ ap (λ (z : Slot). set v.lent (place_of z) (Some b)) (sym is));
+      same = ap (λ (z : List (Option Buffer)). record (with_desk v a d') { lent = z }) (put ∙ ap (λ (z : Slot). set v.lent (index_of z) (Some b)) (sym is));
     })
 
 -- what becomes of a freed buffer is what the floor replies
@@ -89,7 +89,7 @@ freed_reply v new a chunk index Cached t = t
 freed_reply v new a chunk index Due t = t
 
 pub takes_back : (v w : FloorState) (a chunk index : ℕ) (d d' : DeskState) (b : Buffer) (f : Freed) (reply : Reply) (lent : List (Option Buffer)) → v ≡ w → IsHeld v a d
-    → lent_at v.lent chunk index ≡ Some b → b.slot ≡ record { chunk = chunk; index = index } → lent ≡ set v.lent (place_of b.slot) None → Frees d b f d' → reply ≡ reply_of f
+    → lent_at v.lent chunk index ≡ Some b → b.slot ≡ record { chunk = chunk; index = index } → lent ≡ set v.lent (index_of b.slot) None → Frees d b f d' → reply ≡ reply_of f
     → Does w (Free a (chunk, index)) reply (record (with_desk v a d') { lent = lent })
 takes_back v w a chunk index d d' b f reply lent same held was slot took frees is =
     let new = record (with_desk v a d') { lent = lent } in

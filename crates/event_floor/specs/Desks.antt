@@ -33,9 +33,9 @@ adopted worker d = record {
 abbrev pub retired : DeskState → IdleState
 retired d = record { number = d.number; digits = d.digits; limit = d.limit; home = d.home; drawn = d.drawn }
 
-abbrev pub held_by : ℕ → AnyDesk → AnyDesk
-held_by worker (Idle d) = Held (adopted worker d)
-held_by worker (Held d) = Held d
+abbrev pub in_hands_of : ℕ → AnyDesk → AnyDesk
+in_hands_of worker (Idle d) = Held (adopted worker d)
+in_hands_of worker (Held d) = Held d
 
 abbrev pub home_of : AnyDesk → List AtHome
 home_of (Idle d) = d.home

@@ -10,8 +10,8 @@ abbrev pub chunk_places : ℕ
 chunk_places = 256
 
 -- where the buffer of a slot lies
-abbrev pub place_of : Slot → ℕ
-place_of s = chunk_places * s.chunk + s.index
+abbrev pub index_of : Slot → ℕ
+index_of s = chunk_places * s.chunk + s.index
 
 -- the lent buffer of the slot with these numbers
 abbrev pub lent_at : List (Option Buffer) → ℕ → ℕ → Option Buffer
@@ -22,7 +22,7 @@ lent_at places chunk index =
 abbrev pub AreInPlace : List (Option Buffer) → Type 0
 AreInPlace places =
     (i : ℕ) → IfSome (slice_index_or places i None)
-    (λ (b : Buffer). (place_of b.slot ≡ i) × (b.slot.index < chunk_places))
+    (λ (b : Buffer). (index_of b.slot ≡ i) × (b.slot.index < chunk_places))
 
 -- the lent buffers, in the order of their places
 abbrev pub buffers_lent : List (Option Buffer) → List Buffer

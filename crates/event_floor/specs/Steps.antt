@@ -32,7 +32,7 @@ use Rattle.pool_machine.specs.declared.refusal.Refusal.TheVariants.{NoBatch, Not
 use Rattle.pool_machine.specs.declared.refusal.Refusal.TheVariants.{BadClass, Spent}
 use Rattle.event_floor.specs.declared.any_desk.AnyDesk.TheVariants.{Idle as IdleDesk}
 use Rattle.event_floor.specs.Desks.{adopted, retired}
-use Rattle.event_floor.specs.Lent.{lent_at, place_of}
+use Rattle.event_floor.specs.Lent.{lent_at, index_of}
 use Rattle.event_floor.specs.Inboxes.{QueuedState, inbox_at, sent_as, as_linked, no_batch, IsHalf, IsHalfOf, IsHalfAt}
 use Rattle.event_floor.specs.Inboxes.{SomeQueued, NoneQueued, HasNoFront}
 use Rattle.event_floor.specs.Floors.{FloorState, desk_count, profile_seen, IsIdle, IsHeld, with_any_desk, with_desk}
@@ -138,7 +138,7 @@ pub record LendsSlot (old : FloorState) (a size : ℕ) (slot : Slot) (new : Floo
   pub held : IsHeld old a before
   pub allocs : Allocs before size (Ok buffer) after
   pub is_slot : buffer.slot ≡ slot
-  pub same : new ≡ record (with_desk old a after) { lent = slice_set old.lent (place_of slot) (Some buffer) }
+  pub same : new ≡ record (with_desk old a after) { lent = slice_set old.lent (index_of slot) (Some buffer) }
 
 -- the desk was handed the lent buffer of the slot
 pub record TakesBack (old : FloorState) (a chunk index : ℕ) (freed : Freed) (new : FloorState) : Type 0 where
@@ -149,7 +149,7 @@ pub record TakesBack (old : FloorState) (a chunk index : ℕ) (freed : Freed) (n
   pub was_lent : lent_at old.lent chunk index ≡ Some buffer
   pub is_slot : buffer.slot ≡ record { chunk = chunk; index = index }
   pub frees : Frees before buffer freed after
-  pub same : new ≡ record (with_desk old a after) { lent = slice_set old.lent (place_of buffer.slot) None }
+  pub same : new ≡ record (with_desk old a after) { lent = slice_set old.lent (index_of buffer.slot) None }
 
 -- the desk's bucket for t left its cache, and waits in the inbox of t, behind all others, as a batch with the next
 -- number

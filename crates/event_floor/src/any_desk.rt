@@ -4,7 +4,7 @@ ghost use Rattle.slot_chain.specs.Buffer.{owner_limit};
 ghost use Rattle.slot_chain.specs.Slots.{slot_of};
 ghost use Rattle.digit_route.specs.Limits.{largest_limit};
 ghost use Rattle.pool_desk.specs.Homes.{slot_at};
-ghost use Rattle.event_floor.specs.Desks.{new_desks, held_by, home_of, cached_of, Releases};
+ghost use Rattle.event_floor.specs.Desks.{new_desks, in_hands_of, home_of, cached_of, Releases};
 
 use digit_route::Digits;
 use pool_desk::{Desk, IdleDesk};
@@ -44,7 +44,7 @@ pub(crate) fn idle_desks<'r>(
 /// Gives an idle desk to a worker. A held one stays as it is.
 pub(crate) fn hold<'r>(any: &mut AnyDesk<'r>, digits: Digits, worker: u32)
     requires { 0 < 2 ^ digits.bits }
-    ensures { any.new ≡ held_by worker any.old }
+    ensures { any.new ≡ in_hands_of worker any.old }
 {
     // the desk moves by value, and an empty one keeps its place for that time
     let empty = IdleDesk::new(0, digits, 0);
@@ -54,7 +54,7 @@ pub(crate) fn hold<'r>(any: &mut AnyDesk<'r>, digits: Digits, worker: u32)
 
 /// The desk in the hands of the worker. A held one stays as it is.
 fn adopted<'r>(any: AnyDesk<'r>, worker: u32) -> AnyDesk<'r>
-    ensures { result ≡ held_by worker any.entry }
+    ensures { result ≡ in_hands_of worker any.entry }
 {
     match any {
         AnyDesk::Idle(desk) => AnyDesk::Held(desk.adopt(worker)),

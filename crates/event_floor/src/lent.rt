@@ -6,7 +6,7 @@ ghost use Rattle.slot_chain.specs.Buffer.{ended_of};
 ghost use Rattle.std.specs.Prelude.{count_by};
 ghost use Rattle.slot_chain.specs.Slots.{slot_of};
 ghost use Rattle.region_cut.specs.Limits.{chunk_limit};
-ghost use Rattle.event_floor.specs.Lent.{chunk_places, lent_at, place_of, buffers_lent};
+ghost use Rattle.event_floor.specs.Lent.{chunk_places, lent_at, index_of, buffers_lent};
 
 use region_cut::Slot;
 use region_cut::endings::Endings;
@@ -52,9 +52,9 @@ impl<'r> Lent<'r> {
 
     /// Puts a lent buffer into the place of its slot.
     pub(crate) fn put(&mut self, buf: Buf<'r>)
-        requires within { place_of buf.slot < length self.old }
+        requires within { index_of buf.slot < length self.old }
         requires index { buf.slot.index < chunk_places }
-        ensures { self.new ≡ slice_set self.old (place_of buf.entry.slot) (Some buf.entry) }
+        ensures { self.new ≡ slice_set self.old (index_of buf.entry.slot) (Some buf.entry) }
     {
         let slot = buf.slot();
         let place = PLACES * slot.chunk as usize + slot.index as usize;
@@ -66,8 +66,8 @@ impl<'r> Lent<'r> {
         ensures { MatchOption result
             ((lent_at self.old chunk index ≡ None) × (self.new ≡ self.old))
             (λ b. (lent_at self.old chunk index ≡ Some b) × (b.slot ≡ record { chunk = chunk; index = index })
-            × (index < chunk_places) × (place_of b.slot < length self.old)
-            × (self.new ≡ slice_set self.old (place_of b.slot) None)) }
+            × (index < chunk_places) × (index_of b.slot < length self.old)
+            × (self.new ≡ slice_set self.old (index_of b.slot) None)) }
     {
         let place = PLACES * chunk as usize + index as usize;
         if index as usize >= PLACES || place >= self.places.len() {

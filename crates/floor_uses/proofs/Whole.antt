@@ -6,7 +6,7 @@ use Rattle.std.proofs.Math.Nat.{suc-mul}
 use Rattle.std.proofs.lemmas.List.{length-append, take-append-drop}
 use Rattle.std.proofs.lemmas.List.Elements.{All-nil, All-cons, All-head, All-tail, All-map, All-weaker, All-contains_itself}
 use Rattle.std.proofs.Math.Seq.{take-append_seam}
-use Rattle.region_cut.specs.declared.TheConstants.{CHUNK}
+use Rattle.region_cut.specs.Limits.{chunk_size}
 use Rattle.region_cut.specs.declared.endings.front.Front.{Front}
 use Rattle.region_cut.specs.declared.part.Part.{Part}
 use Rattle.region_cut.specs.Endings.{Ended, IsKnown, Agrees, name_at, end_in, ended_front}
@@ -25,12 +25,12 @@ length_flat f z (x ∷ xs) h =
 
 -- parts that stand at the beginning of the region, each a whole chunk, and then the tail
 pub whole_ends : (f : Front) (known : List Ended) (names : List GName) (region : List ℕ) (ρ : GName) → lent_of f ≡ names → whole_of f ≡ ρ
-    → rest_of f ≡ drop (CHUNK * length names) region → All (λ x. length (end_in known x) ≡ CHUNK) names → StandsAt (flat_map (end_in known) names) 0 region
+    → rest_of f ≡ drop (chunk_size * length names) region → All (λ x. length (end_in known x) ≡ chunk_size) names → StandsAt (flat_map (end_in known) names) 0 region
     → ended_front known f ≡ record { name = ρ; bytes = region }
 whole_ends f known names region ρ lent whole rest sizes stands =
     let joined = flat_map (end_in known) names in
-    let long : CHUNK * length names ≡ length joined = (let l = length_flat (end_in known) CHUNK names sizes in omega (arith, l)) in
-    let all : joined ++ drop (CHUNK * length names) region ≡ region =
+    let long : chunk_size * length names ≡ length joined = (let l = length_flat (end_in known) chunk_size names sizes in omega (arith, l)) in
+    let all : joined ++ drop (chunk_size * length names) region ≡ region =
     ap (λ n. joined ++ drop n region) long ∙ (ap (λ bs. bs ++ drop (length joined) region) (sym stands) ∙ take-append-drop (length joined) region) in
     ap (λ (ns : List GName). record { name = f.tie.whole; bytes = flat_map (end_in known) ns ++ f.rest.now }) lent
     ∙ (ap (λ (n : GName). record { name = n; bytes = joined ++ f.rest.now }) whole
@@ -66,10 +66,10 @@ joined_as known (p ∷ ps) h =
     ap (λ (bs : List ℕ). bs ++ flat_map (end_in known) (map name_of ps)) (All-head (EndSo known) p ps h)
     ∙ ap (λ (bs : List ℕ). bytes_of p ++ bs) (joined_as known ps (All-tail (EndSo known) p ps h))
 
-pub parts_whole : (ps : List Part) → Agrees (map ended_part ps) → All (λ x. length (end_in (map ended_part ps) x) ≡ CHUNK) (map name_of ps)
+pub parts_whole : (ps : List Part) → Agrees (map ended_part ps) → All (λ x. length (end_in (map ended_part ps) x) ≡ chunk_size) (map name_of ps)
 parts_whole ps one =
-    All-map (λ x. length (end_in (map ended_part ps) x) ≡ CHUNK) name_of ps
-    (All-weaker (EndSo (map ended_part ps)) (λ p. length (end_in (map ended_part ps) (name_of p)) ≡ CHUNK) (λ p h. ap length h ∙ p.is_whole) ps (end_so ps one))
+    All-map (λ x. length (end_in (map ended_part ps) x) ≡ chunk_size) name_of ps
+    (All-weaker (EndSo (map ended_part ps)) (λ p. length (end_in (map ended_part ps) (name_of p)) ≡ chunk_size) (λ p h. ap length h ∙ p.is_whole) ps (end_so ps one))
 
 -- and joined they end as they were
 pub parts_stand : (ps : List Part) (tail : List ℕ) → Agrees (map ended_part ps)

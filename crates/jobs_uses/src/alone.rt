@@ -4,7 +4,7 @@ ghost use Rattle.pool_fabric.specs.Whole.{IsWhole, IsEachDesk, AreNoted};
 
 use batch_inbox::{Inbox, SendSeat, TakeSeat};
 use pool_fabric::{Fabric, HeldStation, Naming, Opening};
-use pool_jobs::{Allocator, Counts, Ended, Entrance, JobError, NoGate, settle};
+use pool_jobs::{Allocator, BufferCounts, Ended, Entrance, JobError, NoGate, settle};
 use std::alloc::{AllocError, Global};
 use std::marker::Brand;
 use std::sync::Wait;
@@ -15,7 +15,7 @@ type Alone<'a, 'r, J> = Allocator<'a, 'r, Inbox<'r>, TakeSeat<'r>, SendSeat<'r>,
 #[derive(Drop)]
 struct Left<'r, J: Naming> {
     held: Vec<HeldStation<'r, TakeSeat<'r>, SendSeat<'r>, J>>,
-    counts: Counts,
+    counts: BufferCounts,
 }
 
 // Allocates a buffer, writes each byte and frees it, so often. Says what it counted.
@@ -24,8 +24,8 @@ fn allocate_some<'a, 'r, J: Naming, R: Wait>(
     allocator: &mut Alone<'a, 'r, J>,
     count: u32,
     size: usize,
-) -> Counts {
-    let mut counts = Counts::none();
+) -> BufferCounts {
+    let mut counts = BufferCounts::none();
     for _i in 0..count {
         match allocator.alloc(rt, size) {
             Ok(buffer) => {
@@ -55,7 +55,7 @@ fn at_work<'a, 'r, J: Naming, R: Wait>(
     let Some(mut allocator) = entrance.enter(rt) else {
         return Ok(Left {
             held,
-            counts: Counts::none(),
+            counts: BufferCounts::none(),
         });
     };
     let counts = allocate_some(rt, &mut allocator, count, size);

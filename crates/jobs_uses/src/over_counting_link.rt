@@ -10,7 +10,7 @@ use inbox_uses::Counting;
 use link_inbox::{LinkInbox, SendSeat, TakeSeat};
 use pool_fabric::{Fabric, Naming, Opening};
 use pool_jobs::crossing::{Back, Rounds, one_round};
-use pool_jobs::{Gate, JobError, Plan, Workload, settle};
+use pool_jobs::{Gate, JobError, MOST_THREADS, Plan, Workload, settle};
 use rand_core::{Rng, SeedableRng};
 use std::alloc::Global;
 use std::marker::Brand;
@@ -84,7 +84,7 @@ where
     ensures audit { IfOk result (λ w. let f = w.ended.found in
         Audited (slots_found f.desks.items f.batches.items) f.drawn w.ended.tally.audit) }
 {
-    let workers = opening.desks().min(64) as u16;
+    let workers = opening.desks().min(MOST_THREADS as usize) as u16;
     let fabric = Fabric::open(alloc, opening)?;
     let Seen {
         back,

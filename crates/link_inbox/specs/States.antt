@@ -11,6 +11,10 @@ use Rattle.link_inbox.specs.declared.rule.Role.{Role}
 use Rattle.link_inbox.specs.declared.rule.Role.TheVariants.{Idle, Prepared, Attached, Ready, Lifted, Spent}
 use Rattle.link_inbox.specs.Steps.{SeatState}
 
+-- the most nodes of an inbox: 16 of each sender, and one
+abbrev pub node_limit : ℕ
+node_limit = 1025
+
 abbrev pub key_of : TableId → List ℕ
 key_of t = t.words ∷ t.slots ∷ t.views_name ∷ t.atom ∷ t.block ∷ t.offset ∷ t.slot_names
 

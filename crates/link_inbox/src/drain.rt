@@ -1,6 +1,7 @@
 //! How an inbox is ended.
 ghost use Rattle.std.specs.Prelude.{◌≡◌, ◌*◌, ◌+◌, ◌%◌, ◌<◌, ◌≤◌, ◌++◌, [], ℕ};
 ghost use Rattle.std.specs.Prelude.{length, map, Some, slice_get, slice_index_or};
+ghost use Rattle.batch_inbox.specs.Limits.{sender_limit};
 ghost use Rattle.batch_inbox.specs.States.{left};
 ghost use Rattle.batch_inbox.specs.Views.{batches_of};
 ghost use Rattle.link_inbox.specs.States.{SendState, AreSeatsOf, inbox_of};
@@ -9,20 +10,20 @@ ghost use Rattle.link_inbox.specs.declared.rule.Role.TheVariants.{Ready};
 use crate::inbox::LinkInbox;
 use crate::rest::Rest;
 use crate::round::Round;
-use crate::rule::{SENDERS, Shelf, Token};
+use crate::rule::{SENDERS, SharedNodes, Token};
 use crate::seats::{SendSeat, TakeSeat};
 use crate::steps::Seats;
 
 // The receiver takes all senders in. Gives the turn of each.
 fn gathered<'r>(
-    words: &Shelf<'r>,
+    words: &SharedNodes<'r>,
     token: &mut Token<'r>,
     mut seats: Vec<SendSeat<'r>>,
 ) -> [u64; SENDERS]
     requires token { (token.old.table_id ≡ words.now.table_id) × (token.old.me.0.role ≡ Ready)
         × (token.old.me.0.known ≡ []) × (token.old.me.1 ≡ []) × (1 ≤ words.now.table_id.words) }
     requires seats { AreSeatsOf (inbox_of words.now.table_id words.now.key) seats.items
-        × (length seats.items ≤ 64) × (0 < length seats.items) }
+        × (length seats.items ≤ sender_limit) × (0 < length seats.items) }
     ensures token { (token.new.table_id ≡ token.old.table_id) × (token.new.me.0.role ≡ Ready)
         × (token.new.me.1 ≡ []) }
     ensures taken { (token.new.me.0.list ≡ token.old.me.0.list) × (token.new.me.0.made ≡ token.old.me.0.made) }

@@ -1,6 +1,7 @@
 //! The inbox.
 ghost use Rattle.std.specs.Prelude.{◌≡◌, ℕ, ◌≤◌, [], ◌∷◌, ◌++◌};
 ghost use Rattle.std.specs.Prelude.{length, Some, None, IfOk, IfErr, MatchResult, MatchOption};
+ghost use Rattle.batch_inbox.specs.Limits.{sender_limit};
 ghost use Rattle.batch_inbox.specs.Views.{place_of};
 ghost use Rattle.batch_inbox.specs.declared.error.PostError.TheVariants.{NoNode};
 ghost use Rattle.link_inbox.specs.States.{AreSeatsOf, AreNew, AreAtRest};
@@ -29,7 +30,7 @@ pub struct LinkInbox<'r> {
 impl<'r> Model for LinkInbox<'r> {
     ghost use Rattle.std.specs.Prelude.{◌≡◌, ◌+◌, ◌≤◌};
     ghost use Rattle.batch_inbox.specs.States.{InboxId};
-    ghost use Rattle.link_inbox.specs.States.{inbox_of};
+    ghost use Rattle.link_inbox.specs.States.{inbox_of, node_limit};
 
     ghost Value = { InboxId };
 
@@ -37,7 +38,7 @@ impl<'r> Model for LinkInbox<'r> {
 
     ghost invariant = { λ i. (i.nodes.shared.key ≡ i.place)
         × (i.nodes.shared.table_id.words ≡ i.nodes.shared.table_id.slots + 1)
-        × (i.nodes.shared.table_id.slots ≤ 1025) };
+        × (i.nodes.shared.table_id.slots ≤ node_limit) };
 }
 
 impl<'r> LinkInbox<'r> {
@@ -52,7 +53,7 @@ impl<'r> LinkInbox<'r> {
         digits: Digits,
         senders: u16,
     ) -> Result<(LinkInbox<'r>, TakeSeat<'r>, Vec<SendSeat<'r>>), NoMemory>
-        requires senders { (1 ≤ senders) × (senders ≤ 64) }
+        requires senders { (1 ≤ senders) × (senders ≤ sender_limit) }
         ensures inbox { IfOk result (λ r. r.0.place ≡ record { address = address; digits = digits }) }
         ensures receiver { IfOk result (λ r. r.1 ≡ record { inbox = r.0; senders = senders; taken = [] }) }
         ensures senders { IfOk result (λ r.

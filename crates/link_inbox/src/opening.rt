@@ -1,10 +1,11 @@
 //! How an inbox is opened: its nodes are made, and each sender gets a seat.
 ghost use Rattle.std.specs.Prelude.{◌≡◌, ℕ, ◌+◌, ◌*◌, ◌≤◌, [], length, IfOk};
+ghost use Rattle.batch_inbox.specs.Limits.{sender_limit};
 ghost use Rattle.link_inbox.specs.States.{inbox_of, AreSeatsOf, AreNew, AreAtRest};
 ghost use Rattle.link_inbox.specs.Steps.{opener, view};
 ghost use Rattle.link_inbox.specs.declared.rule.Role.TheVariants.{Ready};
 
-use crate::rule::{FREE, NODES, Nodes, Shelf, Token};
+use crate::rule::{FREE, NODES, Nodes, SharedNodes, Token};
 use crate::seats::SendSeat;
 use crate::steps::Seats;
 use atomic_table::Table;
@@ -17,7 +18,7 @@ pub(crate) fn opened<'r>(
     place: &Place,
     senders: u16,
 ) -> Result<(Nodes<'r>, Token<'r>), AllocError>
-    requires { (1 ≤ senders) × (senders ≤ 64) }
+    requires { (1 ≤ senders) × (senders ≤ sender_limit) }
     ensures nodes { IfOk result (λ r. (r.0.shared.table_id.slots ≡ senders * 16 + 1)
         × (r.0.shared.table_id.words ≡ senders * 16 + 2) × (r.0.shared.key ≡ place.now)) }
     ensures token { IfOk result (λ r.
@@ -33,7 +34,7 @@ pub(crate) fn opened<'r>(
 // Makes the seats of the senders, from sender 0 on.
 pub(crate) fn seated<'r>(
     alloc: Global,
-    words: &Shelf<'r>,
+    words: &SharedNodes<'r>,
     token: &mut Token<'r>,
     senders: u16,
 ) -> Result<Vec<SendSeat<'r>>, AllocError>

@@ -3,6 +3,7 @@ ghost use Rattle.std.specs.Prelude.{◌≡◌, ◌+◌, ◌-◌, ◌*◌, ◌/�
 ghost use Rattle.std.specs.Mem.Slots.{slots_filled, slots_items, slots_len};
 ghost use lib.ListN.{get_elem?};
 ghost use mathlib.Core.Option.{some};
+ghost use Rattle.batch_inbox.specs.Limits.{sender_limit};
 ghost use Rattle.digit_route.specs.States.{BatchState};
 ghost use Rattle.link_inbox.specs.Remains.{spot};
 
@@ -17,7 +18,7 @@ pub(crate) struct Round<'r> {
     pub(crate) turns: [u64; SENDERS],
     pub(crate) senders: u64,
     pub(crate) next: u64,
-    ghost sized: { (slots_len closed.slots ≡ senders * 16 + 1) × (senders ≤ 64) × (next ≤ senders * 16) },
+    ghost sized: { (slots_len closed.slots ≡ senders * 16 + 1) × (senders ≤ sender_limit) × (next ≤ senders * 16) },
     ghost filled: { (k : ℕ) → next ≤ k → k < senders * 16
         → slice_index_or (slots_filled closed.slots) (spot turns k) false ≡ true },
     ghost owned: { (n : ℕ) (b : BatchState) → get_elem? (slots_items closed.slots) n ≡ some (Some b)
@@ -27,7 +28,7 @@ pub(crate) struct Round<'r> {
 }
 
 pub(crate) fn spot_of(turns: &[u64; SENDERS], k: u64) -> usize
-    requires { k < 1024 }
+    requires { k < sender_limit * 16 }
     ensures { result ≡ spot turns.now k }
 {
     let turn = turns[k as usize / 16] % NODES;

@@ -71,6 +71,6 @@ impl<'r> TableRule<Option<Batch<'r>>, View<Batch<'r>>, Place> for InOrder {
 
 pub(crate) type Nodes<'r> = Table<Option<Batch<'r>>, View<Batch<'r>>, Place, InOrder, Global>;
 
-pub(crate) type Shelf<'r> = Shared<Option<Batch<'r>>, View<Batch<'r>>, Place, InOrder>;
+pub(crate) type SharedNodes<'r> = Shared<Option<Batch<'r>>, View<Batch<'r>>, Place, InOrder>;
 
 pub(crate) type Token<'r> = Seat<Option<Batch<'r>>, View<Batch<'r>>>;

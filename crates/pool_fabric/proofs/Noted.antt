@@ -4,7 +4,7 @@ use Rattle.std.proofs.Math.Dec.{eqb}
 use Rattle.std.proofs.lemmas.Bool.Decides.{eqb_tells}
 use Rattle.std.specs.Prelude.{Option, true, false, slice_get, ◌==◌}
 use Rattle.pool_desk.specs.Desks.{DeskState}
-use Rattle.slot_audit.specs.Audit.{class_at}
+use Rattle.slot_audit.specs.Audit.{class_noted}
 use Rattle.pool_fabric.specs.declared.ledger.DrawnChunk.{DrawnChunk}
 use Rattle.pool_fabric.specs.Weights.{weigh}
 use Rattle.pool_fabric.specs.Pages.{drawn_for}
@@ -71,5 +71,5 @@ noted desks gave got drawn t same drew_all = record {
       let f = drew_all (counts chunk class) in
       let one = some_weighs (counts chunk class) gave (omega arith) in
       let is = counts_only one.1 chunk class one.3 in
-      ap (class_at drawn) (sym is.0) ∙ t.told one.0 one.1 one.2 ∙ ap Some is.1;
+      ap (class_noted drawn) (sym is.0) ∙ t.told one.0 one.1 one.2 ∙ ap Some is.1;
 }

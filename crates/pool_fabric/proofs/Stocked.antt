@@ -7,7 +7,7 @@ use Rattle.std.proofs.lemmas.List.{get_or-reverse, length-reverse}
 use Rattle.std.proofs.lemmas.Option.{get_or_from_slice_get, slice_get_within, slice_get_read}
 use Rattle.region_cut.specs.declared.part.Part.{Part}
 use Rattle.region_cut.specs.Parts.{AreNumbered, number_of, numbers_from}
-use Rattle.slot_audit.specs.Audit.{class_at}
+use Rattle.slot_audit.specs.Audit.{class_noted}
 use Rattle.pool_fabric.specs.declared.ledger.DrawnChunk.{DrawnChunk}
 use Rattle.pool_fabric.specs.Pages.{drawn_for}
 use Rattle.pool_fabric.specs.Stocks.{StockState, IsRising, AreChunks, AreApart, AreUndrawn, AreTold, IsFull, GivesPart}
@@ -35,7 +35,7 @@ from_back ps i p e =
     (below, slice_get_read ps (length ps) (length ps - 1 - i) p refl (omega arith) (sym (get_or_from_slice_get (reverse ps) i p p e) ∙ get_or-reverse ps i p below))
 
 -- a stock of the parts of a cut
-pub is_full : (ps : List Part) (s : StockState) → AreNumbered ps → s.left ≡ reverse ps → ((k : ℕ) → class_at s.drawn k ≡ None) → IsFull s
+pub is_full : (ps : List Part) (s : StockState) → AreNumbered ps → s.left ≡ reverse ps → ((k : ℕ) → class_noted s.drawn k ≡ None) → IsFull s
 is_full ps s h left none = record {
   none = none;
   apart = record {
@@ -68,7 +68,7 @@ module _ (old : StockState) (class : ℕ) (p : Part) (new : StockState) (g : Giv
   here : slice_get old.left (length new.left) ≡ Some p
   here = ap (λ l. slice_get l (length new.left)) g.left ∙ get_seam new.left p []
 
-  none : class_at old.drawn p.chunk ≡ None
+  none : class_noted old.drawn p.chunk ≡ None
   none = undrawn.each (length new.left) p here
 
   pub gives_apart : AreApart new.left
@@ -86,17 +86,17 @@ module _ (old : StockState) (class : ℕ) (p : Part) (new : StockState) (g : Giv
     given = λ chunk c at.
         ⊎_elim
         (λ (h : (eqb chunk p.chunk ≡ true) × (chunk ≡ p.chunk)).
-        let both = sym at ∙ ap (class_at new.drawn) h.1 ∙ g.noted.noted in
+        let both = sym at ∙ ap (class_noted new.drawn) h.1 ∙ g.noted.noted in
         let same : c ≡ class = cc in
         (length gave, get_seam gave (drawn_for p.chunk class) [] ∙ (λ i. Some (drawn_for (sym h.1 i) (sym same i)))))
         (λ (h : (eqb chunk p.chunk ≡ false) × (chunk ≢ p.chunk)).
         let before = t.given chunk c (sym (g.noted.others chunk h.1) ∙ at) in
         (before.0, get_front gave (drawn_for p.chunk class ∷ []) before.0 (drawn_for chunk c) before.1))
         (eqb_tells chunk p.chunk);
-    told = each_more (λ k (d : DrawnChunk). class_at new.drawn d.chunk ≡ Some d.class) gave (drawn_for p.chunk class)
+    told = each_more (λ k (d : DrawnChunk). class_noted new.drawn d.chunk ≡ Some d.class) gave (drawn_for p.chunk class)
         (λ k d at.
         let before = t.told k d at in
-        let other : d.chunk ≢ p.chunk = λ e. let clash = sym before ∙ ap (class_at old.drawn) e ∙ none in absurd (cc) in
+        let other : d.chunk ≢ p.chunk = λ e. let clash = sym before ∙ ap (class_noted old.drawn) e ∙ none in absurd (cc) in
         g.noted.others d.chunk other ∙ before)
         g.noted.noted;
   }

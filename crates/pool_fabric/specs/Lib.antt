@@ -1,4 +1,5 @@
 pub mod Weights
+pub mod Limits
 pub mod Names
 pub mod Ledgers
 pub mod Pages

@@ -1,7 +1,7 @@
 -- What a contract sees of the stock of chunks.
 use Rattle.std.specs.Prelude.{◌≡◌, ◌≢◌, ℕ, ◌+◌, ◌<◌, ◌≤◌, List, [], ◌∷◌, ◌++◌, Option, Some, None, slice_get}
 use Rattle.region_cut.specs.declared.part.Part.{Part}
-use Rattle.slot_audit.specs.Audit.{class_at}
+use Rattle.slot_audit.specs.Audit.{class_noted}
 use Rattle.pool_fabric.specs.Weights.{weigh}
 use Rattle.pool_fabric.specs.declared.ledger.DrawnChunk.{DrawnChunk}
 use Rattle.pool_fabric.specs.Accounts.{of_part, of_entry}
@@ -32,17 +32,17 @@ pub record AreApart (ps : List Part) : Type 0 where
 
 -- none of these is told as drawn
 pub record AreUndrawn (drawn : List (Option ℕ)) (ps : List Part) : Type 0 where
-  pub each : (k : ℕ) (p : Part) → slice_get ps k ≡ Some p → class_at drawn p.chunk ≡ None
+  pub each : (k : ℕ) (p : Part) → slice_get ps k ≡ Some p → class_noted drawn p.chunk ≡ None
 
 -- the chunks told as drawn are those that were given, each for its class
 pub record AreTold (drawn : List (Option ℕ)) (gave : List DrawnChunk) : Type 0 where
-  pub given : (chunk class : ℕ) → class_at drawn chunk ≡ Some class
+  pub given : (chunk class : ℕ) → class_noted drawn chunk ≡ Some class
       → (k : ℕ) × (slice_get gave k ≡ Some (drawn_for chunk class))
-  pub told : (k : ℕ) (d : DrawnChunk) → slice_get gave k ≡ Some d → class_at drawn d.chunk ≡ Some d.class
+  pub told : (k : ℕ) (d : DrawnChunk) → slice_get gave k ≡ Some d → class_noted drawn d.chunk ≡ Some d.class
 
 -- no chunk is drawn yet, and each is there once
 pub record IsFull (s : StockState) : Type 0 where
-  pub none : (k : ℕ) → class_at s.drawn k ≡ None
+  pub none : (k : ℕ) → class_noted s.drawn k ≡ None
   pub apart : AreApart s.left
 
 -- no part is left of a lesser number
@@ -51,8 +51,8 @@ IsLeast p ps = (k : ℕ) (q : Part) → slice_get ps k ≡ Some q → p.chunk �
 
 -- the chunk is noted as drawn for the class, and nothing else
 pub record IsNoted (chunk class : ℕ) (old new : List (Option ℕ)) : Type 0 where
-  pub noted : class_at new chunk ≡ Some class
-  pub others : (k : ℕ) → k ≢ chunk → class_at new k ≡ class_at old k
+  pub noted : class_noted new chunk ≡ Some class
+  pub others : (k : ℕ) → k ≢ chunk → class_noted new k ≡ class_noted old k
 
 -- the part of least number was taken out, and its class noted
 pub record GivesPart (old : StockState) (class : ℕ) (p : Part) (new : StockState) : Type 0 where

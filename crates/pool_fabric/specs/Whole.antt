@@ -5,7 +5,7 @@ use Rattle.region_cut.specs.declared.slot.Slot.{Slot}
 use Rattle.region_cut.specs.declared.part.Part.{Part}
 use Rattle.slot_chain.specs.Buffer.{Buffer}
 use Rattle.digit_route.specs.States.{BatchState}
-use Rattle.slot_audit.specs.Audit.{class_at}
+use Rattle.slot_audit.specs.Audit.{class_noted}
 use Rattle.pool_desk.specs.Desks.{DeskState}
 use Rattle.pool_fabric.specs.Weights.{weigh}
 use Rattle.pool_fabric.specs.Accounts.{of_buffer, of_batch, of_part, held, owed, drawn_by}
@@ -47,5 +47,5 @@ pub record IsDrawn (desks : List DeskState) (chunk class : ℕ) : Type 0 where
 
 -- the chunks that are told as drawn are those that the desks drew, each for its class
 pub record AreNoted (desks : List DeskState) (drawn : List (Option ℕ)) : Type 0 where
-  pub only : (chunk class : ℕ) → class_at drawn chunk ≡ Some class → IsDrawn desks chunk class
-  pub all : (chunk class : ℕ) → IsDrawn desks chunk class → class_at drawn chunk ≡ Some class
+  pub only : (chunk class : ℕ) → class_noted drawn chunk ≡ Some class → IsDrawn desks chunk class
+  pub all : (chunk class : ℕ) → IsDrawn desks chunk class → class_noted drawn chunk ≡ Some class

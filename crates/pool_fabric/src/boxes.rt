@@ -1,7 +1,7 @@
 //! The inboxes of a fabric, with all their seats.
 ghost use Rattle.std.specs.Prelude.{◌≡◌, ◌≤◌, length, map, IfOk};
 ghost use Rattle.pool_fabric.specs.Gathered.{taking_of};
-ghost use Rattle.pool_fabric.specs.Opened.{AreOpened};
+ghost use Rattle.pool_fabric.specs.Opened.{AreOpened, most_desks};
 
 use crate::row::Row;
 use batch_inbox::{Mailbox, NewMail, Receiver, Sender};
@@ -23,7 +23,7 @@ pub(crate) fn open_boxes<T: Receiver, S: Sender, M: NewMail<T, S>>(
     digits: Digits,
     desks: u16,
 ) -> Result<Boxes<M, T, S>, NoMemory>
-    requires desks { (1 ≤ desks) × (desks ≤ 64) }
+    requires desks { (1 ≤ desks) × (desks ≤ most_desks) }
     ensures opened { IfOk result (λ b. AreOpened digits desks (map M.id b.inboxes.items)
         (map (taking_of T.inbox T.senders T.taken) b.takes.items) b.columns.items) }
     ensures count { IfOk result (λ b. (length b.inboxes.items ≡ desks)

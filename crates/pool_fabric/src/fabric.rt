@@ -216,11 +216,11 @@ impl<'r, T: Receiver, S: Sender, M: Mail<'r, TakeSeat = T, SendSeat = S>, J: Nam
     }
 
     /// Takes batches from the desk's inbox and handles each, until it is given none, but not more
-    /// than 64. Says how many.
+    /// than [`MOST_TAKEN`]. Says how many.
     pub fn take_some<R: Wait>(&self, rt: &R, desk: &mut Desk<'r>, seat: &mut T) -> u32
         requires digits { desk.old.digits ≡ J.names.digits }
         requires seat { T.inbox seat.old ≡ box_at J.names desk.old.number }
-        ensures most { result ≤ 64 }
+        ensures most { result ≤ MOST_TAKEN }
         ensures takes { TakesSome
             desk.old (record { inbox = T.inbox seat.old; senders = T.senders seat.old; taken = T.taken seat.old })
             result

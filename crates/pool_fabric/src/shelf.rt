@@ -1,5 +1,6 @@
 //! The stations that no worker holds.
 ghost use Rattle.std.specs.Prelude.{◌≡◌, ◌<◌, [], ◌∷◌, ◌++◌, length, IfOk, MatchResult, MatchOption};
+ghost use Rattle.pool_fabric.specs.Limits.{shelf_room};
 
 use crate::naming::Naming;
 use crate::station::Station;
@@ -11,7 +12,8 @@ use std::marker::Model;
 /// How many stations a shelf holds at most.
 pub const SHELF_ROOM: usize = 64;
 
-/// Stations that no worker holds, at most 64. Each of them has an empty cache, as its desk is idle.
+/// Stations that no worker holds, at most [`SHELF_ROOM`]. Each of them has an empty cache, as its
+/// desk is idle.
 ///
 /// A contract sees them as a list. The station that was put last is got first.
 #[derive(Drop)]
@@ -22,13 +24,14 @@ pub struct Shelf<'r, T: Receiver, S: Sender, J: Naming> {
 impl<'r, T: Receiver, S: Sender, J: Naming> Model for Shelf<'r, T, S, J> {
     ghost use Rattle.std.specs.Prelude.{List, ◌≤◌, length};
     ghost use Rattle.std.specs.Vec.{vec_capacity};
+    ghost use Rattle.pool_fabric.specs.Limits.{shelf_room};
     ghost use Rattle.pool_fabric.specs.Stations.{StationState};
 
     ghost Value = { List StationState };
 
     ghost view = { λ s. s.row.items };
 
-    ghost invariant = { λ s. (64 ≤ vec_capacity s.row) × (length s.row.items ≤ 64) };
+    ghost invariant = { λ s. (shelf_room ≤ vec_capacity s.row) × (length s.row.items ≤ shelf_room) };
 }
 
 impl<'r, T: Receiver, S: Sender, J: Naming> Shelf<'r, T, S, J> {
@@ -47,11 +50,11 @@ impl<'r, T: Receiver, S: Sender, J: Naming> Shelf<'r, T, S, J> {
         self.row.len()
     }
 
-    /// Puts a station on the shelf, or hands it back: just where the shelf holds 64, it is full.
+    /// Puts a station on the shelf, or hands it back: just where it holds [`SHELF_ROOM`].
     pub fn put(&mut self, station: Station<'r, T, S, J>) -> Result<(), Station<'r, T, S, J>>
         ensures { MatchResult result
-            (λ _. (length self.old < 64) × (self.new ≡ self.old ++ station.entry ∷ []))
-            (λ s. (length self.old ≡ 64) × (s ≡ station.entry) × (self.new ≡ self.old)) }
+            (λ _. (length self.old < shelf_room) × (self.new ≡ self.old ++ station.entry ∷ []))
+            (λ s. (length self.old ≡ shelf_room) × (s ≡ station.entry) × (self.new ≡ self.old)) }
     {
         if self.row.len() >= SHELF_ROOM {
             return Err(station);
@@ -62,7 +65,7 @@ impl<'r, T: Receiver, S: Sender, J: Naming> Shelf<'r, T, S, J> {
 
     /// Puts a station on a shelf that is not full.
     pub(crate) fn push(&mut self, station: Station<'r, T, S, J>)
-        requires { length self.old < 64 }
+        requires { length self.old < shelf_room }
         ensures { self.new ≡ self.old ++ station.entry ∷ [] }
     {
         self.row.push_reserved(station);

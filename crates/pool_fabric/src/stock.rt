@@ -1,6 +1,6 @@
 //! The chunks that nobody drew yet.
 ghost use Rattle.std.specs.Prelude.{◌≡◌, ℕ, ◌<◌, [], ◌∷◌, ◌++◌, length, reverse, None, MatchOption};
-ghost use Rattle.slot_audit.specs.Audit.{class_at};
+ghost use Rattle.slot_audit.specs.Audit.{class_noted};
 ghost use Rattle.pool_fabric.specs.Stocks.{IsRising, AreChunks, GivesPart, IsLeast};
 
 use region_cut::{Class, Part};
@@ -30,7 +30,7 @@ impl<'r> Stock<'r> {
         requires order { IsRising parts.items }
         requires chunks { AreChunks parts.items }
         ensures left { result.left ≡ reverse parts.entry.items }
-        ensures none { (k : ℕ) → class_at result.drawn k ≡ None }
+        ensures none { (k : ℕ) → class_noted result.drawn k ≡ None }
     {
         let mut parts = parts;
         parts.reverse();

@@ -6,7 +6,7 @@ ghost use Rattle.pool_desk.specs.Desks.{profile_at};
 ghost use Rattle.pool_fabric.specs.Calls.{ClaimsPart};
 ghost use Rattle.pool_fabric.specs.Posts.{Posts, TakesSome};
 
-use crate::fabric::Fabric;
+use crate::fabric::{Fabric, MOST_TAKEN};
 use crate::held::HeldStation;
 use crate::naming::Naming;
 use batch_inbox::{Mail, Receiver, Sender};
@@ -14,14 +14,14 @@ use region_cut::Class;
 use std::sync::Wait;
 
 impl<'r, T: Receiver, S: Sender, J: Naming> HeldStation<'r, T, S, J> {
-    /// Takes what is in the desk's inbox, at most 64 batches, and handles it. Says how many.
+    /// Takes what is in the desk's inbox, at most [`MOST_TAKEN`] batches, and handles it. Says how many.
     pub fn take<M: Mail<'r, TakeSeat = T, SendSeat = S>, R: Wait>(
         &mut self,
         rt: &R,
         fabric: &Fabric<'r, M, T, S, J>,
     ) -> u32
         ensures same { self.new ≡ record self.old { desk = self.new.desk; take = self.new.take } }
-        ensures most { result ≤ 64 }
+        ensures most { result ≤ MOST_TAKEN }
         ensures takes { TakesSome self.old.desk self.old.take result self.new.desk self.new.take }
     {
         fabric.take_some(rt, &mut self.desk, &mut self.take)

@@ -3,10 +3,10 @@ use Rattle.std.specs.Prelude.{◌+◌, List, Option, Some, None, sum_by, filter_
 use Rattle.slot_chain.specs.Counts.{capped}
 use Rattle.pool_fabric.specs.Stations.{StationState}
 use Rattle.pool_jobs.specs.declared.counting.Done.{Done}
-use Rattle.pool_jobs.specs.declared.tally.Counts.{Counts}
+use Rattle.pool_jobs.specs.declared.tally.BufferCounts.{BufferCounts}
 
 -- nothing was counted
-abbrev pub none_counted : Counts
+abbrev pub none_counted : BufferCounts
 none_counted = record { allocated = 0; freed = 0; starved = 0; lost = 0 }
 
 -- who got no allocator left no station and counted nothing
@@ -14,7 +14,7 @@ abbrev pub station_of : {T S J : Type 0} → Option (Done T S J) → Option Stat
 station_of None = None
 station_of (Some d) = d.station
 
-abbrev pub counts_of : {T S J : Type 0} → Option (Done T S J) → Counts
+abbrev pub counts_of : {T S J : Type 0} → Option (Done T S J) → BufferCounts
 counts_of None = none_counted
 counts_of (Some d) = d.counts
 
@@ -22,7 +22,7 @@ abbrev pub stations_of : {T S J : Type 0} → List (Option (Done T S J)) → Lis
 stations_of lefts = filter_map station_of lefts
 
 -- two counts added up, none beyond the greatest u64
-abbrev pub both : Counts → Counts → Counts
+abbrev pub both : BufferCounts → BufferCounts → BufferCounts
 both a b = record {
   allocated = capped (a.allocated + b.allocated);
   freed = capped (a.freed + b.freed);
@@ -31,7 +31,7 @@ both a b = record {
 }
 
 -- what all of these counted
-abbrev pub counted_by : {T S J : Type 0} → List (Option (Done T S J)) → Counts
+abbrev pub counted_by : {T S J : Type 0} → List (Option (Done T S J)) → BufferCounts
 counted_by lefts = record {
   allocated = capped (sum_by (λ left. (counts_of left).allocated) lefts);
   freed = capped (sum_by (λ left. (counts_of left).freed) lefts);

@@ -3,7 +3,7 @@ ghost use Rattle.std.specs.Prelude.{◌≡◌, [], ◌∷◌, ◌++◌, IfOk, On
 ghost use Rattle.pool_jobs.specs.Counted.{both, counted_by, counts_of, none_counted, stations_of};
 
 use crate::counting::Done;
-use crate::tally::Counts;
+use crate::tally::BufferCounts;
 use batch_inbox::{Receiver, Sender};
 use pool_fabric::{HeldStation, Naming};
 use std::alloc::{AllocError, Global};
@@ -12,7 +12,7 @@ use std::alloc::{AllocError, Global};
 #[derive(Drop)]
 pub struct Back<'r, T: Receiver, S: Sender, J: Naming> {
     pub held: Vec<HeldStation<'r, T, S, J>>,
-    pub counts: Counts,
+    pub counts: BufferCounts,
 }
 
 impl<'r, T: Receiver, S: Sender, J: Naming> Back<'r, T, S, J> {
@@ -23,7 +23,7 @@ impl<'r, T: Receiver, S: Sender, J: Naming> Back<'r, T, S, J> {
     {
         Back {
             held: Vec::new(alloc),
-            counts: Counts::none(),
+            counts: BufferCounts::none(),
         }
     }
 
@@ -36,7 +36,7 @@ impl<'r, T: Receiver, S: Sender, J: Naming> Back<'r, T, S, J> {
         ensures held { IfOk result (λ b. b.held.items ≡ stations_of lefts.entry.items) }
     {
         let mut held = Vec::new(alloc);
-        let mut counts = Counts::none();
+        let mut counts = BufferCounts::none();
         for left in lefts {
             let more = kept(&mut held, left)?;
             counts = counts.plus(more);
@@ -61,12 +61,12 @@ impl<'r, T: Receiver, S: Sender, J: Naming> Back<'r, T, S, J> {
 fn kept<'r, T: Receiver, S: Sender, J: Naming>(
     held: &mut Vec<HeldStation<'r, T, S, J>>,
     left: Option<Done<'r, T, S, J>>,
-) -> Result<Counts, AllocError>
+) -> Result<BufferCounts, AllocError>
     ensures counts { IfOk result (λ c. c ≡ counts_of left.entry) }
     ensures held { OnOk result (held.new.items ≡ held.old.items ++ stations_of (left.entry ∷ [])) }
 {
     let Some(Done { station, counts }) = left else {
-        return Ok(Counts::none());
+        return Ok(BufferCounts::none());
     };
     if let Some(station) = station {
         held.push(station)?;

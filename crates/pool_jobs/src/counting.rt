@@ -10,7 +10,7 @@ use crate::buffer::Buffer;
 use crate::error::PoolError;
 use crate::gate::Gate;
 use crate::heap::Heap;
-use crate::tally::Counts;
+use crate::tally::BufferCounts;
 use batch_inbox::{Mail, Mailbox, Receiver, Sender};
 use pool_fabric::{HeldStation, Naming};
 use std::sync::Wait;
@@ -19,14 +19,14 @@ use std::sync::Wait;
 #[derive(Drop)]
 pub struct Done<'r, T: Receiver, S: Sender, J: Naming> {
     pub(crate) station: Option<HeldStation<'r, T, S, J>>,
-    pub(crate) counts: Counts,
+    pub(crate) counts: BufferCounts,
 }
 
 /// An allocator that counts its calls.
 #[derive(Drop)]
 pub struct Counting<'a, 'r, M: Mailbox, T: Receiver, S: Sender, G: Gate, J: Naming> {
     allocator: Allocator<'a, 'r, M, T, S, G, J>,
-    counts: Counts,
+    counts: BufferCounts,
 }
 
 impl<'a, 'r, M: Mailbox, T: Receiver, S: Sender, G: Gate, J: Naming> Counting<
@@ -47,7 +47,7 @@ impl<'a, 'r, M: Mailbox, T: Receiver, S: Sender, G: Gate, J: Naming> Counting<
     {
         Counting {
             allocator,
-            counts: Counts::none(),
+            counts: BufferCounts::none(),
         }
     }
 

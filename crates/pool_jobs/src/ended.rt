@@ -8,7 +8,7 @@ ghost use Rattle.pool_jobs.specs.Ends.{slots_found, IsEndFault};
 use crate::back::Back;
 use crate::error::JobError;
 use crate::hand::Reported;
-use crate::tally::{Counts, Tally};
+use crate::tally::{BufferCounts, Tally};
 use batch_inbox::{Mail, Receiver, Sender};
 use pool_fabric::{Fabric, Found, GatherError, HeldStation, Naming, account, gather};
 use std::alloc::Global;
@@ -51,7 +51,7 @@ pub fn settle<
     alloc: Global,
     fabric: Fabric<'r, M, T, S, J>,
     held: Vec<HeldStation<'r, T, S, J>>,
-    counts: Counts,
+    counts: BufferCounts,
 ) -> Result<Ended<'r>, JobError>
     ensures whole { IfOk result (λ e. IsWhole e.found.desks.items e.found.batches.items e.found.lent.items
         e.found.freed.items e.found.parts.items J.names.chunks) }

@@ -199,16 +199,16 @@ pub struct Reported<'r, T: Receiver, S: Sender, J: Naming, A: Drop> {
 
 // What was left of all tasks, and what they answered, each in order.
 #[derive(Drop)]
-struct Sorted<H: Hand, K: Task> {
+struct Answered<H: Hand, K: Task> {
     lefts: Vec<Option<H::Left>>,
     answers: Vec<Option<K::Answer>>,
 }
 
 // Takes apart what came back of all tasks.
-fn sorted_out<H: Hand, K: Task>(
+fn taken_apart<H: Hand, K: Task>(
     alloc: Global,
     all: Vec<Served<H, K>>,
-) -> Result<Sorted<H, K>, AllocError>
+) -> Result<Answered<H, K>, AllocError>
     ensures each { IfOk result (λ r. length r.answers.items ≡ length all.items) }
     ensures lefts { IfOk result (λ r. r.lefts.items ≡ map (λ s. s.left) all.items) }
 {
@@ -219,7 +219,7 @@ fn sorted_out<H: Hand, K: Task>(
         lefts.push(left)?;
         answers.push(answer)?;
     }
-    Ok(Sorted { lefts, answers })
+    Ok(Answered { lefts, answers })
 }
 
 /// Takes in what came back of all tasks.
@@ -238,7 +238,7 @@ where
     ensures counted { IfOk result (λ r. r.back.counts ≡ counted_by (map (λ s. s.left) all.entry.items)) }
     ensures held { IfOk result (λ r. r.back.held.items ≡ stations_of (map (λ s. s.left) all.entry.items)) }
 {
-    let Sorted { lefts, answers } = sorted_out(alloc, all)?;
+    let Answered { lefts, answers } = taken_apart(alloc, all)?;
     let back = Back::of(alloc, lefts)?;
     Ok(Reported { answers, back })
 }

@@ -23,7 +23,7 @@ pub enum Role<B: Drop> {
 
 /// A worker with its role.
 #[derive(Drop)]
-pub(crate) struct Turn<S: Starter> {
+pub(crate) struct HandingTurn<S: Starter> {
     starter: S,
     alloc: Global,
     count: u32,
@@ -81,11 +81,11 @@ pub(crate) fn hand_over<W: Worker, R: Wait>(
     worker.end(rt)
 }
 
-impl<S: Starter> Job for Turn<S> {
+impl<S: Starter> Job for HandingTurn<S> {
     type Out = Spent<S>;
 
     fn run<R: Wait>(self, rt: &R) -> Spent<S> {
-        let Turn {
+        let HandingTurn {
             starter,
             alloc,
             count,
@@ -103,7 +103,7 @@ pub(crate) fn paired<S: Starter>(
     alloc: Global,
     starters: Vec<S>,
     count: u32,
-) -> Result<Vec<Turn<S>>, AllocError>
+) -> Result<Vec<HandingTurn<S>>, AllocError>
     ensures each { IfOk result (λ turns. length turns.items ≡ length starters.items) }
 {
     let mut left = starters.len();
@@ -127,7 +127,7 @@ pub(crate) fn paired<S: Starter>(
                 }
             }
         };
-        turns.push(Turn {
+        turns.push(HandingTurn {
             starter,
             alloc,
             count,
@@ -142,7 +142,7 @@ pub(crate) fn in_a_ring<S: Starter>(
     alloc: Global,
     starters: Vec<S>,
     count: u32,
-) -> Result<Vec<Turn<S>>, AllocError>
+) -> Result<Vec<HandingTurn<S>>, AllocError>
     ensures each { IfOk result (λ turns. length turns.items ≡ length starters.items) }
 {
     let mut left = starters.len();
@@ -162,7 +162,7 @@ pub(crate) fn in_a_ring<S: Starter>(
         };
         let role = Role::Neighbour(to, from);
         from = next;
-        turns.push(Turn {
+        turns.push(HandingTurn {
             starter,
             alloc,
             count,

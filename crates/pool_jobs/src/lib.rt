@@ -39,6 +39,6 @@ pub use heap::{Bytes, Heap};
 pub use over_inbox::{run, work};
 pub use over_link::{run_linked, work_linked};
 pub use plan::{MOST_BUFFERS, MOST_ROUNDS, MOST_THREADS, Plan};
-pub use tally::{Counts, Tally};
+pub use tally::{BufferCounts, Tally};
 pub use task::Task;
 pub use workload::Workload;

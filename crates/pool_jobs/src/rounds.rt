@@ -11,7 +11,7 @@ use crate::crew::crew;
 use crate::error::JobError;
 use crate::gate::Gate;
 use crate::handing::{in_a_ring, paired};
-use crate::plan::Plan;
+use crate::plan::{MOST_THREADS, Plan};
 use crate::rows::{Places, Round, Spent, with_rows};
 use crate::workload::Workload;
 use batch_inbox::{Mail, Mailbox, Receiver, Sender};
@@ -35,13 +35,13 @@ pub struct Begun<S: Starter> {
 
 // What several workers left, and their rows, each in order.
 #[derive(Drop)]
-struct Sorted<S: Starter> {
+struct RowsLeft<S: Starter> {
     lefts: Vec<Option<S::Left>>,
     rows: Vec<Places<S::Buffer>>,
 }
 
 // Takes apart what came back of a round.
-fn sorted_out<S: Starter>(alloc: Global, spent: Vec<Spent<S>>) -> Result<Sorted<S>, AllocError>
+fn rows_left<S: Starter>(alloc: Global, spent: Vec<Spent<S>>) -> Result<RowsLeft<S>, AllocError>
     ensures lefts { IfOk result (λ r. r.lefts.items ≡ map (λ s. s.left) spent.items) }
 {
     let mut lefts = Vec::new(alloc);
@@ -51,7 +51,7 @@ fn sorted_out<S: Starter>(alloc: Global, spent: Vec<Spent<S>>) -> Result<Sorted<
         lefts.push(left)?;
         rows.push(row)?;
     }
-    Ok(Sorted { lefts, rows })
+    Ok(RowsLeft { lefts, rows })
 }
 
 // The row of each worker goes to the next, the last one's to the first.
@@ -224,7 +224,9 @@ impl<
             is_first: number == 0,
             is_last: number.saturating_add(1) == self.count(),
         };
-        let seed = u64::from(self.plan.seed).wrapping_add(u64::from(number).wrapping_mul(64));
+        // each worker of each round draws from a seed of its own
+        let earlier = u64::from(number).wrapping_mul(u64::from(MOST_THREADS));
+        let seed = u64::from(self.plan.seed).wrapping_add(earlier);
         let drops = self.plan.drop_first && self.back.counts.lost == 0;
         let rows = self.rows_out()?;
         let starters = self.starters(seed, drops)?;
@@ -246,7 +248,7 @@ impl<
         ensures counted { OnOk result (self.new.counts
             ≡ both self.old.counts (counted_by (map (λ s. s.left) spent.entry.items))) }
     {
-        let Sorted { lefts, rows } = sorted_out(self.alloc, spent)?;
+        let RowsLeft { lefts, rows } = rows_left(self.alloc, spent)?;
         self.rows = turned(rows)?;
         self.back.add(Back::of(self.alloc, lefts)?)?;
         Ok(())

@@ -58,7 +58,7 @@ pub struct Round {
 
 /// A worker with its row.
 #[derive(Drop)]
-pub(crate) struct Turn<S: Starter> {
+pub(crate) struct RowTurn<S: Starter> {
     starter: S,
     row: Places<S::Buffer>,
     round: Round,
@@ -123,11 +123,11 @@ pub(crate) fn replace<W: Worker, R: Wait>(
     worker.end(rt)
 }
 
-impl<S: Starter> Job for Turn<S> {
+impl<S: Starter> Job for RowTurn<S> {
     type Out = Spent<S>;
 
     fn run<R: Wait>(self, rt: &R) -> Spent<S> {
-        let Turn {
+        let RowTurn {
             starter,
             mut row,
             round,
@@ -143,7 +143,7 @@ pub(crate) fn with_rows<S: Starter>(
     starters: Vec<S>,
     rows: Vec<Places<S::Buffer>>,
     round: Round,
-) -> Result<Vec<Turn<S>>, AllocError>
+) -> Result<Vec<RowTurn<S>>, AllocError>
     ensures each { IfOk result (λ turns. length turns.items ≡ length starters.items) }
 {
     let mut rows = rows;
@@ -153,7 +153,7 @@ pub(crate) fn with_rows<S: Starter>(
             Some(row) => row,
             None => Places::new(alloc)?,
         };
-        turns.push(Turn {
+        turns.push(RowTurn {
             starter,
             row,
             round,

@@ -6,7 +6,7 @@ use slot_audit::Fault;
 
 /// What workers counted. Each count stops at the greatest `u64`.
 #[derive(Clone, Copy, Debug, PartialEq, Eq)]
-pub struct Counts {
+pub struct BufferCounts {
     /// The buffers that were allocated.
     pub allocated: u64,
     /// The calls of `free`.
@@ -17,12 +17,12 @@ pub struct Counts {
     pub lost: u64,
 }
 
-impl Counts {
+impl BufferCounts {
     /// Nothing was counted.
-    pub fn none() -> Counts
+    pub fn none() -> BufferCounts
         ensures { result ≡ none_counted }
     {
-        Counts {
+        BufferCounts {
             allocated: 0,
             freed: 0,
             starved: 0,
@@ -31,10 +31,10 @@ impl Counts {
     }
 
     /// Both counts, added up.
-    pub fn plus(self, other: Counts) -> Counts
+    pub fn plus(self, other: BufferCounts) -> BufferCounts
         ensures { result ≡ both self other }
     {
-        Counts {
+        BufferCounts {
             allocated: self.allocated.saturating_add(other.allocated),
             freed: self.freed.saturating_add(other.freed),
             starved: self.starved.saturating_add(other.starved),
@@ -43,10 +43,10 @@ impl Counts {
     }
 
     /// The same counts, where all buffers that were not freed are dropped.
-    pub(crate) fn with_the_rest_lost(self) -> Counts
+    pub(crate) fn with_the_rest_lost(self) -> BufferCounts
         ensures { result ≡ record self { lost = self.allocated - self.freed } }
     {
-        Counts {
+        BufferCounts {
             lost: self.allocated.saturating_sub(self.freed),
             ..self
         }
@@ -56,6 +56,6 @@ impl Counts {
 /// What all workers counted, and what the audit says of all that was found when they had ended.
 #[derive(Clone, Copy, Debug, PartialEq, Eq)]
 pub struct Tally {
-    pub counts: Counts,
+    pub counts: BufferCounts,
     pub audit: Result<(), Fault>,
 }

@@ -8,7 +8,7 @@ use Rattle.pool_machine.specs.declared.request.Request.TheVariants.{Adopt, Retir
 use Rattle.pool_machine.specs.declared.reply.Reply.TheVariants.{Done, Chunk, Slot as Lent, Home, Cached, Due, Batch, Counts}
 use Rattle.pool_machine.specs.declared.refusal.Refusal.{Refusal}
 use Rattle.pool_machine.specs.State.{State, owner_of, slots, has_home, home_with, bucket, least_class, profile_at}
-use Rattle.pool_machine.specs.Refusals.{conditions, refusal, slot_at}
+use Rattle.pool_machine.specs.Refusals.{conditions, refusal, slot_named}
 use Rattle.pool_machine.specs.Steps.{Answer, Answers}
 use Rattle.pool_machine.proofs.Basics.{none_hold, any_witness}
 use Rattle.pool_machine.proofs.Words.{bytes_with, coming_home, going_on}
@@ -46,15 +46,15 @@ alloc_answered st a n e =
     (Ok (Lent w.0), (e, w.1))
 
 free_answered : (st : State) (a : ℕ) (pair : ℕ × ℕ) → refusal st (Free a pair) ≡ None → HasAnswer st (Free a pair)
-free_answered st a pair e = go (owner_of st (slot_at pair) == a) refl
+free_answered st a pair e = go (owner_of st (slot_named pair) == a) refl
   where
-    others : owner_of st (slot_at pair) ≢ a → HasAnswer st (Free a pair)
-    others n = elim (cases_lt st.limit (bytes_with st a (slot_at pair))) as (λ _. HasAnswer st (Free a pair)) [
+    others : owner_of st (slot_named pair) ≢ a → HasAnswer st (Free a pair)
+    others n = elim (cases_lt st.limit (bytes_with st a (slot_named pair))) as (λ _. HasAnswer st (Free a pair)) [
       | inl l ↦ (Ok Due, (e, (n, l)))
       | inr l ↦ (Ok Cached, (e, (n, l)))
     ]
 
-    go : (b : Bool) → (owner_of st (slot_at pair) == a) ≡ b → HasAnswer st (Free a pair)
+    go : (b : Bool) → (owner_of st (slot_named pair) == a) ≡ b → HasAnswer st (Free a pair)
     go true q = (Ok Home, (e, eqb-true _ _ q))
     go false q = others (eqb-false _ _ q)
 

@@ -10,7 +10,7 @@ use Rattle.pool_machine.specs.declared.reply.Reply.TheVariants.{Done, Chunk, Slo
 use Rattle.region_cut.specs.Classes.{size_of}
 use Rattle.region_cut.specs.Slots.{same_slot}
 use Rattle.pool_machine.specs.State.{owner_of}
-use Rattle.pool_machine.specs.Refusals.{refusal, slot_at}
+use Rattle.pool_machine.specs.Refusals.{refusal, slot_named}
 use Rattle.pool_machine.specs.Steps.{Answer, Replies, with_holder, after_free, after_send}
 use Rattle.pool_machine.specs.Listing.{Listing, DeskListing, Entry, desk_listing, Labelled}
 use Rattle.pool_machine.proofs.Located.{Located, LocatedStep}
@@ -50,9 +50,9 @@ FreeReplies v a e d _ = ⊥
 
 pub free_applies : (v : Listing) (a : ℕ) (pair : ℕ × ℕ) (e : Entry) (lent : List Entry) (d : DeskListing) (r : Reply) →
     refusal_seen v (Free a pair) ≡ None →
-    e.slot ≡ slot_at pair → FreeEdits v a e lent d → FreeReplies v a e d r → LocatedStep v (Free a pair) (Ok r) (after_edits v a lent d)
+    e.slot ≡ slot_named pair → FreeEdits v a e lent d → FreeReplies v a e d r → LocatedStep v (Free a pair) (Ok r) (after_edits v a lent d)
 free_applies v a pair e lent d r z s f p st count h =
-    (after_free st a (slot_at pair), ((n, replies r p), refl), shown)
+    (after_free st a (slot_named pair), ((n, replies r p), refl), shown)
   where
     n : refusal st (Free a pair) ≡ None
     n = refusal_agrees v st count h (Free a pair) ∙ z
@@ -60,25 +60,25 @@ free_applies v a pair e lent d r z s f p st count h =
     l : a < length v.desks
     l = leb-false (length v.desks) a (none_holds _ _ _ z).0
 
-    shown : Located (after_edits v a lent d) (after_free st a (slot_at pair)) (λ s. if same_slot (slot_at pair) s then 0 else count s)
+    shown : Located (after_edits v a lent d) (after_free st a (slot_named pair)) (λ s. if same_slot (slot_named pair) s then 0 else count s)
     shown = free_shown v st count a pair e lent d h l n s f
 
-    owner : e.owner ≡ owner_of st (slot_at pair)
+    owner : e.owner ≡ owner_of st (slot_named pair)
     owner = (All-head (Labelled st) e lent (All-permutation (Labelled st) v.lent (e ∷ lent)
         (IsPermutation-sym (e ∷ lent) v.lent f.leaves) h.lent)).0 ∙ ap (owner_of st) s
 
-    bytes : bytes_with st a (slot_at pair) ≡ seen_bytes d
-    bytes = bytes_seen (after_edits v a lent d) (after_free st a (slot_at pair)) (λ s. if same_slot (slot_at pair) s then 0 else count s) a shown
+    bytes : bytes_with st a (slot_named pair) ≡ seen_bytes d
+    bytes = bytes_seen (after_edits v a lent d) (after_free st a (slot_named pair)) (λ s. if same_slot (slot_named pair) s then 0 else count s) a shown
         ∙ ap seen_bytes (desk_here v a d l)
 
     replies : (r : Reply) → FreeReplies v a e d r → Replies st (Free a pair) r
     replies Home p = sym owner ∙ p
     replies Cached p = (
       (λ q. p.0 (owner ∙ q)),
-      subst (λ m. bytes_with st a (slot_at pair) ≤ m) h.frame.limit
+      subst (λ m. bytes_with st a (slot_named pair) ≤ m) h.frame.limit
           (subst (λ m. m ≤ v.limit) (sym bytes) p.1),
     )
-    replies Due p = ((λ q. p.0 (owner ∙ q)), subst (λ m. m < bytes_with st a (slot_at pair)) h.frame.limit (subst (λ m. v.limit < m) (sym bytes) p.1))
+    replies Due p = ((λ q. p.0 (owner ∙ q)), subst (λ m. m < bytes_with st a (slot_named pair)) h.frame.limit (subst (λ m. v.limit < m) (sym bytes) p.1))
     replies Done p = elim p [ ]
     replies (Chunk m) p = elim p [ ]
     replies (Lent m) p = elim p [ ]

@@ -10,7 +10,7 @@ use Rattle.pool_machine.specs.declared.reply.Reply.TheVariants.{Done, Chunk, Slo
 use Rattle.pool_machine.specs.declared.refusal.Refusal.{Refusal}
 use Rattle.pool_machine.specs.declared.refusal.Refusal.TheVariants.{NoDesk, Idle, TooLarge, NeedChunk, NotNeeded, NoChunk, NotLent, NothingFor, NotAnOwner, ToSelf, NoBatch, Nothing, Unsettled, Held, NoMemory, BadClass, Spent}
 use Rattle.pool_machine.specs.State.{profile_at, least_class, State, owner_of, home_with, bucket, InBatch, slots_at}
-use Rattle.pool_machine.specs.Refusals.{refusal, slot_at}
+use Rattle.pool_machine.specs.Refusals.{refusal, slot_named}
 use Rattle.pool_machine.specs.Worked.{asked, answered, Allows, Forbids}
 use Rattle.pool_machine.specs.Steps.{Answer, front_of, Replies, Answers, after, Run}
 use Rattle.pool_machine.proofs.Words.{bytes_with}
@@ -20,9 +20,9 @@ replies st (Adopt a x) Done = true
 replies st (Retire a) Done = true
 replies st (Claim a c) (Chunk k) = nat_lt k st.chunks && is_none (st.drawn k)
 replies st (Alloc a n) (Lent s) = home_with st a (least_class (profile_at st) n) s
-replies st (Free a pair) Home = owner_of st (slot_at pair) == a
-replies st (Free a pair) Cached = not (owner_of st (slot_at pair) == a) && nat_le (bytes_with st a (slot_at pair)) st.limit
-replies st (Free a pair) Due = not (owner_of st (slot_at pair) == a) && nat_lt st.limit (bytes_with st a (slot_at pair))
+replies st (Free a pair) Home = owner_of st (slot_named pair) == a
+replies st (Free a pair) Cached = not (owner_of st (slot_named pair) == a) && nat_le (bytes_with st a (slot_named pair)) st.limit
+replies st (Free a pair) Due = not (owner_of st (slot_named pair) == a) && nat_lt st.limit (bytes_with st a (slot_named pair))
 replies st (Send a t) (Batch n m) = (n == st.next) && (m == length (bucket st a t))
 replies st (Link n) Done = true
 replies st (Take b) (Counts h o) =
@@ -80,10 +80,10 @@ replies_right st (Claim a c) (Chunk k) e =
 replies_right st (Alloc a n) (Lent s) e = e
 replies_right st (Free a pair) Home e = eqb-true _ _ e
 replies_right st (Free a pair) Cached e =
-    let h = both_true (not (owner_of st (slot_at pair) == a)) (nat_le (bytes_with st a (slot_at pair)) st.limit) e in
+    let h = both_true (not (owner_of st (slot_named pair) == a)) (nat_le (bytes_with st a (slot_named pair)) st.limit) e in
     (eqb-false _ _ (not-true _ h.0), leb-true _ _ h.1)
 replies_right st (Free a pair) Due e =
-    let h = both_true (not (owner_of st (slot_at pair) == a)) (nat_lt st.limit (bytes_with st a (slot_at pair))) e in
+    let h = both_true (not (owner_of st (slot_named pair) == a)) (nat_lt st.limit (bytes_with st a (slot_named pair))) e in
     (eqb-false _ _ (not-true _ h.0), ltb-true _ _ h.1)
 replies_right st (Send a t) (Batch n m) e =
     let h = both_true (n == st.next) (m == length (bucket st a t)) e in (eqb-true _ _ h.0, eqb-true _ _ h.1)
@@ -101,10 +101,10 @@ replies_all st (Claim a c) (Chunk k) g = and_from (nat_lt k st.chunks) (is_none 
 replies_all st (Alloc a n) (Lent s) g = g
 replies_all st (Free a pair) Home g = eq-eqb _ _ g
 replies_all st (Free a pair) Cached g =
-    and_from (not (owner_of st (slot_at pair) == a)) (nat_le (bytes_with st a (slot_at pair)) st.limit) (not_from_false _ (ne_eqb _ _ g.0))
+    and_from (not (owner_of st (slot_named pair) == a)) (nat_le (bytes_with st a (slot_named pair)) st.limit) (not_from_false _ (ne_eqb _ _ g.0))
     (le-leb _ _ g.1)
 replies_all st (Free a pair) Due g =
-    and_from (not (owner_of st (slot_at pair) == a)) (nat_lt st.limit (bytes_with st a (slot_at pair))) (not_from_false _ (ne_eqb _ _ g.0))
+    and_from (not (owner_of st (slot_named pair) == a)) (nat_lt st.limit (bytes_with st a (slot_named pair))) (not_from_false _ (ne_eqb _ _ g.0))
     (lt-ltb _ _ g.1)
 replies_all st (Send a t) (Batch n m) g = and_from (n == st.next) (m == length (bucket st a t)) (eq-eqb _ _ g.0) (eq-eqb _ _ g.1)
 replies_all st (Link n) Done g = refl

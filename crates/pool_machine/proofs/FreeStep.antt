@@ -9,7 +9,7 @@ use Rattle.pool_machine.specs.declared.request.Request.TheVariants.{Free}
 use Rattle.region_cut.specs.Slots.{same_slot, times}
 use Rattle.pool_machine.specs.Slots.{one_if}
 use Rattle.pool_machine.specs.State.{State, Place, AtHome, OnLoan, InCache, InBatch, owner_of, same_place}
-use Rattle.pool_machine.specs.Refusals.{refusal, no_desk, slot_at}
+use Rattle.pool_machine.specs.Refusals.{refusal, no_desk, slot_named}
 use Rattle.pool_machine.specs.Steps.{after_free, relocate, move_one}
 use Rattle.pool_machine.specs.Sound.{Sound}
 use Rattle.pool_machine.specs.Listing.{slots_seen, Listing, DeskListing, Entry, BatchListing, desk_listing, Labelled, Counted, ShowsFrame}
@@ -248,23 +248,23 @@ module _ (v : Listing) (st : State) (count : Slot → ℕ) (a : ℕ) (e : Entry)
       cached_at p b false q = subst (λ x. Labels x.cache) (sym (desk_other v a b d q)) (cached_stay v st count e.slot (InCache a) b h there)
 
 -- the slot of an accepted free is lent
-pub accepted_lent : (st : State) (a : ℕ) (pair : ℕ × ℕ) → refusal st (Free a pair) ≡ None → same_place OnLoan (st.place (slot_at pair)) ≡ true
+pub accepted_lent : (st : State) (a : ℕ) (pair : ℕ × ℕ) → refusal st (Free a pair) ≡ None → same_place OnLoan (st.place (slot_named pair)) ≡ true
 accepted_lent st a pair n =
     let e1 = none_holds (no_desk st a) _ _ n in
     let e2 = none_holds _ _ _ e1.1 in
-    let e3 = none_holds (not (same_place OnLoan (st.place (slot_at pair)))) _ _ e2.1 in
-    not-false (same_place OnLoan (st.place (slot_at pair))) e3.0
+    let e3 = none_holds (not (same_place OnLoan (st.place (slot_named pair)))) _ _ e2.1 in
+    not-false (same_place OnLoan (st.place (slot_named pair))) e3.0
 
 -- an accepted free, whatever the owner
 pub free_shown : (v : Listing) (st : State) (count : Slot → ℕ) (a : ℕ) (pair : ℕ × ℕ) (e : Entry) (lent : List Entry) (d : DeskListing) →
-    Located v st count → a < length v.desks → refusal st (Free a pair) ≡ None → e.slot ≡ slot_at pair → FreeEdits v a e lent d →
-    Located (after_edits v a lent d) (after_free st a (slot_at pair)) (λ s. if same_slot (slot_at pair) s then 0 else count s)
-free_shown v st count a pair e lent d h l n z f = go (owner_of st (slot_at pair) == a) refl
+    Located v st count → a < length v.desks → refusal st (Free a pair) ≡ None → e.slot ≡ slot_named pair → FreeEdits v a e lent d →
+    Located (after_edits v a lent d) (after_free st a (slot_named pair)) (λ s. if same_slot (slot_named pair) s then 0 else count s)
+free_shown v st count a pair e lent d h l n z f = go (owner_of st (slot_named pair) == a) refl
   where
     was : same_place OnLoan (st.place e.slot) ≡ true
     was = ap (λ s. same_place OnLoan (st.place s)) z ∙ accepted_lent st a pair n
 
-    sound : Sound (after_free st a (slot_at pair)) (λ s. if same_slot (slot_at pair) s then 0 else count s)
+    sound : Sound (after_free st a (slot_named pair)) (λ s. if same_slot (slot_named pair) s then 0 else count s)
     sound = free_step st count a pair h.sound n
 
     Result : Slot → Place → Type 0
@@ -273,14 +273,14 @@ free_shown v st count a pair e lent d h l n z f = go (owner_of st (slot_at pair)
     Before : Slot → Place → Type 0
     Before s q = Sound (relocate (move_one s q) st) (λ r. if same_slot s r then 0 else count r)
 
-    go : (b : Bool) → (owner_of st (slot_at pair) == a) ≡ b → Result (slot_at pair) (freed_place st a (slot_at pair))
+    go : (b : Bool) → (owner_of st (slot_named pair) == a) ≡ b → Result (slot_named pair) (freed_place st a (slot_named pair))
     go true q =
-        let p : freed_place st a (slot_at pair) ≡ AtHome = ap (λ (x : Bool). if x then AtHome else InCache a) q in
-        subst (λ x. Result (slot_at pair) x) (sym p) (subst (λ x. Result x AtHome) z
-        (freed_home v st count a e lent d h l f was (ap (owner_of st) z ∙ eqb-true (owner_of st (slot_at pair)) a q)
-        (subst (λ x. Before x AtHome) (sym z) (subst (λ x. Before (slot_at pair) x) p sound))))
+        let p : freed_place st a (slot_named pair) ≡ AtHome = ap (λ (x : Bool). if x then AtHome else InCache a) q in
+        subst (λ x. Result (slot_named pair) x) (sym p) (subst (λ x. Result x AtHome) z
+        (freed_home v st count a e lent d h l f was (ap (owner_of st) z ∙ eqb-true (owner_of st (slot_named pair)) a q)
+        (subst (λ x. Before x AtHome) (sym z) (subst (λ x. Before (slot_named pair) x) p sound))))
     go false q =
-        let p : freed_place st a (slot_at pair) ≡ InCache a = ap (λ (x : Bool). if x then AtHome else InCache a) q in
-        subst (λ x. Result (slot_at pair) x) (sym p) (subst (λ x. Result x (InCache a)) z
-        (freed_cache v st count a e lent d h l f was (λ o. eqb-false (owner_of st (slot_at pair)) a q (ap (owner_of st) (sym z) ∙ o))
-        (subst (λ x. Before x (InCache a)) (sym z) (subst (λ x. Before (slot_at pair) x) p sound))))
+        let p : freed_place st a (slot_named pair) ≡ InCache a = ap (λ (x : Bool). if x then AtHome else InCache a) q in
+        subst (λ x. Result (slot_named pair) x) (sym p) (subst (λ x. Result x (InCache a)) z
+        (freed_cache v st count a e lent d h l f was (λ o. eqb-false (owner_of st (slot_named pair)) a q (ap (owner_of st) (sym z) ∙ o))
+        (subst (λ x. Before x (InCache a)) (sym z) (subst (λ x. Before (slot_named pair) x) p sound))))

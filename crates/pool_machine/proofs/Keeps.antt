@@ -10,7 +10,7 @@ use Rattle.region_cut.specs.Classes.{slots_of}
 use Rattle.region_cut.specs.Slots.{same_slot}
 use Rattle.pool_machine.specs.Slots.{has_index}
 use Rattle.pool_machine.specs.State.{Place, AtHome, OnLoan, InCache, InBatch, Waiting, State, owner_of, class_of, slots, home_with, in_bucket, inbox, digits_of, same_place, is_at}
-use Rattle.pool_machine.specs.Refusals.{refusal, no_desk, slot_at}
+use Rattle.pool_machine.specs.Refusals.{refusal, no_desk, slot_named}
 use Rattle.pool_machine.specs.Steps.{Answer, relocate, move_one, move_bucket, move_batch, with_holder, with_chunk, front_of, after_send, after_take, after_free, after, Answers, Run}
 use Rattle.pool_machine.specs.Forwards.{counted, forwards}
 use Rattle.pool_machine.specs.Sound.{Member, GoesNearer, FitsIn, Fits, FitsWaiting, Rising, Sound}
@@ -401,17 +401,17 @@ alloc_step st c a z s h e =
     agree r false q = refl
 
 pub free_step : (st : State) (c : Slot → ℕ) (a : ℕ) (pair : ℕ × ℕ) → Sound st c → refusal st (Free a pair) ≡ None →
-    Sound (after_free st a (slot_at pair)) (λ s. if same_slot (slot_at pair) s then 0 else c s)
+    Sound (after_free st a (slot_named pair)) (λ s. if same_slot (slot_named pair) s then 0 else c s)
 free_step st c a pair h e =
     let e1 = none_holds (no_desk st a) _ _ e in
     let e2 = none_holds _ _ _ e1.1 in
-    let e3 = none_holds (not (same_place OnLoan (st.place (slot_at pair)))) _ _ e2.1 in
-    moved_sound st c (slot_at pair) (freed_place st a (slot_at pair)) 0 h (inr (not-false (same_place OnLoan (st.place (slot_at pair))) e3.0))
-    (fit (owner_of st (slot_at pair) == a) refl) (lt_of_le_of_lt zero-le (h.few (slot_at pair)))
+    let e3 = none_holds (not (same_place OnLoan (st.place (slot_named pair)))) _ _ e2.1 in
+    moved_sound st c (slot_named pair) (freed_place st a (slot_named pair)) 0 h (inr (not-false (same_place OnLoan (st.place (slot_named pair))) e3.0))
+    (fit (owner_of st (slot_named pair) == a) refl) (lt_of_le_of_lt zero-le (h.few (slot_named pair)))
   where
-    fit : (b : Bool) → (owner_of st (slot_at pair) == a) ≡ b → FitsIn st (owner_of st (slot_at pair)) 0 (if b then AtHome else InCache a)
+    fit : (b : Bool) → (owner_of st (slot_named pair) == a) ≡ b → FitsIn st (owner_of st (slot_named pair)) 0 (if b then AtHome else InCache a)
     fit true q = tt
-    fit false q = (a_desk_from st a (none_holds (no_desk st a) _ _ e).0, eqb-false (owner_of st (slot_at pair)) a q, zero-le)
+    fit false q = (a_desk_from st a (none_holds (no_desk st a) _ _ e).0, eqb-false (owner_of st (slot_named pair)) a q, zero-le)
 
 pub send_step : (st : State) (c : Slot → ℕ) (a t : ℕ) → Sound st c → refusal st (Send a t) ≡ None → Sound (after_send st a t) c
 send_step st c a t h e =

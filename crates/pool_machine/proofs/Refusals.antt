@@ -13,7 +13,7 @@ use Rattle.region_cut.specs.Classes.{classes_of, largest_of}
 use Rattle.region_cut.specs.Slots.{same_slot, times}
 use Rattle.pool_machine.specs.Slots.{one_if}
 use Rattle.pool_machine.specs.State.{profile_at, least_class, State, Waiting, owner_of, class_of, slots, home_with, has_home, in_bucket, inbox, OnLoan, InCache, same_place, is_at}
-use Rattle.pool_machine.specs.Refusals.{first, conditions, refusal, no_desk, is_idle, slot_at, may_grow}
+use Rattle.pool_machine.specs.Refusals.{first, conditions, refusal, no_desk, is_idle, slot_named, may_grow}
 use Rattle.pool_machine.specs.Sound.{Member}
 use Rattle.pool_machine.specs.Listing.{Listing, Entry, BatchListing, slots_seen, desk_listing, as_waiting}
 use Rattle.pool_machine.proofs.Located.{inbox_listing, HomeOf, Loans, CacheOf, list_of, is_list, Located, LocatedStep}
@@ -47,7 +47,7 @@ conditions_seen v (Alloc a n) =
     ∷ (not (list_any (λ (e : Entry). e.class == least_class (profile_of v.digits.bits) n) (desk_listing v a).home), NeedChunk) ∷ []
 conditions_seen v (Free a pair) =
     (nat_le (length v.desks) a, NoDesk) ∷ (is_none (desk_listing v a).worker, Idle)
-    ∷ (not (list_any (λ (e : Entry). same_slot (slot_at pair) e.slot) v.lent), NotLent) ∷ []
+    ∷ (not (list_any (λ (e : Entry). same_slot (slot_named pair) e.slot) v.lent), NotLent) ∷ []
 conditions_seen v (Send a t) =
     (nat_le (length v.desks) a || nat_le (length v.desks) t, NoDesk) ∷ (is_none (desk_listing v a).worker, Idle) ∷ (a == t, ToSelf)
     ∷ (not (list_any (λ (e : Entry). goes_by v.digits a t e.owner) (desk_listing v a).cache), NothingFor)
@@ -257,7 +257,7 @@ module _ (v : Listing) (st : State) (count : Slot → ℕ) (h : Located v st cou
       ∙ ap (λ (s : Scheme). list_any (λ (e : Entry). e.class == least_class (profile_of s.bits) n) (desk_listing v a).home) (sym h.frame.digits)))))
   conditions_agree (Free a pair) =
       ap₂ ◌∷◌ (ap (λ b. (b, NoDesk)) (no_desk_is a)) (ap₂ ◌∷◌ (ap (λ b. (b, Idle)) (idle_is a))
-      (ap (λ b. (not b, NotLent) ∷ []) (lent_any v st count h (slot_at pair))))
+      (ap (λ b. (not b, NotLent) ∷ []) (lent_any v st count h (slot_named pair))))
   conditions_agree (Send a t) =
       ap₂ ◌∷◌ (ap (λ b. (b, NoDesk)) (ap₂ ◌||◌ (no_desk_is a) (no_desk_is t)))
       (ap₂ ◌∷◌ (ap (λ b. (b, Idle)) (idle_is a)) (ap (λ cs. (a == t, ToSelf) ∷ cs)

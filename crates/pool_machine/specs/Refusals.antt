@@ -23,8 +23,8 @@ abbrev pub is_idle : State → ℕ → Bool
 is_idle st a = is_none (st.holder a)
 
 -- the slot that a Free names
-abbrev pub slot_at : ℕ × ℕ → Slot
-slot_at pair = record { chunk = pair.0; index = pair.1 }
+abbrev pub slot_named : ℕ × ℕ → Slot
+slot_named pair = record { chunk = pair.0; index = pair.1 }
 
 -- what may stand against a request, in the order in which it is tested
 abbrev pub conditions : State → Request → List (Bool × Refusal)
@@ -39,7 +39,7 @@ conditions st (Alloc a n) =
     (no_desk st a, NoDesk) ∷ (is_idle st a, Idle) ∷ (nat_lt (largest_of (profile_at st)) n, TooLarge)
     ∷ (not (has_home st a (least_class (profile_at st) n)), NeedChunk) ∷ []
 conditions st (Free a pair) =
-    (no_desk st a, NoDesk) ∷ (is_idle st a, Idle) ∷ (not (is_at st OnLoan (slot_at pair)), NotLent) ∷ []
+    (no_desk st a, NoDesk) ∷ (is_idle st a, Idle) ∷ (not (is_at st OnLoan (slot_named pair)), NotLent) ∷ []
 conditions st (Send a t) =
     (no_desk st a || no_desk st t, NoDesk) ∷ (is_idle st a, Idle) ∷ (a == t, ToSelf)
     ∷ (not (list_any (in_bucket st a t) (slots st)), NothingFor)

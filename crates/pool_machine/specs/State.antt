@@ -3,10 +3,9 @@ use Rattle.std.specs.Prelude.{ℕ, Bool, true, false, ◌&&◌, ◌==◌, nat_lt
 use Rattle.std.specs.Prelude.{take, slice_get, Option, Some, None}
 use Rattle.std.specs.List.{list_any, range_with_len, position_or_len}
 use Rattle.std.specs.Option.{option_map_or}
-use Rattle.region_cut.specs.declared.class.TheConstants.{SIZES}
 use Rattle.region_cut.specs.declared.profile.Profile.{Profile}
 use Rattle.region_cut.specs.declared.slot.Slot.{Slot}
-use Rattle.region_cut.specs.Classes.{size_of, slots_of, classes_of}
+use Rattle.region_cut.specs.Classes.{class_sizes, size_of, slots_of, classes_of}
 use Rattle.digit_route.specs.Digits.{Scheme, count, common}
 use Rattle.digit_route.specs.Profiles.{profile_of}
 use Rattle.pool_machine.specs.declared.chunk.DrawnChunk.{DrawnChunk}
@@ -68,7 +67,7 @@ profile_at st = profile_of st.digits.bits
 
 -- the least class of the profile that holds n bytes; the number of its classes where none does
 abbrev pub least_class : Profile → ℕ → ℕ
-least_class p n = position_or_len (λ size. nat_le n size) (take (classes_of p) SIZES)
+least_class p n = position_or_len (λ size. nat_le n size) (take (classes_of p) class_sizes)
 
 -- ---- slots
 

@@ -15,7 +15,7 @@ use Rattle.pool_machine.specs.declared.refusal.Refusal.TheVariants.{NoMemory}
 use Rattle.region_cut.specs.Slots.{same_slot}
 use Rattle.pool_machine.specs.State.{Place, AtHome, OnLoan, InCache, InBatch, Waiting, State, profile_at, least_class}
 use Rattle.pool_machine.specs.State.{owner_of, same_place, home_with, bucket, cached_bytes, slots_at, front}
-use Rattle.pool_machine.specs.Refusals.{slot_at, refusal, may_grow}
+use Rattle.pool_machine.specs.Refusals.{slot_named, refusal, may_grow}
 
 -- what a request is answered
 abbrev pub Answer : Type 0
@@ -85,7 +85,7 @@ after st (Claim a c) (Ok (Chunk k)) = with_chunk k a c st
 after st (Claim a c) (Ok _) = st
 after st (Alloc a n) (Ok (Lent s)) = relocate (move_one s OnLoan) st
 after st (Alloc a n) (Ok _) = st
-after st (Free a pair) (Ok r) = after_free st a (slot_at pair)
+after st (Free a pair) (Ok r) = after_free st a (slot_named pair)
 after st (Send a t) (Ok r) = after_send st a t
 after st (Link n) (Ok r) = record st {
   waiting = map (λ (w : Waiting). if n == w.number then record w { linked = true } else w) st.waiting;
@@ -101,11 +101,11 @@ Replies st (Adopt a x) Done = ⊤
 Replies st (Retire a) Done = ⊤
 Replies st (Claim a c) (Chunk k) = (k < st.chunks) × (st.drawn k ≡ None)
 Replies st (Alloc a n) (Lent s) = home_with st a (least_class (profile_at st) n) s ≡ true
-Replies st (Free a pair) Home = owner_of st (slot_at pair) ≡ a
+Replies st (Free a pair) Home = owner_of st (slot_named pair) ≡ a
 Replies st (Free a pair) Cached =
-    (owner_of st (slot_at pair) ≢ a) × (cached_bytes (after_free st a (slot_at pair)) a ≤ st.limit)
+    (owner_of st (slot_named pair) ≢ a) × (cached_bytes (after_free st a (slot_named pair)) a ≤ st.limit)
 Replies st (Free a pair) Due =
-    (owner_of st (slot_at pair) ≢ a) × (st.limit < cached_bytes (after_free st a (slot_at pair)) a)
+    (owner_of st (slot_named pair) ≢ a) × (st.limit < cached_bytes (after_free st a (slot_named pair)) a)
 Replies st (Send a t) (Batch n m) = (n ≡ st.next) × (m ≡ length (bucket st a t))
 Replies st (Link n) Done = ⊤
 Replies st (Take b) (Counts home on) =

@@ -5,13 +5,13 @@ ghost use Rattle.trace_audit.specs.Wire.{Begins, Writes};
 ghost use Rattle.std.specs.Io.KnownBytes.{Appends};
 ghost use Rattle.pool_jobs.specs.declared.tally.Tally.{Tally as Counted};
 ghost use Rattle.poolctl_words.specs.Asked.{CanRun, workload_name};
-ghost use Rattle.poolctl.specs.Works.{counts_text, work_text};
+ghost use Rattle.poolctl.specs.Works.{tally_text, work_text};
 
 use crate::lines::{push_number, push_word};
 use crate::outcome::Outcome;
 use link_inbox::{LinkInbox, SendSeat, TakeSeat};
 use pool_fabric::Opening;
-use pool_jobs::{Counts, JobError, NoGate, Plan, Tally, Workload, work_linked};
+use pool_jobs::{BufferCounts, JobError, NoGate, Plan, Tally, Workload, work_linked};
 use poolctl_words::Work;
 use rand_pcg::Pcg32;
 use region_cut::{CHUNK, cut};
@@ -31,8 +31,8 @@ fn name_of(workload: Workload) -> &'static str
 }
 
 /// The lines of a run, without that of its audit.
-fn counts_text(alloc: Global, work: &Work, counts: Counts) -> Result<String, AllocError>
-    ensures { IfOk result (λ text. string_bytes text ≡ counts_text work.now counts) }
+fn tally_text(alloc: Global, work: &Work, counts: BufferCounts) -> Result<String, AllocError>
+    ensures { IfOk result (λ text. string_bytes text ≡ tally_text work.now counts) }
 {
     let mut text = String::new(alloc);
     push_word(&mut text, "workload", name_of(work.workload))?;
@@ -69,7 +69,7 @@ fn write_tally<W: Sink>(alloc: Global, work: &Work, tally: Tally, sink: &mut W) 
         ⊎ (result ≡ Outcome.WriteFailed) }
     ensures write { (W.has_failed sink.new ≡ true) ↔ (result ≡ Outcome.WriteFailed) }
 {
-    let Ok(text) = counts_text(alloc, work, tally.counts) else {
+    let Ok(text) = tally_text(alloc, work, tally.counts) else {
         return Outcome::NoMemory;
     };
     match (write_both(text.as_str(), tally.audit, sink), tally.audit) {

@@ -5,6 +5,7 @@ ghost use Rattle.poolctl_words.specs.Asked.{AreGood, Asks};
 
 mod arguments;
 mod found;
+mod limits;
 mod subcommands;
 
 use crate::asked::Asked;

@@ -7,6 +7,9 @@ use region_cut::Bump;
 use slot_chain::{NoMemory, Room};
 use std::alloc::Global;
 
+/// The numbers of owners are below this.
+const OWNERS: u16 = 4_096;
+
 /// Offers a new buffer to the cache for each owner, as long as the chunk has slots. Says how many
 /// it took.
 pub fn fill<'r>(
@@ -22,7 +25,7 @@ pub fn fill<'r>(
     for owner in owners {
         let room = Room::new(alloc)?;
         if let Some(piece) = bump.next() {
-            if *owner < 4096 {
+            if *owner < OWNERS {
                 if offer(cache, room.fill(piece, class, *owner)).is_none() {
                     taken = taken.saturating_add(1);
                 }

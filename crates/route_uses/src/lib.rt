@@ -2,10 +2,10 @@
 #![tactic(auto)]
 
 #[cfg(test)]
+pub mod batch_row;
+#[cfg(test)]
 pub mod filling;
 #[cfg(test)]
 pub mod offering;
-#[cfg(test)]
-pub mod shelf;
 #[cfg(test)]
 mod tests;

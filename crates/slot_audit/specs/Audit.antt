@@ -7,8 +7,8 @@ use Rattle.slot_audit.specs.declared.fault.Fault.{Fault}
 use Rattle.slot_audit.specs.declared.fault.Fault.TheVariants.{Stranger, Doubled, Missing, NoMemory}
 
 -- the class that a chunk is drawn for
-abbrev pub class_at : List (Option ℕ) → ℕ → Option ℕ
-class_at drawn chunk = slice_index_or drawn chunk None
+abbrev pub class_noted : List (Option ℕ) → ℕ → Option ℕ
+class_noted drawn chunk = slice_index_or drawn chunk None
 
 -- how many slots a chunk of the class has; none where there is no class
 abbrev pub slots_for : Option ℕ → ℕ
@@ -16,12 +16,12 @@ slots_for None = 0
 slots_for (Some class) = slots_of class
 
 -- how many slots the chunk has; none where it isn't drawn
-abbrev pub slots_in : List (Option ℕ) → ℕ → ℕ
-slots_in drawn chunk = slots_for (class_at drawn chunk)
+abbrev pub slot_count_in : List (Option ℕ) → ℕ → ℕ
+slot_count_in drawn chunk = slots_for (class_noted drawn chunk)
 
 -- the slot is one of a drawn chunk
 abbrev pub IsDrawnSlot : List (Option ℕ) → Slot → Type 0
-IsDrawnSlot drawn s = s.index < slots_in drawn s.chunk
+IsDrawnSlot drawn s = s.index < slot_count_in drawn s.chunk
 
 -- each slot of a drawn chunk occurs once, and no other occurs
 pub record FindsEachSlot (drawn : List (Option ℕ)) (found : List Slot) : Type 0 where

@@ -3,13 +3,13 @@ use Rattle.std.specs.Prelude.{ℕ, ◌≡◌, ◌≤◌, ◌+◌, ◌*◌, List,
 use Rattle.region_cut.specs.declared.slot.Slot.{Slot}
 use Rattle.region_cut.specs.Slots.{times}
 use Rattle.region_cut.specs.Limits.{chunk_limit}
-use Rattle.slot_audit.specs.Audit.{slots_in, IsDrawnSlot}
+use Rattle.slot_audit.specs.Audit.{slot_count_in, IsDrawnSlot}
 use Rattle.slot_audit.specs.Limits.{slot_limit}
 
 -- 1,024 chunks, of which none has more than 256 slots: so a table of 256 places for each chunk has one for each slot
 pub record FitsTable (drawn : List (Option ℕ)) : Type 0 where
   pub chunks : length drawn ≡ chunk_limit
-  pub few : (k : ℕ) → slots_in drawn k ≤ slot_limit
+  pub few : (k : ℕ) → slot_count_in drawn k ≤ slot_limit
 
 -- what the table says of the slot
 abbrev pub count_at : List ℕ → Slot → ℕ

@@ -1,6 +1,7 @@
 //! Which chunks are drawn.
 ghost use Rattle.std.specs.Prelude.{◌≡◌, ◌≢◌, ◌<◌, ℕ, Some, None, length};
-ghost use Rattle.slot_audit.specs.Audit.{class_at, slots_in};
+ghost use Rattle.region_cut.specs.Limits.{chunk_limit};
+ghost use Rattle.slot_audit.specs.Audit.{class_noted, slot_count_in};
 ghost use Rattle.slot_audit.specs.Tallies.{FitsTable};
 
 use region_cut::{Class, MAX_CHUNKS};
@@ -27,7 +28,7 @@ impl Model for Drawn {
 /// So many chunks, none of them drawn.
 fn undrawn<const N: usize>() -> [Option<Class>; N]
     ensures len { length result ≡ N }
-    ensures none { (k : ℕ) → class_at result k ≡ None }
+    ensures none { (k : ℕ) → class_noted result k ≡ None }
 {
     [None; N]
 }
@@ -35,23 +36,23 @@ fn undrawn<const N: usize>() -> [Option<Class>; N]
 impl Drawn {
     /// No chunk is drawn.
     pub fn new() -> Drawn
-        ensures { (k : ℕ) → class_at result k ≡ None }
+        ensures { (k : ℕ) → class_noted result k ≡ None }
     {
         Drawn { classes: undrawn() }
     }
 
     /// The chunk is drawn for the class.
     pub fn note(&mut self, chunk: u16, class: Class)
-        requires { chunk < 1024 }
-        ensures noted { class_at self.new chunk ≡ Some class }
-        ensures others { (k : ℕ) → k ≢ chunk → class_at self.new k ≡ class_at self.old k }
+        requires { chunk < chunk_limit }
+        ensures noted { class_noted self.new chunk ≡ Some class }
+        ensures others { (k : ℕ) → k ≢ chunk → class_noted self.new k ≡ class_noted self.old k }
     {
         self.classes[chunk as usize] = Some(class);
     }
 
     /// The class that the chunk is drawn for, or `None` where it isn't drawn.
     pub fn class_of(&self, chunk: u16) -> Option<Class>
-        ensures { result ≡ class_at self.now chunk }
+        ensures { result ≡ class_noted self.now chunk }
     {
         if (chunk as usize) < MAX_CHUNKS {
             self.classes[chunk as usize]
@@ -62,7 +63,7 @@ impl Drawn {
 
     /// How many chunks it tells of.
     pub(crate) fn chunks(&self) -> usize
-        ensures value { result ≡ 1024 }
+        ensures value { result ≡ chunk_limit }
         ensures fits { FitsTable self.now }
     {
         let classes = &self.classes;
@@ -70,8 +71,8 @@ impl Drawn {
     }
 
     /// How many slots the chunk has: none where it isn't drawn.
-    pub(crate) fn slots_in(&self, chunk: u16) -> usize
-        ensures value { result ≡ slots_in self.now chunk }
+    pub(crate) fn slot_count_in(&self, chunk: u16) -> usize
+        ensures value { result ≡ slot_count_in self.now chunk }
         ensures fits { FitsTable self.now }
     {
         let _ = &self.classes;

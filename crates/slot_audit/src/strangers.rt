@@ -12,7 +12,7 @@ pub(crate) fn is_drawn_slot(drawn: &Drawn, slot: Slot) -> bool
     ensures value { IsTrue result ↔ IsDrawnSlot drawn.now slot }
     ensures fits { FitsTable drawn.now }
 {
-    (slot.index as usize) < drawn.slots_in(slot.chunk)
+    (slot.index as usize) < drawn.slot_count_in(slot.chunk)
 }
 
 /// The lesser of two slots, or the only one.

@@ -12,7 +12,7 @@ use Rattle.region_cut.specs.Slots.{same_slot, times}
 use Rattle.pool_machine.specs.Slots.{one_if, has_index, is_drawn_slot}
 use Rattle.event_floor.specs.Floors.{FloorState}
 use Rattle.event_floor.specs.headline.ListsSlots.{FloorsListSlots, ListsSlots, slots_on, slots_with}
-use Rattle.slot_audit.specs.Audit.{class_at, slots_for, IsDrawnSlot, FindsEachSlot, IsFault}
+use Rattle.slot_audit.specs.Audit.{class_noted, slots_for, IsDrawnSlot, FindsEachSlot, IsFault}
 use Rattle.trace_audit.specs.FloorSlots.{IsFaultOn, ShowsPool, TellsDrawn}
 use Rattle.trace_audit.specs.Replay.{FindsNothing}
 use Rattle.trace_audit.specs.Report.{Verdict}
@@ -72,7 +72,7 @@ module _ (sound : ReachedIsSound) (law : FloorsListSlots) (v : FloorState) (draw
       let f = p.few_chunks in
       absurd (omega (arith, a, b, f))
 
-  classes : (k : ℕ) → class_at drawn k ≡ class_if (p.state.drawn k)
+  classes : (k : ℕ) → class_noted drawn k ≡ class_if (p.state.drawn k)
   classes k = ⊎_elim (λ (l : k < 1024). tells.classes k l ∙ lists.class k) (λ (l : 1024 ≤ k). tells.no_more k l ∙ past k l (p.state.drawn k) refl) (cases_lt k 1024)
 
   drawn_slot : (s : Slot) → IsDrawnSlot drawn s → is_drawn_slot p.state.drawn s ≡ true

@@ -7,13 +7,13 @@ use Rattle.event_floor.specs.Chunks.{class_drawn}
 use Rattle.event_floor.specs.Floors.{FloorState}
 use Rattle.event_floor.specs.headline.Listing.{listing_of}
 use Rattle.event_floor.specs.headline.ListsSlots.{slots_on}
-use Rattle.slot_audit.specs.Audit.{FindsEachSlot, IsFault, class_at}
+use Rattle.slot_audit.specs.Audit.{FindsEachSlot, IsFault, class_noted}
 use Rattle.slot_audit.specs.declared.fault.Fault.{Fault}
 
 -- of each chunk of a region, the class that the floor drew it for
 pub record TellsDrawn (v : FloorState) (drawn : List (Option ℕ)) : Type 0 where
-  pub classes : (k : ℕ) → k < 1024 → class_at drawn k ≡ class_drawn v.drawn k
-  pub no_more : (k : ℕ) → 1024 ≤ k → class_at drawn k ≡ None
+  pub classes : (k : ℕ) → k < 1024 → class_noted drawn k ≡ class_drawn v.drawn k
+  pub no_more : (k : ℕ) → 1024 ≤ k → class_noted drawn k ≡ None
 
 -- the homes, the caches, the inboxes and the lent buffers, joined, have each slot of a drawn chunk once, and no other
 -- slot

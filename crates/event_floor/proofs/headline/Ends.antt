@@ -10,7 +10,7 @@ use Rattle.std.proofs.lemmas.List.{length-map, length-append, length-drop, lengt
 use Rattle.std.proofs.lemmas.Grind.{flat_map-append}
 use Rattle.std.proofs.lemmas.List.Elements.{All-nil, All-cons, All-head, All-tail}
 use Rattle.std.proofs.lemmas.List.Sorted.{All-permutation, IsPermutation-sym, IsPermutation-refl}
-use Rattle.region_cut.specs.declared.TheConstants.{CHUNK}
+use Rattle.region_cut.specs.Limits.{chunk_size}
 use Rattle.region_cut.specs.declared.slot.Slot.{Slot}
 use Rattle.region_cut.specs.Carved.{Carved}
 use Rattle.region_cut.specs.Classes.{size_of}
@@ -78,9 +78,9 @@ unused_lies order end v names n u g region at sizes ends =
     let in_chunk : StandsAt u.bytes (u.slot.index * z) (end c.whole) =
     subst (λ bs. StandsAt u.bytes (u.slot.index * z) bs) (sym ends)
     (subst (λ p. StandsAt u.bytes p (taken ++ c.rest)) place (stands_in_front taken u.bytes ((u.slot.index - length c.taken) * z) c.rest g.lies)) in
-    let chunk : StandsAt (end c.whole) (k * CHUNK) region = order end v.parts CHUNK region at k c.whole (n.chunks k c g.is_chunk).part in
-    let at : k * CHUNK + u.slot.index * z ≡ start_of u.slot u.class = omega arith in
-    subst (λ p. StandsAt u.bytes p region) at (stands_within (u.slot.index * z) (k * CHUNK) u.bytes (end c.whole) region in_chunk chunk)
+    let chunk : StandsAt (end c.whole) (k * chunk_size) region = order end v.parts chunk_size region at k c.whole (n.chunks k c g.is_chunk).part in
+    let at : k * chunk_size + u.slot.index * z ≡ start_of u.slot u.class = omega arith in
+    subst (λ p. StandsAt u.bytes p region) at (stands_within (u.slot.index * z) (k * chunk_size) u.bytes (end c.whole) region in_chunk chunk)
 
 -- ---- what is noted
 
@@ -184,7 +184,7 @@ module _ (v : FloorState) (names : List Carved) (n : AreNames names v) (st : Sta
         joined = ends_as_drawn k c e;
       }
 
-      chunk_whole : (k : ℕ) (c : Carved) → slice_get names k ≡ Some c → length (end_in second c.whole) ≡ CHUNK
+      chunk_whole : (k : ℕ) (c : Carved) → slice_get names k ≡ Some c → length (end_in second c.whole) ≡ chunk_size
       chunk_whole k c e =
           let z = size_of c.class in
           let all : length (end_in second c.whole) ≡ length (flat_map (end_in first) c.taken) + length c.rest = ap length (chunk_ends k c e).1 ∙ length-append
@@ -218,8 +218,8 @@ module _ (v : FloorState) (names : List Carved) (n : AreNames names v) (st : Sta
             sym (map_same (end_in first) (end_in second) (undrawn_parts v) (All-to HasStayed (λ x. end_in first x ≡ end_in second x) (undrawn_parts v) (λ x y. y.1) left_stays))
             ∙ parts_left.1
 
-        left_whole : All (λ x. length (end_in second x) ≡ CHUNK) (undrawn_parts v)
-        left_whole = unmap (λ (bs : List ℕ). length bs ≡ CHUNK) (end_in second) (undrawn_parts v) (subst (λ bs. All (λ (b : List ℕ). length b ≡ CHUNK) bs) (sym left_ends) stocked.1)
+        left_whole : All (λ x. length (end_in second x) ≡ chunk_size) (undrawn_parts v)
+        left_whole = unmap (λ (bs : List ℕ). length bs ≡ chunk_size) (end_in second) (undrawn_parts v) (subst (λ bs. All (λ (b : List ℕ). length b ≡ chunk_size) bs) (sym left_ends) stocked.1)
 
         -- what holds of the part of each drawn chunk, and of each other part
         each_part : (P : GName → Type 0) → ((k : ℕ) (c : Carved) → slice_get names k ≡ Some c → P c.whole) → All P (undrawn_parts v) → All P v.parts
@@ -248,8 +248,8 @@ module _ (v : FloorState) (names : List Carved) (n : AreNames names v) (st : Sta
           undrawn = left_ends;
         }
           where
-            whole : All (λ x. length (end_in second x) ≡ CHUNK) v.parts
-            whole = each_part (λ x. length (end_in second x) ≡ CHUNK) chunk_whole left_whole
+            whole : All (λ x. length (end_in second x) ≡ chunk_size) v.parts
+            whole = each_part (λ x. length (end_in second x) ≡ chunk_size) chunk_whole left_whole
 
             fresh_lies : (tail : List ℕ) (u : Unused) → HasNoName names u → StandsAt u.bytes (start_of u.slot u.class) (flat_map (end_in second) v.parts ++ tail)
             fresh_lies tail u g =
@@ -274,25 +274,25 @@ module _ (v : FloorState) (names : List Carved) (n : AreNames names v) (st : Sta
 
           -- a slice that was taken of a chunk
           slice_stands : (k i : ℕ) (c : Carved) (x : GName) → slice_get names k ≡ Some c → slice_get c.taken i ≡ Some x
-              → StandsAt (end_in second x) (CHUNK * k + i * size_of c.class) region
+              → StandsAt (end_in second x) (chunk_size * k + i * size_of c.class) region
           slice_stands k i c x e at =
               let f = taken_buffer v names n st count h IsThere (λ j d l. (all_let_go j d l, lie.buffers j d l)) k i c x e at in
               let b = f.0 in
               let bytes : end_in second x ≡ b.bytes.now = ap (end_in second) (sym f.1) ∙ ((stays b.bytes.ghost_name f.4.0.0).1 ∙ f.4.0.1) in
-              let slot : StandsAt b.bytes.now (CHUNK * k + i * size_of b.class) region = subst (λ (s : Slot). StandsAt b.bytes.now (start_of s b.class) region) f.5 f.4.1 in
-              subst (λ bs. StandsAt bs (CHUNK * k + i * size_of c.class) region) (sym bytes) (subst (λ z. StandsAt b.bytes.now (CHUNK * k + i * size_of z) region) f.2 slot)
+              let slot : StandsAt b.bytes.now (chunk_size * k + i * size_of b.class) region = subst (λ (s : Slot). StandsAt b.bytes.now (start_of s b.class) region) f.5 f.4.1 in
+              subst (λ bs. StandsAt bs (chunk_size * k + i * size_of c.class) region) (sym bytes) (subst (λ z. StandsAt b.bytes.now (chunk_size * k + i * size_of z) region) f.2 slot)
 
-          chunk_stands : (k : ℕ) (c : Carved) → slice_get names k ≡ Some c → StandsAt (end_in second c.whole) (CHUNK * k) region
+          chunk_stands : (k : ℕ) (c : Carved) → slice_get names k ≡ Some c → StandsAt (end_in second c.whole) (chunk_size * k) region
           chunk_stands k c e =
               let z = size_of c.class in
               let taken = flat_map (end_in second) c.taken in
               let sizes = (chunk_begins k c e).sizes in
               let number = (n.chunks k c e).number in
               let long : length taken ≡ length c.taken * z = length_flat (end_in second) z c.taken sizes in
-              let place : CHUNK * c.chunk + length c.taken * z ≡ CHUNK * k + length taken = ap (λ j. CHUNK * j + length c.taken * z) number ∙ ap (λ m. CHUNK * k + m) (sym long) in
-              subst (λ bs. StandsAt bs (CHUNK * k) region) (sym (ends_as_drawn k c e))
-              (stands_join taken c.rest (CHUNK * k) region
-              (flat_stand (end_in second) z (CHUNK * k) region c.taken sizes (λ i d l. slice_stands k i c (get_or c.taken i d) e (slice_get-get_or c.taken i d l)))
+              let place : chunk_size * c.chunk + length c.taken * z ≡ chunk_size * k + length taken = ap (λ j. chunk_size * j + length c.taken * z) number ∙ ap (λ m. chunk_size * k + m) (sym long) in
+              subst (λ bs. StandsAt bs (chunk_size * k) region) (sym (ends_as_drawn k c e))
+              (stands_join taken c.rest (chunk_size * k) region
+              (flat_stand (end_in second) z (chunk_size * k) region c.taken sizes (λ i d l. slice_stands k i c (get_or c.taken i d) e (slice_get-get_or c.taken i d l)))
               (subst (λ m. StandsAt c.rest m region) place (of_chunk (RestLies region) lie.rests k c e)))
 
           abbrev drawn_parts : List GName
@@ -302,26 +302,26 @@ module _ (v : FloorState) (names : List Carved) (n : AreNames names v) (st : Sta
           few_drawn = length-take-le (length v.drawn) v.parts (let e = stocked.0 in omega (arith, e))
 
           -- the part of a place
-          part_stands : (i : ℕ) (d : GName) → i < length v.drawn → StandsAt (end_in second (get_or v.parts i d)) (0 + i * CHUNK) region
+          part_stands : (i : ℕ) (d : GName) → i < length v.drawn → StandsAt (end_in second (get_or v.parts i d)) (0 + i * chunk_size) region
           part_stands i d l =
               let m : i < length names = (let e = n.count in omega (arith, l, e)) in
               let o = some_at names i m in
-              let place : CHUNK * i ≡ 0 + i * CHUNK = omega arith in
-              subst (λ x. StandsAt (end_in second x) (0 + i * CHUNK) region) (sym (get_or_from_slice_get v.parts i o.0.whole d (n.chunks i o.0 o.1).part))
+              let place : chunk_size * i ≡ 0 + i * chunk_size = omega arith in
+              subst (λ x. StandsAt (end_in second x) (0 + i * chunk_size) region) (sym (get_or_from_slice_get v.parts i o.0.whole d (n.chunks i o.0 o.1).part))
               (subst (λ m. StandsAt (end_in second o.0.whole) m region) place (chunk_stands i o.0 o.1))
 
-          part_sizes : All (λ x. length (end_in second x) ≡ CHUNK) drawn_parts
+          part_sizes : All (λ x. length (end_in second x) ≡ chunk_size) drawn_parts
           part_sizes = λ i d l.
               (let m : i < length v.drawn = (let e = few_drawn in omega (arith, l, e)) in
               let k : i < length v.parts = (let e = stocked.0 in omega (arith, m, e)) in
-              subst (λ x. length (end_in second x) ≡ CHUNK) (sym (get_or-take (length v.drawn) v.parts i d m))
-              (each_part (λ x. length (end_in second x) ≡ CHUNK) chunk_whole left_whole i d k))
+              subst (λ x. length (end_in second x) ≡ chunk_size) (sym (get_or-take (length v.drawn) v.parts i d m))
+              (each_part (λ x. length (end_in second x) ≡ chunk_size) chunk_whole left_whole i d k))
 
           drawn_stand : StandsAt (flat_map (end_in second) drawn_parts) 0 region
           drawn_stand =
-              flat_stand (end_in second) CHUNK 0 region drawn_parts part_sizes
+              flat_stand (end_in second) chunk_size 0 region drawn_parts part_sizes
               (λ i d l. (let m : i < length v.drawn = (let e = few_drawn in omega (arith, l, e)) in
-              subst (λ x. StandsAt (end_in second x) (0 + i * CHUNK) region) (sym (get_or-take (length v.drawn) v.parts i d m)) (part_stands i d m)))
+              subst (λ x. StandsAt (end_in second x) (0 + i * chunk_size) region) (sym (get_or-take (length v.drawn) v.parts i d m)) (part_stands i d m)))
 
           flat_of_ends : (xs : List GName) → flat_map (λ (bs : List ℕ). bs) (map (end_in second) xs) ≡ flat_map (end_in second) xs
           flat_of_ends [] = refl
@@ -329,12 +329,12 @@ module _ (v : FloorState) (names : List Carved) (n : AreNames names v) (st : Sta
 
           left_stand : StandsAt (flat_map (end_in second) (undrawn_parts v)) (0 + length (flat_map (end_in second) drawn_parts)) region
           left_stand =
-              let long = length_flat (end_in second) CHUNK drawn_parts part_sizes in
+              let long = length_flat (end_in second) chunk_size drawn_parts part_sizes in
               let few = few_drawn in
-              let place : CHUNK * length v.drawn ≡ 0 + length (flat_map (end_in second) drawn_parts) = omega (arith, long, few) in
+              let place : chunk_size * length v.drawn ≡ 0 + length (flat_map (end_in second) drawn_parts) = omega (arith, long, few) in
               subst (λ m. StandsAt (flat_map (end_in second) (undrawn_parts v)) m region) place
-              (subst (λ bs. StandsAt bs (CHUNK * length v.drawn) region) (flat_of_ends (undrawn_parts v))
-              (subst (λ us. StandsAt (flat_map (λ (bs : List ℕ). bs) us) (CHUNK * length v.drawn) region) (sym left_ends) lie.undrawn))
+              (subst (λ bs. StandsAt bs (chunk_size * length v.drawn) region) (flat_of_ends (undrawn_parts v))
+              (subst (λ us. StandsAt (flat_map (λ (bs : List ℕ). bs) us) (chunk_size * length v.drawn) region) (sym left_ends) lie.undrawn))
 
           pub parts_stand : StandsAt (flat_map (end_in second) v.parts) 0 region
           parts_stand =

@@ -16,7 +16,7 @@ use Rattle.pool_desk.specs.declared.freed.Freed.{Freed}
 use Rattle.pool_desk.specs.declared.freed.Freed.TheVariants.{Home as FreedHome, Cached as FreedCached, Due as FreedDue}
 use Rattle.event_floor.specs.declared.any_desk.AnyDesk.{AnyDesk}
 use Rattle.event_floor.specs.declared.any_desk.AnyDesk.TheVariants.{Idle, Held}
-use Rattle.event_floor.specs.Lent.{place_of, buffers_lent}
+use Rattle.event_floor.specs.Lent.{index_of, buffers_lent}
 use Rattle.event_floor.specs.Inboxes.{QueuedState, inbox_at, sent_as, as_linked, no_batch, buffers_in}
 use Rattle.event_floor.specs.Desks.{adopted, retired, home_of, cached_of}
 use Rattle.event_floor.specs.Floors.{FloorState, desk_count, desk_at, no_desk, with_any_desk, with_desk, IsIdle, IsHeld}
@@ -179,9 +179,9 @@ module _ (K : Buffer → Type 0) (U : Unused → Type 0) (R : Carved → Type 0)
       free_everywhere w a chunk index r s =
           let here = lent_place v.lent chunk index s.buffer s.was_lent in
           let p : K s.buffer = subst (λ (o : Option Buffer). IfSome o K) here.1 (e.lent _) in
-          changed a (Held s.after) (set v.lent (place_of s.buffer.slot) None) v.inboxes s.held.0
+          changed a (Held s.after) (set v.lent (index_of s.buffer.slot) None) v.inboxes s.held.0
           (freed_desk s.before s.after s.buffer r (held_here a s.before s.held) p s.frees)
-          (each_place K v.lent (place_of s.buffer.slot) None tt e.lent) e.queued
+          (each_place K v.lent (index_of s.buffer.slot) None tt e.lent) e.queued
           w (ap (λ (f : FloorState). f.desks) s.same) (ap (λ (f : FloorState). f.lent) s.same) (ap (λ (f : FloorState). f.inboxes) s.same)
 
       pub take_everywhere : (w : FloorState) (b home on : ℕ) → TakesFront v b home on w → Everywhere K U R w
@@ -225,13 +225,13 @@ module _ (K : Buffer → Type 0) (U : Unused → Type 0) (R : Carved → Type 0)
       lent_to : K s.buffer → All (IsHome K U) s.after.home → All R s.after.drawn → Everywhere K U R w
       lent_to b home chunks =
           let h = held_here a s.before s.held in
-          changed a (Held s.after) (set v.lent (place_of slot) (Some s.buffer)) v.inboxes s.held.0
+          changed a (Held s.after) (set v.lent (index_of slot) (Some s.buffer)) v.inboxes s.held.0
           (record {
             home = home;
             cached = subst (λ bs. All K bs) (ap (λ (x : DeskState). x.cached) (sym s.allocs.2)) h.cached;
             chunks = chunks;
           })
-          (each_place K v.lent (place_of slot) (Some s.buffer) b e.lent) e.queued
+          (each_place K v.lent (index_of slot) (Some s.buffer) b e.lent) e.queued
           w (ap (λ (f : FloorState). f.desks) s.same) (ap (λ (f : FloorState). f.lent) s.same) (ap (λ (f : FloorState). f.inboxes) s.same)
 
       lent_from_home : (x : AtHome) → GivenAs x s.buffer → Names x s.buffer s.before.drawn s.after.drawn → IsPermutation s.before.home (x ∷ s.after.home) → Everywhere K U R w

@@ -6,7 +6,7 @@ use Rattle.std.proofs.lemmas.Bool.Decides.{eqb_tells}
 use Rattle.std.proofs.lemmas.List.{length-set, length_push, length-append, get_or-set_same, get_or-set_other}
 use Rattle.std.proofs.lemmas.List.Elements.{All-cons, All-head, All-tail}
 use Rattle.std.proofs.lemmas.List.Sorted.{All-permutation, IsPermutation-sym}
-use Rattle.region_cut.specs.declared.TheConstants.{CHUNK}
+use Rattle.region_cut.specs.Limits.{chunk_size}
 use Rattle.region_cut.specs.declared.slot.Slot.{Slot}
 use Rattle.region_cut.specs.Carved.{Carved}
 use Rattle.region_cut.specs.Classes.{size_of, slots_of}
@@ -18,7 +18,7 @@ use Rattle.pool_desk.specs.Homes.AtHome.{Kept, Fresh}
 use Rattle.pool_desk.specs.Desks.{DeskState}
 use Rattle.pool_machine.specs.declared.chunk.DrawnChunk.{DrawnChunk}
 use Rattle.event_floor.specs.declared.any_desk.AnyDesk.TheVariants.{Held}
-use Rattle.event_floor.specs.Lent.{place_of}
+use Rattle.event_floor.specs.Lent.{index_of}
 use Rattle.event_floor.specs.Inboxes.{QueuedState, inbox_at}
 use Rattle.event_floor.specs.Desks.{home_of, cached_of}
 use Rattle.event_floor.specs.Floors.{FloorState, desk_at, no_desk}
@@ -57,10 +57,10 @@ module _ (names : List Carved) (v w : FloorState) (a n : ℕ) (slot : Slot) (f :
       let all = All-permutation (IsNamedHome names) _ _ p lender_named.home in
       let named : HasName names buffer = subst (HasName names) (sym e) (All-head (IsNamedHome names) (Kept c) s.after.home all) in
       subst (AreNames names) (sym s.same)
-      (changed_named names v f a (Held s.after) (set v.lent (place_of slot) (Some buffer)) v.inboxes v.next s.held.0
+      (changed_named names v f a (Held s.after) (set v.lent (index_of slot) (Some buffer)) v.inboxes v.next s.held.0
       (desk_named names v f a s.before s.after lender_named same (All-tail (IsNamedHome names) (Kept c) s.after.home all)
       (subst (λ bs. All (HasName names) bs) (ap (λ (x : DeskState). x.cached) (sym s.allocs.2)) lender_named.cached))
-      (each_place (HasName names) v.lent (place_of slot) (Some buffer) named f.lent) f.queued)
+      (each_place (HasName names) v.lent (index_of slot) (Some buffer) named f.lent) f.queued)
 
   -- ---- a slot is lent for the first time: its name is the next of its chunk
 
@@ -188,14 +188,14 @@ module _ (names : List Carved) (v w : FloorState) (a n : ℕ) (slot : Slot) (f :
         let at = t.place in
         omega (arith, low, more, at)
 
-    taken_whole : length taken.taken * size_of taken.class + length taken.rest ≡ CHUNK
+    taken_whole : length taken.taken * size_of taken.class + length taken.rest ≡ chunk_size
     taken_whole =
         let z = size_of t.from.class in
         let k = (f.chunks chunk t.from at_chunk).whole in
         let more : length taken.taken ≡ suc (length t.from.taken) = (let l = length_push t.from.taken buffer.bytes.ghost_name in omega (arith, l)) in
         let size : length buffer.bytes.now ≡ z = ap length g.3 ∙ (fresh_named.size ∙ ap size_of (sym t.class_is)) in
         let left : length t.from.rest ≡ length buffer.bytes.now + length t.rest = ap length t.left ∙ length-append buffer.bytes.now t.rest in
-        subst (λ n. n * z + length t.rest ≡ CHUNK) (sym more) (omega (arith, suc-mul (length t.from.taken) z, size, left, k))
+        subst (λ n. n * z + length t.rest ≡ chunk_size) (sym more) (omega (arith, suc-mul (length t.from.taken) z, size, left, k))
 
     taken_chunk : IsNamedChunk v.parts v.drawn chunk taken
     taken_chunk =
@@ -220,7 +220,7 @@ module _ (names : List Carved) (v w : FloorState) (a n : ℕ) (slot : Slot) (f :
       count = length-set names chunk taken ∙ f.count;
       chunks = lent_chunks;
       desks = each_lending;
-      lent = each_place (HasName new_names) v.lent (place_of slot) (Some buffer) named_now (λ i. some_to (HasName names) (HasName new_names) (get_or v.lent i None) kept_name (f.lent i));
+      lent = each_place (HasName new_names) v.lent (index_of slot) (Some buffer) named_now (λ i. some_to (HasName names) (HasName new_names) (get_or v.lent i None) kept_name (f.lent i));
       queued = λ b. All-to (λ (q : QueuedState). All (HasName names) q.buffers) (λ (q : QueuedState). All (HasName new_names) q.buffers) (inbox_at v.inboxes b)
           (λ q h. All-to (HasName names) (HasName new_names) q.buffers kept_name h) (f.queued b);
     })

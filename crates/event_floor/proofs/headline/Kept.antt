@@ -7,7 +7,7 @@ use Rattle.std.proofs.lemmas.List.{length_push}
 use Rattle.std.proofs.lemmas.List.Elements.{All-nil, All-cons, All-head}
 use Rattle.std.proofs.lemmas.List.Sorted.{All-permutation}
 use Rattle.std.proofs.lemmas.Option.{slice_get_within}
-use Rattle.region_cut.specs.declared.TheConstants.{CHUNK}
+use Rattle.region_cut.specs.Limits.{chunk_size}
 use Rattle.region_cut.specs.declared.slot.Slot.{Slot}
 use Rattle.region_cut.specs.Carved.{Carved}
 use Rattle.region_cut.specs.Classes.{size_of, slots_of}
@@ -121,26 +121,26 @@ module _ (region : List ℕ) where
       → GivenAs (Fresh u) s.buffer → RestLies region t.from → RestLies region (taken_next t.from s.buffer.bytes.ghost_name t.rest)
   next_lies names v w a n slot f s u t p g h =
       let z = size_of t.from.class in
-      let at = CHUNK * t.from.chunk + length t.from.taken * z in
+      let at = chunk_size * t.from.chunk + length t.from.taken * z in
       let fresh : HasNoName names u = All-head (IsNamedHome names) (Fresh u) s.after.home (All-permutation (IsNamedHome names) _ _ p (held_named names v f a s.before s.held).home) in
       let size : length s.buffer.bytes.now ≡ z = ap length g.3 ∙ (fresh.size ∙ ap size_of (sym t.class_is)) in
       let more : length (t.from.taken ++ s.buffer.bytes.ghost_name ∷ []) ≡ length t.from.taken + 1 = length_push t.from.taken s.buffer.bytes.ghost_name in
-      let place : at + length s.buffer.bytes.now ≡ CHUNK * t.from.chunk + (length t.from.taken + 1) * z = (let m = suc-mul (length t.from.taken) z in omega (arith, size, m)) in
-      subst (λ k. StandsAt t.rest (CHUNK * t.from.chunk + k * z) region) (sym more)
+      let place : at + length s.buffer.bytes.now ≡ chunk_size * t.from.chunk + (length t.from.taken + 1) * z = (let m = suc-mul (length t.from.taken) z in omega (arith, size, m)) in
+      subst (λ k. StandsAt t.rest (chunk_size * t.from.chunk + k * z) region) (sym more)
       (subst (λ k. StandsAt t.rest k region) place
       (stands_second s.buffer.bytes.now t.rest at region (subst (λ bs. StandsAt bs at region) t.left h)))
 
   -- a drawn chunk stands where it stood undrawn
-  module _ (v w : FloorState) (a class k : ℕ) (s : DrawsChunk v a class k w) (h : StandsAt (flat_map (λ (bs : List ℕ). bs) v.undrawn) (CHUNK * length v.drawn) region) where
-    both : StandsAt (bytes_of s.part ++ flat_map (λ (bs : List ℕ). bs) w.undrawn) (CHUNK * length v.drawn) region
-    both = subst (λ us. StandsAt (flat_map (λ (bs : List ℕ). bs) us) (CHUNK * length v.drawn) region) s.first h
+  module _ (v w : FloorState) (a class k : ℕ) (s : DrawsChunk v a class k w) (h : StandsAt (flat_map (λ (bs : List ℕ). bs) v.undrawn) (chunk_size * length v.drawn) region) where
+    both : StandsAt (bytes_of s.part ++ flat_map (λ (bs : List ℕ). bs) w.undrawn) (chunk_size * length v.drawn) region
+    both = subst (λ us. StandsAt (flat_map (λ (bs : List ℕ). bs) us) (chunk_size * length v.drawn) region) s.first h
 
-    part_lies : StandsAt (bytes_of s.part) (CHUNK * s.part.chunk) region
-    part_lies = subst (λ n. StandsAt (bytes_of s.part) (CHUNK * n) region) (sym (s.is_part ∙ s.is_next)) (stands_first (bytes_of s.part) _ _ region both)
+    part_lies : StandsAt (bytes_of s.part) (chunk_size * s.part.chunk) region
+    part_lies = subst (λ n. StandsAt (bytes_of s.part) (chunk_size * n) region) (sym (s.is_part ∙ s.is_next)) (stands_first (bytes_of s.part) _ _ region both)
 
     claimed_lies : All (IsHome BufferLies FreshLies) (unused_from s.part.chunk class s.part.bytes.ghost_name (slots_of class) 0 s.part.bytes.now)
     claimed_lies =
-        let p : CHUNK * s.part.chunk ≡ CHUNK * s.part.chunk + 0 * size_of class = omega arith in
+        let p : chunk_size * s.part.chunk ≡ chunk_size * s.part.chunk + 0 * size_of class = omega arith in
         unused_stand (IsHome BufferLies FreshLies) s.part.chunk class region (λ i part bs g. g) s.part.bytes.ghost_name (slots_of class) 0 (bytes_of s.part)
         (subst (λ n. StandsAt (bytes_of s.part) n region) p part_lies)
 
@@ -149,26 +149,26 @@ module _ (region : List ℕ) where
         let c = s.claims.drawn.drawn in
         let u = s.claims.drawn.uncut in
         let none : length c.taken ≡ 0 = ap length u.none_taken in
-        let p : CHUNK * s.part.chunk ≡ CHUNK * s.part.chunk + 0 * size_of c.class = omega arith in
-        let q : CHUNK * s.part.chunk ≡ CHUNK * c.chunk + length c.taken * size_of c.class =
-        p ∙ (ap (λ n. CHUNK * s.part.chunk + n * size_of c.class) (sym none) ∙ ap (λ n. CHUNK * n + length c.taken * size_of c.class) (sym u.chunk)) in
-        subst (λ bs. StandsAt bs (CHUNK * c.chunk + length c.taken * size_of c.class) region) (sym u.all_left) (subst (λ n. StandsAt (bytes_of s.part) n region) q part_lies)
+        let p : chunk_size * s.part.chunk ≡ chunk_size * s.part.chunk + 0 * size_of c.class = omega arith in
+        let q : chunk_size * s.part.chunk ≡ chunk_size * c.chunk + length c.taken * size_of c.class =
+        p ∙ (ap (λ n. chunk_size * s.part.chunk + n * size_of c.class) (sym none) ∙ ap (λ n. chunk_size * n + length c.taken * size_of c.class) (sym u.chunk)) in
+        subst (λ bs. StandsAt bs (chunk_size * c.chunk + length c.taken * size_of c.class) region) (sym u.all_left) (subst (λ n. StandsAt (bytes_of s.part) n region) q part_lies)
 
-    left_lies : StandsAt (flat_map (λ (bs : List ℕ). bs) w.undrawn) (CHUNK * length w.drawn) region
+    left_lies : StandsAt (flat_map (λ (bs : List ℕ). bs) w.undrawn) (chunk_size * length w.drawn) region
     left_lies =
         let whole = s.part.is_whole in
         let more : length w.drawn ≡ length v.drawn + 1 = ap (λ (x : FloorState). length x.drawn) s.same ∙ length_push v.drawn _ in
-        let p : CHUNK * length v.drawn + length (bytes_of s.part) ≡ CHUNK * (length v.drawn + 1) = omega (arith, whole) in
-        subst (λ n. StandsAt (flat_map (λ (bs : List ℕ). bs) w.undrawn) (CHUNK * n) region) (sym more)
+        let p : chunk_size * length v.drawn + length (bytes_of s.part) ≡ chunk_size * (length v.drawn + 1) = omega (arith, whole) in
+        subst (λ n. StandsAt (flat_map (λ (bs : List ℕ). bs) w.undrawn) (chunk_size * n) region) (sym more)
         (subst (λ n. StandsAt (flat_map (λ (bs : List ℕ). bs) w.undrawn) n region) p (stands_second (bytes_of s.part) _ _ region both))
 
   -- the parts that aren't drawn stay, but for the one of a claim
-  undrawn_lies : (v w : FloorState) (q : Request) (r : Reply) → StandsAt (flat_map (λ (bs : List ℕ). bs) v.undrawn) (CHUNK * length v.drawn) region → Does v q r w
-      → StandsAt (flat_map (λ (bs : List ℕ). bs) w.undrawn) (CHUNK * length w.drawn) region
+  undrawn_lies : (v w : FloorState) (q : Request) (r : Reply) → StandsAt (flat_map (λ (bs : List ℕ). bs) v.undrawn) (chunk_size * length v.drawn) region → Does v q r w
+      → StandsAt (flat_map (λ (bs : List ℕ). bs) w.undrawn) (chunk_size * length w.drawn) region
   undrawn_lies v w q r l h = ⊎_elim
       (λ (same : SameChunks v w).
-      subst (λ us. StandsAt (flat_map (λ (bs : List ℕ). bs) us) (CHUNK * length w.drawn) region) (sym same.1)
-      (subst (λ ds. StandsAt (flat_map (λ (bs : List ℕ). bs) v.undrawn) (CHUNK * length ds) region) (sym same.0) l))
+      subst (λ us. StandsAt (flat_map (λ (bs : List ℕ). bs) us) (chunk_size * length w.drawn) region) (sym same.1)
+      (subst (λ ds. StandsAt (flat_map (λ (bs : List ℕ). bs) v.undrawn) (chunk_size * length ds) region) (sym same.0) l))
       (λ (draws : DrawsSome v w). left_lies v w draws.0 draws.1 draws.2 draws.3 l) (same_chunks v w q r h)
 
   does_hold : (names : List Carved) (v w : FloorState) (q : Request) (r : Reply) → AreNames names v → Holds v region → Does v q r w → Holds w region

@@ -3,17 +3,16 @@ use Rattle.std.proofs.Common.{◌≡◌, ℕ, zero, suc, ◌<◌, ◌≤◌, tru
 use Rattle.std.specs.List.{list_all}
 use Rattle.std.proofs.lemmas.Bool.{leb-true, le-leb, true≢false, cases_lt, and_parts}
 use Rattle.std.proofs.lemmas.List.Sums.{fails_before_first}
-use Rattle.region_cut.specs.declared.class.TheConstants.{SIZES}
 use Rattle.region_cut.specs.declared.profile.Profile.{Profile}
 use Rattle.region_cut.specs.declared.profile.Profile.TheVariants.{Pool, Pool2}
-use Rattle.region_cut.specs.Classes.{size_of, classes_of, largest_of, IsLeastFor}
+use Rattle.region_cut.specs.Classes.{class_sizes, size_of, classes_of, largest_of, IsLeastFor}
 use Rattle.pool_machine.specs.State.{least_class}
 use Rattle.pool_machine.proofs.ClassLaws.{first_is}
 
-sizes_at : (p : Profile) (k : ℕ) → k < classes_of p → get_or (take (classes_of p) SIZES) k 0 ≡ size_of k
-sizes_at p k l = get_or-take (classes_of p) SIZES k 0 l
+sizes_at : (p : Profile) (k : ℕ) → k < classes_of p → get_or (take (classes_of p) class_sizes) k 0 ≡ size_of k
+sizes_at p k l = get_or-take (classes_of p) class_sizes k 0 l
 
-sizes_length : (p : Profile) → length (take (classes_of p) SIZES) ≡ classes_of p
+sizes_length : (p : Profile) → length (take (classes_of p) class_sizes) ≡ classes_of p
 sizes_length Pool = refl
 sizes_length Pool2 = refl
 
@@ -22,7 +21,7 @@ each_within m [] k e l = absurd (omega arith)
 each_within m (x ∷ xs) zero e l = leb-true x m (and_parts (nat_le x m) (list_all (λ z. nat_le z m) xs) e).0
 each_within m (x ∷ xs) (suc k) e l = each_within m xs k (and_parts (nat_le x m) (list_all (λ z. nat_le z m) xs) e).1 (omega arith)
 
-all_within : (p : Profile) → list_all (λ z. nat_le z (largest_of p)) (take (classes_of p) SIZES) ≡ true
+all_within : (p : Profile) → list_all (λ z. nat_le z (largest_of p)) (take (classes_of p) class_sizes) ≡ true
 all_within Pool = refl
 all_within Pool2 = refl
 
@@ -30,7 +29,7 @@ all_within Pool2 = refl
 pub holds_within : (p : Profile) (n c : ℕ) → IsLeastFor p n c → n ≤ largest_of p
 holds_within p n c h =
     let e = sizes_at p c h.is_used in
-    let m = each_within (largest_of p) (take (classes_of p) SIZES) c (all_within p) (subst (λ k. c < k) (sym (sizes_length p)) h.is_used) in
+    let m = each_within (largest_of p) (take (classes_of p) class_sizes) c (all_within p) (subst (λ k. c < k) (sym (sizes_length p)) h.is_used) in
     let s = h.holds in
     omega (arith, e, m, s)
 
@@ -39,7 +38,7 @@ within p n c h = elim (cases_lt (least_class p n) (classes_of p)) as (λ _. leas
   | inl l ↦ l
   | inr l ↦ absurd (
       let u = h.is_used in
-      let f = fails_before_first (λ z. nat_le n z) (take (classes_of p) SIZES) c 0 (omega (arith, l, u)) in
+      let f = fails_before_first (λ z. nat_le n z) (take (classes_of p) class_sizes) c 0 (omega (arith, l, u)) in
       true≢false (sym (le-leb n (size_of c) h.holds) ∙ (ap (nat_le n) (sym (sizes_at p c h.is_used)) ∙ f)))
 ]
 

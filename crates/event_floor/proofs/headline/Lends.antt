@@ -24,7 +24,7 @@ use Rattle.pool_machine.specs.declared.request.Request.TheVariants.{Alloc, Free}
 use Rattle.pool_machine.specs.declared.reply.Reply.TheVariants.{Slot as Lent}
 use Rattle.event_floor.specs.DeskAnswers.{reply_of}
 use Rattle.event_floor.specs.Desks.{HasPlace, home_of}
-use Rattle.event_floor.specs.Lent.{buffers_lent, place_of}
+use Rattle.event_floor.specs.Lent.{buffers_lent, index_of}
 use Rattle.event_floor.specs.Floors.{FloorState, IsHeld}
 use Rattle.event_floor.specs.Steps.{LendsSlot, TakesBack}
 use Rattle.pool_machine.specs.State.{State}
@@ -52,10 +52,10 @@ gives_seen a (Fresh u) b g o = rw (g.0, g.1, g.2, o) refl
 -- what is at home isn't lent
 apart : (v : FloorState) (st : State) (count : Slot → ℕ) (a : ℕ) (d : DeskState) (s : AtHome) (home : List AtHome) (b c : Buffer)
     → Located (listing_of v) st count → IsHeld v a d → IsPermutation d.home (s ∷ home) → slot_at s ≡ b.slot
-    → get_or v.lent (place_of b.slot) None ≡ Some c → c.slot ≡ b.slot → ⊥
+    → get_or v.lent (index_of b.slot) None ≡ Some c → c.slot ≡ b.slot → ⊥
 apart v st count a d s home b c h l p e m same =
     let lent : list_of st c.slot ≡ Some Loans =
-    present_at (λ x. list_of st x.slot ≡ Some Loans) v.lent (place_of b.slot) c (λ k x n. subst (λ (z : Entry). list_of st z.slot ≡ Some Loans)
+    present_at (λ x. list_of st x.slot ≡ Some Loans) v.lent (index_of b.slot) c (λ k x n. subst (λ (z : Entry). list_of st z.slot ≡ Some Loans)
     (get_or-map entry_of (buffers_lent v.lent) k x (entry_of x) n) (lent_place (listing_of v) st count h k (entry_of x) (rw (length-map (buffers_lent v.lent) entry_of) n))) m in
     let homes : All (λ (z : Entry). list_of st z.slot ≡ Some (HomeOf a)) (map (entry_at d.number) d.home) =
     subst (λ (z : DeskListing). All (λ (z : Entry). list_of st z.slot ≡ Some (HomeOf a)) z.home) (held_seen v a d l) (home_place (listing_of v) st count h a) in
@@ -89,7 +89,7 @@ module _ (v w : FloorState) (a n : ℕ) (slot : Slot) (f : IsWhole v) (s : Lends
   lender = desk_of (HeldDesk s.after)
 
   abbrev lent_place_of : ℕ
-  lent_place_of = place_of s.buffer.slot
+  lent_place_of = index_of s.buffer.slot
 
   lender_number : (s.before.number ≡ a) × (s.before.limit ≡ v.limit) × (s.before.digits ≡ v.digits)
   lender_number = numbered_held v a s.before f s.held
@@ -137,7 +137,7 @@ module _ (v w : FloorState) (a n : ℕ) (slot : Slot) (f : IsWhole v) (s : Lends
   lent_shown =
       ap listing_of s.same
       ∙ ap₂ (λ xs ys. record (listing_of v) { desks = xs; lent = ys }) (with_any_desk_seen v a (HeldDesk s.after))
-      (ap (λ z. map entry_of (buffers_lent (set v.lent (place_of z) (Some s.buffer)))) (sym s.is_slot))
+      (ap (λ z. map entry_of (buffers_lent (set v.lent (index_of z) (Some s.buffer)))) (sym s.is_slot))
 
   pub alloc_done : LocatedStep (listing_of v) (Alloc a n) (Ok (Lent slot)) (listing_of w)
   alloc_done =
@@ -162,16 +162,16 @@ module _ (v w : FloorState) (a : ℕ) (pair : ℕ × ℕ) (r : Freed) (f : IsWho
   freer = desk_of (HeldDesk s.after)
 
   abbrev lent_after : List Entry
-  lent_after = map entry_of (buffers_lent (set v.lent (place_of s.buffer.slot) None))
+  lent_after = map entry_of (buffers_lent (set v.lent (index_of s.buffer.slot) None))
 
   freer_number : (s.before.number ≡ a) × (s.before.limit ≡ v.limit) × (s.before.digits ≡ v.digits)
   freer_number = numbered_held v a s.before f s.held
 
-  pub was_there : get_or v.lent (place_of s.buffer.slot) None ≡ Some s.buffer
-  was_there = ap (λ z. get_or v.lent (place_of z) None) s.is_slot ∙ (lent_at_place v.lent pair.0 pair.1 s.buffer s.was_lent).1
+  pub was_there : get_or v.lent (index_of s.buffer.slot) None ≡ Some s.buffer
+  was_there = ap (λ z. get_or v.lent (index_of z) None) s.is_slot ∙ (lent_at_place v.lent pair.0 pair.1 s.buffer s.was_lent).1
 
   left_table : IsPermutation (entry_of s.buffer ∷ lent_after) (listing_of v).lent
-  left_table = IsPermutation-map entry_of _ _ (present_gone v.lent (place_of s.buffer.slot) s.buffer was_there)
+  left_table = IsPermutation-map entry_of _ _ (present_gone v.lent (index_of s.buffer.slot) s.buffer was_there)
 
   caching : Caches s.before s.buffer s.after → FreeEdits (listing_of v) a (entry_of s.buffer) lent_after freer
   caching h =

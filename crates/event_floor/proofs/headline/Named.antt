@@ -15,7 +15,7 @@ use Rattle.pool_desk.specs.declared.freed.Freed.{Freed}
 use Rattle.pool_desk.specs.declared.freed.Freed.TheVariants.{Home as FreedHome, Cached as FreedCached, Due as FreedDue}
 use Rattle.event_floor.specs.declared.any_desk.AnyDesk.{AnyDesk}
 use Rattle.event_floor.specs.declared.any_desk.AnyDesk.TheVariants.{Idle, Held}
-use Rattle.event_floor.specs.Lent.{place_of}
+use Rattle.event_floor.specs.Lent.{index_of}
 use Rattle.event_floor.specs.Inboxes.{QueuedState, inbox_at, sent_as, as_linked, no_batch}
 use Rattle.event_floor.specs.Desks.{adopted, retired}
 use Rattle.event_floor.specs.Floors.{FloorState, desk_count, no_desk, with_any_desk, with_desk, IsIdle, IsHeld}
@@ -135,9 +135,9 @@ module _ (names : List Carved) (v : FloorState) (n : AreNames names v) where
       let here = lent_place v.lent chunk index s.buffer s.was_lent in
       let p : HasName names s.buffer = subst (λ (o : Option Buffer). IfSome o (HasName names)) here.1 (n.lent _) in
       subst (AreNames names) (sym s.same)
-      (changed_named a (Held s.after) (set v.lent (place_of s.buffer.slot) None) v.inboxes v.next s.held.0
+      (changed_named a (Held s.after) (set v.lent (index_of s.buffer.slot) None) v.inboxes v.next s.held.0
       (freed_desk a s.before s.after s.buffer r (held_named a s.before s.held) p s.frees)
-      (each_place (HasName names) v.lent (place_of s.buffer.slot) None tt n.lent) n.queued)
+      (each_place (HasName names) v.lent (index_of s.buffer.slot) None tt n.lent) n.queued)
 
   pub send_named : (w : FloorState) (a t number count : ℕ) → SendsBatch v a t number count w → AreNames names w
   send_named w a t number count s =

@@ -20,7 +20,7 @@ use Rattle.event_floor.specs.Floors.{FloorState, desk_count, last_number, IsHeld
 use Rattle.event_floor.specs.Steps.{Refuses, Routes, class_limit, size_limit}
 use Rattle.pool_machine.specs.State.{Waiting, least_class}
 use Rattle.region_cut.specs.Slots.{same_slot}
-use Rattle.pool_machine.specs.Refusals.{first, slot_at}
+use Rattle.pool_machine.specs.Refusals.{first, slot_named}
 use Rattle.pool_machine.proofs.Located.{inbox_listing}
 use Rattle.pool_machine.specs.Listing.{Entry, DeskListing, desk_listing, as_waiting}
 use Rattle.event_floor.specs.headline.Listing.{entry_of, batch_of, listing_of}
@@ -233,7 +233,7 @@ alloc_refused v a n _ f h = elim h [ ]
 -- ---- Free
 
 abbrev pub not_lent : FloorState → ℕ × ℕ → Bool
-not_lent v pair = not (list_any (λ (e : Entry). same_slot (slot_at pair) e.slot) (listing_of v).lent)
+not_lent v pair = not (list_any (λ (e : Entry). same_slot (slot_named pair) e.slot) (listing_of v).lent)
 
 pub free_refused : (v : FloorState) (a : ℕ) (pair : ℕ × ℕ) (r : Refusal) → AreInPlace v.lent → Refuses v (Free a pair) r → Says v (Free a pair) r
 free_refused v a pair NoDesk f h = no_desk_first v a ((not_lent v pair, NotLent) ∷ []) h
@@ -241,7 +241,7 @@ free_refused v a pair Idle f h = idle_first v a ((not_lent v pair, NotLent) ∷ 
 free_refused v a pair NotLent f h =
     held_first v a ((not_lent v pair, NotLent) ∷ []) h.0.0 h.0.1
     ∙ hits (not_lent v pair) NotLent []
-    (ap not (any-map entry_of (λ (e : Entry). same_slot (slot_at pair) e.slot) (buffers_lent v.lent) ∙ none_lent v.lent pair.0 pair.1 f h.1))
+    (ap not (any-map entry_of (λ (e : Entry). same_slot (slot_named pair) e.slot) (buffers_lent v.lent) ∙ none_lent v.lent pair.0 pair.1 f h.1))
 free_refused v a pair _ f h = elim h [ ]
 
 pub free_accepted : (v : FloorState) (a : ℕ) (pair : ℕ × ℕ) (d : DeskState) (b : Buffer) → IsHeld v a d → lent_at v.lent pair.0 pair.1 ≡ Some b
@@ -249,7 +249,7 @@ pub free_accepted : (v : FloorState) (a : ℕ) (pair : ℕ × ℕ) (d : DeskStat
 free_accepted v a pair d b l e s =
     held_first v a ((not_lent v pair, NotLent) ∷ []) d l
     ∙ passes (not_lent v pair) NotLent []
-    (ap not (any-map entry_of (λ (e : Entry). same_slot (slot_at pair) e.slot) (buffers_lent v.lent) ∙ one_lent v.lent pair.0 pair.1 b e s))
+    (ap not (any-map entry_of (λ (e : Entry). same_slot (slot_named pair) e.slot) (buffers_lent v.lent) ∙ one_lent v.lent pair.0 pair.1 b e s))
 
 -- ---- Send
 

@@ -4,7 +4,7 @@ use Rattle.std.specs.Borrow.{GName}
 use Rattle.std.proofs.Math.Nat.{suc-mul}
 use Rattle.std.proofs.lemmas.List.{drop-drop}
 use Rattle.std.proofs.lemmas.List.Elements.{All-nil, All-cons, All-head, All-tail}
-use Rattle.region_cut.specs.declared.TheConstants.{CHUNK}
+use Rattle.region_cut.specs.Limits.{chunk_size}
 use Rattle.region_cut.specs.Classes.{size_of}
 use Rattle.region_cut.specs.Laws.{StandsAt}
 use Rattle.pool_desk.specs.Homes.{AtHome, unused_from}
@@ -98,12 +98,12 @@ stands_within p q xs ys w g h = begins_trans xs (drop p ys) (drop (q + p) w) g (
 
 -- the slots of a chunk that stands there
 module _ (P : AtHome → Type 0) (chunk class : ℕ) (w : List ℕ)
-    (is : (i : ℕ) (part : GName) (bs : List ℕ) → StandsAt bs (CHUNK * chunk + i * size_of class) w
+    (is : (i : ℕ) (part : GName) (bs : List ℕ) → StandsAt bs (chunk_size * chunk + i * size_of class) w
     → P (Fresh (record { slot = record { chunk = chunk; index = i }; class = class; part = part; bytes = bs }))) where
-  pub unused_stand : (part : GName) (n i : ℕ) (bs : List ℕ) → StandsAt bs (CHUNK * chunk + i * size_of class) w → All P (unused_from chunk class part n i bs)
+  pub unused_stand : (part : GName) (n i : ℕ) (bs : List ℕ) → StandsAt bs (chunk_size * chunk + i * size_of class) w → All P (unused_from chunk class part n i bs)
   unused_stand part zero i bs h = All-nil P
   unused_stand part (suc n) i bs h =
-      let next : (CHUNK * chunk + i * size_of class) + size_of class ≡ CHUNK * chunk + (i + 1) * size_of class = (let e = suc-mul i (size_of class) in omega (arith, e)) in
+      let next : (chunk_size * chunk + i * size_of class) + size_of class ≡ chunk_size * chunk + (i + 1) * size_of class = (let e = suc-mul i (size_of class) in omega (arith, e)) in
       All-cons P _ _ (is i part (take (size_of class) bs) (stands_take (size_of class) _ bs w h))
       (unused_stand part n (i + 1) (drop (size_of class) bs) (subst (λ p. StandsAt (drop (size_of class) bs) p w) next (stands_drop (size_of class) _ bs w h)))
 

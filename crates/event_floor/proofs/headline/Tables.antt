@@ -6,7 +6,7 @@ use Rattle.std.proofs.lemmas.Bool.{true≢false, ltb-true, lt-ltb}
 use Rattle.std.proofs.lemmas.List.Sorted.{IsPermutation-refl, IsPermutation-trans, IsPermutation-cons, IsPermutation-middle}
 use Rattle.region_cut.specs.declared.slot.Slot.{Slot}
 use Rattle.slot_chain.specs.Buffer.{Buffer}
-use Rattle.event_floor.specs.Lent.{buffers_lent, lent_at, place_of, AreInPlace}
+use Rattle.event_floor.specs.Lent.{buffers_lent, lent_at, index_of, AreInPlace}
 use Rattle.region_cut.specs.Slots.{same_slot}
 use Rattle.pool_machine.proofs.Basics.{same_slot_eq, same_slot_self}
 
@@ -72,8 +72,8 @@ lent_none lent chunk index e l = go (nat_lt index 256) (lt-ltb index 256 l) e
     go true q f = f
     go false q f = absurd (true≢false (sym q))
 
-pub at_its_place : (lent : List (Option Buffer)) (i : ℕ) (b : Buffer) → AreInPlace lent → get_or lent i None ≡ Some b → (place_of b.slot ≡ i) × (b.slot.index < 256)
-at_its_place lent i b h e = subst (λ z. IfSome z (λ (b : Buffer). (place_of b.slot ≡ i) × (b.slot.index < 256))) e (h i)
+pub at_its_place : (lent : List (Option Buffer)) (i : ℕ) (b : Buffer) → AreInPlace lent → get_or lent i None ≡ Some b → (index_of b.slot ≡ i) × (b.slot.index < 256)
+at_its_place lent i b h e = subst (λ z. IfSome z (λ (b : Buffer). (index_of b.slot ≡ i) × (b.slot.index < 256))) e (h i)
 
 abbrev pub slot_of : ℕ → ℕ → Slot
 slot_of chunk index = record { chunk = chunk; index = index }
@@ -88,7 +88,7 @@ none_lent lent chunk index h e = none_present _ lent (λ i b f. go i b f (same_s
     go i b f true q =
         let s : slot_of chunk index ≡ b.slot = same_slot_eq (slot_of chunk index) b.slot q in
         let p = at_its_place lent i b h f in
-        let here : i ≡ 256 * chunk + index = sym p.0 ∙ ap place_of (sym s) in
+        let here : i ≡ 256 * chunk + index = sym p.0 ∙ ap index_of (sym s) in
         let low : index < 256 = subst (λ (z : Slot). z.index < 256) (sym s) p.1 in
         absurd (none_some b (sym (lent_none lent chunk index e low) ∙ (ap (λ n. get_or lent n None) (sym here) ∙ f)))
 
@@ -112,7 +112,7 @@ present_at P (Some c ∷ places) zero b h e = let q : c ≡ b = cc in subst P q 
 present_at P (Some c ∷ places) (suc i) b h e = present_at P places i b (λ k d l. h (suc k) d (omega (arith, l))) e
 
 -- two slots have one place
-pub same_place : (s r : Slot) → place_of s ≡ place_of r → s.index < 256 → r.index < 256 → s ≡ r
+pub same_place : (s r : Slot) → index_of s ≡ index_of r → s.index < 256 → r.index < 256 → s ≡ r
 same_place s r e l m =
     let k : s.chunk ≡ r.chunk = omega (arith, e, l, m) in
     let i : s.index ≡ r.index = omega (arith, e, k) in

@@ -8,7 +8,7 @@ use Rattle.std.proofs.lemmas.Option.{slice_get_past}
 use Rattle.std.proofs.lemmas.List.{length-set, length_push, length-take-le, length-drop, get_or-set_same, get_or-set_other}
 use Rattle.std.proofs.Math.Nat.{suc-mul, div-mul-le_self}
 use Rattle.std.proofs.lemmas.List.Elements.{All-nil, All-cons, All-append}
-use Rattle.region_cut.specs.declared.TheConstants.{CHUNK}
+use Rattle.region_cut.specs.Limits.{chunk_size}
 use Rattle.std.proofs.lemmas.List.Sorted.{All-permutation, sum_by-IsPermutation}
 use Rattle.region_cut.specs.Carved.{Carved}
 use Rattle.region_cut.specs.Classes.{slots_of, size_of}
@@ -106,8 +106,8 @@ more_than m z n l = omega (arith, l, suc-mul m z)
 rest_of : (m z : ℕ) (bs : List ℕ) → suc m * z ≤ length bs → m * z ≤ length (drop z bs)
 rest_of m z bs l = omega (arith, l, suc-mul m z, length-drop z bs)
 
-slots_fit : (c : ℕ) → slots_of c * size_of c ≤ CHUNK
-slots_fit c = div-mul-le_self CHUNK (size_of c)
+slots_fit : (c : ℕ) → slots_of c * size_of c ≤ chunk_size
+slots_fit c = div-mul-le_self chunk_size (size_of c)
 
 -- ---- Claim
 
@@ -225,7 +225,7 @@ module _ (names : List Carved) (v w : FloorState) (a class k : ℕ) (n : AreName
         ∙ (ap (option_map (λ (d : DrawnChunk). d.class)) (get_last v.drawn (record { owner = a; class = class })) ∙ ap (λ m. Some m) (sym s.claims.drawn.uncut.class_is));
     part = ap (slice_get v.parts) (same ∙ last_place) ∙ (s.has_name ∙ ap (λ g. Some g) (sym s.claims.drawn.uncut.whole));
     few = subst (λ xs. length xs ≤ slots_of new_chunk.class) (sym s.claims.drawn.uncut.none_taken) (omega arith);
-    whole = subst (λ xs. length xs * size_of new_chunk.class + length new_chunk.rest ≡ CHUNK) (sym s.claims.drawn.uncut.none_taken)
+    whole = subst (λ xs. length xs * size_of new_chunk.class + length new_chunk.rest ≡ chunk_size) (sym s.claims.drawn.uncut.none_taken)
         (let left : length new_chunk.rest ≡ length s.part.bytes.now = ap length s.claims.drawn.uncut.all_left in let all = s.part.is_whole in omega (arith, left, all));
   }
 

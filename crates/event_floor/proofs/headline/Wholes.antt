@@ -12,9 +12,9 @@ use Rattle.pool_machine.specs.declared.request.Request.{Request}
 use Rattle.pool_machine.specs.declared.request.Request.TheVariants.{Adopt, Retire, Claim, Alloc, Free, Send, Link, Take}
 use Rattle.pool_machine.specs.declared.reply.Reply.{Reply}
 use Rattle.pool_machine.specs.declared.reply.Reply.TheVariants.{Done, Chunk, Slot as Lent, Home, Cached, Due, Batch, Counts}
-use Rattle.event_floor.specs.Lent.{place_of, AreInPlace}
+use Rattle.event_floor.specs.Lent.{index_of, AreInPlace}
 use Rattle.event_floor.specs.Desks.{new_desks}
-use Rattle.region_cut.specs.declared.TheConstants.{CHUNK}
+use Rattle.region_cut.specs.Limits.{chunk_size}
 use Rattle.region_cut.specs.Parts.{name_of, bytes_of}
 use Rattle.region_cut.specs.declared.part.Part.{Part}
 use Rattle.event_floor.specs.Floors.{FloorState, IsFloor, opening}
@@ -32,7 +32,7 @@ use Rattle.event_floor.proofs.headline.Lends.{placed_slot, in_table}
 
 -- ---- the table
 
-put_in_place : (lent : List (Option Buffer)) (p : ℕ) (b : Buffer) → AreInPlace lent → p < length lent → place_of b.slot ≡ p → b.slot.index < 256 → AreInPlace (set lent p (Some b))
+put_in_place : (lent : List (Option Buffer)) (p : ℕ) (b : Buffer) → AreInPlace lent → p < length lent → index_of b.slot ≡ p → b.slot.index < 256 → AreInPlace (set lent p (Some b))
 put_in_place lent p b h l e m i =
     ⊎_elim (λ (same : _ × (i ≡ p)). rw same.1 (rw (get_or-set_same lent p (Some b) None l) (e, m)))
     (λ (other : _ × (i ≢ p)). rw (get_or-set_other lent p i (Some b) None other.1) (h i)) (eqb_tells i p)
@@ -46,7 +46,7 @@ gone P (x ∷ xs) (suc p) zero k = k
 gone P (x ∷ xs) (suc p) (suc j) k = gone P xs p j k
 
 gone_in_place : (lent : List (Option Buffer)) (p : ℕ) → AreInPlace lent → AreInPlace (set lent p None)
-gone_in_place lent p h i = gone (λ (b : Buffer). (place_of b.slot ≡ i) × (b.slot.index < 256)) lent p i (h i)
+gone_in_place lent p h i = gone (λ (b : Buffer). (index_of b.slot ≡ i) × (b.slot.index < 256)) lent p i (h i)
 
 lent_stays : (v w : FloorState) → w.lent ≡ v.lent → AreInPlace v.lent → AreInPlace w.lent
 lent_stays v w e h = subst AreInPlace (sym e) h
@@ -54,10 +54,10 @@ lent_stays v w e h = subst AreInPlace (sym e) h
 lends_in_place : (v w : FloorState) (a n : ℕ) (slot : Slot) → IsWhole v → LendsSlot v a n slot w → AreInPlace w.lent
 lends_in_place v w a n slot f s =
     subst AreInPlace (sym (ap (λ (x : FloorState). x.lent) s.same))
-    (put_in_place v.lent (place_of slot) s.buffer f.in_place (subst (λ z. place_of z < length v.lent) s.is_slot (in_table v w a n slot f s)) (ap place_of s.is_slot) (placed_slot v w a n slot f s).1)
+    (put_in_place v.lent (index_of slot) s.buffer f.in_place (subst (λ z. index_of z < length v.lent) s.is_slot (in_table v w a n slot f s)) (ap index_of s.is_slot) (placed_slot v w a n slot f s).1)
 
 takes_in_place : (v w : FloorState) (a k i : ℕ) (r : Freed) → IsWhole v → TakesBack v a k i r w → AreInPlace w.lent
-takes_in_place v w a k i r f s = subst AreInPlace (sym (ap (λ (x : FloorState). x.lent) s.same)) (gone_in_place v.lent (place_of s.buffer.slot) f.in_place)
+takes_in_place v w a k i r f s = subst AreInPlace (sym (ap (λ (x : FloorState). x.lent) s.same)) (gone_in_place v.lent (index_of s.buffer.slot) f.in_place)
 
 -- what each accepted request keeps
 keeps : (v w : FloorState) (q : Request) (r : Reply) → IsWhole v → Does v q r w → AreInPlace w.lent × (w.chunks ≡ v.chunks) × (w.parts ≡ v.parts)
@@ -83,12 +83,12 @@ keeps v w (Take b) _ f h = elim h [ ]
 -- a part that is drawn leaves those that aren't
 draws_stocked : (v w : FloorState) (a c k : ℕ) → IsStocked v → DrawsChunk v a c k w → IsStocked w
 draws_stocked v w a c k f h =
-    let all = subst (λ bs. All (λ (b : List ℕ). length b ≡ CHUNK) bs) h.first f.1 in
+    let all = subst (λ bs. All (λ (b : List ℕ). length b ≡ chunk_size) bs) h.first f.1 in
     let count : length v.undrawn ≡ suc (length w.undrawn) = ap length h.first in
     let all_of = f.0 in
     let parts : length w.parts ≡ length v.parts = ap (λ (x : FloorState). length x.parts) h.same in
     let drawn : length w.drawn ≡ length v.drawn + 1 = ap (λ (x : FloorState). length x.drawn) h.same ∙ length_push v.drawn _ in
-    (omega (arith, all_of, count, parts, drawn), All-tail (λ (b : List ℕ). length b ≡ CHUNK) (bytes_of h.part) w.undrawn all)
+    (omega (arith, all_of, count, parts, drawn), All-tail (λ (b : List ℕ). length b ≡ chunk_size) (bytes_of h.part) w.undrawn all)
 
 does_stocked : (v w : FloorState) (q : Request) (r : Reply) → IsStocked v → Does v q r w → IsStocked w
 does_stocked v w (Adopt a x) Done f h = subst IsStocked (sym h.2) f
@@ -137,8 +137,8 @@ empty_listed : (n : ℕ) → map (map batch_of) (replicate n []) ≡ replicate n
 empty_listed zero = refl
 empty_listed (suc n) = ap (λ l. [] ∷ l) (empty_listed n)
 
-none_in_place : (n i : ℕ) → IfSome (get_or (replicate n (let o : Option Buffer = None in o)) i None) (λ (b : Buffer). (place_of b.slot ≡ i) × (b.slot.index < 256))
-none_in_place n i = subst (λ o. IfSome o (λ (b : Buffer). (place_of b.slot ≡ i) × (b.slot.index < 256))) (sym (none_at n i)) tt
+none_in_place : (n i : ℕ) → IfSome (get_or (replicate n (let o : Option Buffer = None in o)) i None) (λ (b : Buffer). (index_of b.slot ≡ i) × (b.slot.index < 256))
+none_in_place n i = subst (λ o. IfSome o (λ (b : Buffer). (index_of b.slot ≡ i) × (b.slot.index < 256))) (sym (none_at n i)) tt
   where
     none_at : (n i : ℕ) → get_or (replicate n (let o : Option Buffer = None in o)) i None ≡ None
     none_at zero zero = refl
@@ -163,9 +163,9 @@ pub shows_opening : (desks : ℕ) (parts : List Part) (digits : Scheme) (limit :
 shows_opening desks parts digits limit i l =
     subst (λ z. Shown z (machine_opening desks (length parts) digits limit) (λ s. 0)) (sym (opening_listed desks parts digits limit)) (opening_shown desks (length parts) digits limit i l)
 
-all_full : (ps : List Part) → All (λ (b : List ℕ). length b ≡ CHUNK) (map bytes_of ps)
-all_full [] = All-nil (λ (b : List ℕ). length b ≡ CHUNK)
-all_full (p ∷ ps) = All-cons (λ (b : List ℕ). length b ≡ CHUNK) (bytes_of p) (map bytes_of ps) p.is_whole (all_full ps)
+all_full : (ps : List Part) → All (λ (b : List ℕ). length b ≡ chunk_size) (map bytes_of ps)
+all_full [] = All-nil (λ (b : List ℕ). length b ≡ chunk_size)
+all_full (p ∷ ps) = All-cons (λ (b : List ℕ). length b ≡ chunk_size) (bytes_of p) (map bytes_of ps) p.is_whole (all_full ps)
 
 pub opening_whole : (desks : ℕ) (parts : List Part) (digits : Scheme) (limit : ℕ) → length parts ≤ 1024
     → (let v = opening desks parts digits limit in IsFloor v.digits v.limit v.chunks v.desks v.lent v.inboxes v.next) → IsWhole (opening desks parts digits limit)

@@ -1,6 +1,6 @@
 -- The bytes of a floor's slots, which no request changes.
 use Rattle.std.specs.Prelude.{ℕ, ◌≡◌, ◌≢◌, ◌+◌, ◌*◌, ◌⊎◌, List, length, flat_map, All, Any}
-use Rattle.region_cut.specs.declared.TheConstants.{CHUNK}
+use Rattle.region_cut.specs.Limits.{chunk_size}
 use Rattle.region_cut.specs.declared.slot.Slot.{Slot}
 use Rattle.region_cut.specs.Carved.{Carved}
 use Rattle.region_cut.specs.Classes.{size_of}
@@ -19,7 +19,7 @@ LieAt region s class bytes = StandsAt bytes (start_of s class) region
 
 -- the region has what is left of the chunk behind the slots that were taken of it
 abbrev pub RestLies : List ℕ → Carved → Type 0
-RestLies region c = StandsAt c.rest (CHUNK * c.chunk + length c.taken * size_of c.class) region
+RestLies region c = StandsAt c.rest (chunk_size * c.chunk + length c.taken * size_of c.class) region
 
 -- The floor holds the bytes of this region, each slot those of its range: each buffer, and each slot that was never
 -- handed out. What is left of a drawn chunk, and the chunks that aren't drawn, are the region's too.
@@ -27,7 +27,7 @@ pub record Holds (v : FloorState) (region : List ℕ) : Type 0 where
   pub buffers : All (λ (b : Buffer). LieAt region b.slot b.class b.bytes.now) (buffers_of v)
   pub fresh : All (λ (u : Unused). LieAt region u.slot u.class u.bytes) (fresh_of v)
   pub rests : All (RestLies region) (flat_map chunks_of v.desks)
-  pub undrawn : StandsAt (flat_map (λ (bs : List ℕ). bs) v.undrawn) (CHUNK * length v.drawn) region
+  pub undrawn : StandsAt (flat_map (λ (bs : List ℕ). bs) v.undrawn) (chunk_size * length v.drawn) region
 
 -- the same slot of the same class and owner, and the same slice: its bytes now, and its name
 abbrev pub IsSameSlice : Buffer → Buffer → Type 0

@@ -1,7 +1,7 @@
 -- What is known of a region once a floor over it is ended.
 use Rattle.std.specs.Prelude.{ℕ, ◌≡◌, List, [], ◌∷◌, ◌++◌, length, map, drop, flat_map, All}
 use Rattle.std.specs.Borrow.{GName}
-use Rattle.region_cut.specs.declared.TheConstants.{CHUNK}
+use Rattle.region_cut.specs.Limits.{chunk_size}
 use Rattle.region_cut.specs.Carved.{Carved}
 use Rattle.region_cut.specs.Endings.{Ended, IsKnown, end_in}
 use Rattle.region_cut.specs.Laws.{StandsAt}
@@ -48,7 +48,7 @@ EndsAsDrawn known c = end_in known c.whole ≡ flat_map (end_in known) c.taken +
 -- is, and so does a part that isn't drawn.
 pub record EndsKnown (v : FloorState) (known : List Ended) : Type 0 where
   pub parts : All (IsKnown known) v.parts
-  pub whole : All (λ x. length (end_in known x) ≡ CHUNK) v.parts
+  pub whole : All (λ x. length (end_in known x) ≡ chunk_size) v.parts
   pub buffers : (tail : List ℕ) → All (λ (b : Buffer). StandsAt b.bytes.now (start_of b.slot b.class)
       (flat_map (end_in known) v.parts ++ tail)) (buffers_of v)
   pub fresh : (tail : List ℕ) → All (λ (u : Unused). StandsAt u.bytes (start_of u.slot u.class)

@@ -1,6 +1,6 @@
 -- Where the bytes of a slot lie.
 use Rattle.std.specs.Prelude.{◌≡◌, ◌≢◌, ℕ, List, ◌++◌, length, flat_map, All}
-use Rattle.region_cut.specs.declared.TheConstants.{CHUNK}
+use Rattle.region_cut.specs.Limits.{chunk_size}
 use Rattle.region_cut.specs.Carved.{Carved}
 use Rattle.region_cut.specs.Classes.{size_of}
 use Rattle.region_cut.specs.Laws.{Ending, StandsAt, BeginsWith}
@@ -16,7 +16,7 @@ abbrev pub NamedBuffersLie : Type 0
 NamedBuffersLie =
     (end : Ending) (v : FloorState) (names : List Carved) → AreNames names v
     → (b : Buffer) (named : HasName names b) (region : List ℕ)
-    → BeginsWith end v.parts CHUNK region → BeginsWith end named.chunk.taken (size_of b.class) (end named.chunk.whole)
+    → BeginsWith end v.parts chunk_size region → BeginsWith end named.chunk.taken (size_of b.class) (end named.chunk.whole)
     → StandsAt (end b.bytes.ghost_name) (start_of b.slot b.class) region
 
 -- So does a slot that was never handed out, whose chunk ends as the slots that were taken of it and then as what is
@@ -25,7 +25,7 @@ abbrev pub UnusedSlotsLie : Type 0
 UnusedSlotsLie =
     (end : Ending) (v : FloorState) (names : List Carved) → AreNames names v
     → (u : Unused) (unnamed : HasNoName names u) (region : List ℕ)
-    → BeginsWith end v.parts CHUNK region → All (λ x. length (end x) ≡ size_of u.class) unnamed.chunk.taken
+    → BeginsWith end v.parts chunk_size region → All (λ x. length (end x) ≡ size_of u.class) unnamed.chunk.taken
     → end unnamed.chunk.whole ≡ flat_map end unnamed.chunk.taken ++ unnamed.chunk.rest
     → StandsAt u.bytes (start_of u.slot u.class) region
 

@@ -2,7 +2,7 @@
 use Rattle.std.specs.Prelude.{◌≡◌, ℕ, ◌+◌, ◌-◌, ◌*◌, ◌<◌, ◌≤◌, Bool, false, ◌==◌, List, length, slice_get}
 use Rattle.std.specs.Prelude.{slice_index_or, count_by, Option, Some, None, IfSome, All}
 use Rattle.std.specs.Borrow.{GName}
-use Rattle.region_cut.specs.declared.TheConstants.{CHUNK}
+use Rattle.region_cut.specs.Limits.{chunk_size}
 use Rattle.region_cut.specs.Carved.{Carved}
 use Rattle.region_cut.specs.Classes.{size_of, slots_of}
 use Rattle.region_cut.specs.Laws.{StandsAt}
@@ -70,7 +70,7 @@ pub record IsNamedChunk (parts : List GName) (drawn : List DrawnChunk) (k : ℕ)
   pub class : class_drawn drawn k ≡ Some c.class
   pub part : slice_get parts k ≡ Some c.whole
   pub few : length c.taken ≤ slots_of c.class
-  pub whole : length c.taken * size_of c.class + length c.rest ≡ CHUNK
+  pub whole : length c.taken * size_of c.class + length c.rest ≡ chunk_size
 
 -- these are the drawn chunks of the floor in order, each with its part and the names taken of it, and all buffers have
 -- their names

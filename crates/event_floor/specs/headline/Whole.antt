@@ -1,13 +1,12 @@
 -- What is kept of a floor besides what its type says.
 use Rattle.std.specs.Prelude.{◌≡◌, ◌+◌, ◌≤◌, length, All}
-use Rattle.region_cut.specs.Limits.{chunk_limit}
-use Rattle.region_cut.specs.declared.TheConstants.{CHUNK}
+use Rattle.region_cut.specs.Limits.{chunk_limit, chunk_size}
 use Rattle.event_floor.specs.Lent.{AreInPlace}
 use Rattle.event_floor.specs.Floors.{FloorState, IsFloor}
 
 -- the parts are those of the drawn chunks and the others, each of the others whole
 abbrev pub IsStocked : FloorState → Type 0
-IsStocked v = (length v.parts ≡ length v.drawn + length v.undrawn) × All (λ bs. length bs ≡ CHUNK) v.undrawn
+IsStocked v = (length v.parts ≡ length v.drawn + length v.undrawn) × All (λ bs. length bs ≡ chunk_size) v.undrawn
 
 -- a floor of no more chunks than a region has, whose lent buffers lie in the places of their slots
 pub record IsWhole (v : FloorState) : Type 0 where

@@ -1,7 +1,7 @@
 //! A worker alone.
 use crate::tests::opening_over;
 use crate::work_alone;
-use pool_jobs::{Counts, Tally};
+use pool_jobs::{BufferCounts, Tally};
 use region_cut::CHUNK;
 use std::sync::Wait;
 use std::test::Fail;
@@ -18,7 +18,7 @@ fn told<R: AllocGlobal + Wait>(rt: &R, bytes: usize) -> Result<Tally, Fail> {
 #[test]
 fn a_worker_alone(rt: HostRuntime) -> Result<(), Fail> {
     let tally = told(&rt, CHUNK)?;
-    let wanted = Counts {
+    let wanted = BufferCounts {
         allocated: 10,
         freed: 10,
         starved: 0,

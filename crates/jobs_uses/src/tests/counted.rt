@@ -2,7 +2,7 @@
 
 use crate::tests::opening_over;
 use crate::{Fixed, Hold, Watched, work_counting, work_counting_linked};
-use pool_jobs::{Counts, Plan, Tally, Workload};
+use pool_jobs::{BufferCounts, Plan, Tally, Workload};
 use region_cut::CHUNK;
 use std::sync::Wait;
 use std::test::Fail;
@@ -70,7 +70,7 @@ fn outcome_of<R: AllocGlobal + Threads + Wait + Sync>(
 
 #[test]
 fn eight_slots_serve_sixteen_buffers(rt: HostRuntime) -> Result<(), Fail> {
-    let wanted = Counts {
+    let wanted = BufferCounts {
         allocated: 16,
         freed: 16,
         starved: 0,

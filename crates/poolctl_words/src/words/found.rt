@@ -5,11 +5,12 @@ ghost use Rattle.poolctl_words.specs.Asked.{AskedBy, HasFlag, IsReplay, IsRoute,
 ghost use Rattle.poolctl_words.specs.Asked.{workload_name};
 ghost use Rattle.pool_jobs.specs.declared.workload.Workload.{Workload};
 
+use super::limits::{LEAST_THREADS, MOST_CHUNKS, MOST_LIMIT};
 use super::subcommands::{AUDIT, DROP, NAME};
 use crate::asked::{Asked, Route, Work};
 use clap::ArgMatches;
 use digit_route::Digits;
-use pool_jobs::Workload;
+use pool_jobs::{MOST_BUFFERS, MOST_ROUNDS, MOST_THREADS, Workload};
 use region_cut::Profile;
 
 fn number_of(matches: &ArgMatches<'_>, name: &str) -> Option<u32>
@@ -100,12 +101,12 @@ fn work_of(matches: &ArgMatches<'_>) -> Option<Work>
 {
     Some(Work {
         workload: workload_of(matches)?,
-        threads: within(number_of(matches, "threads")?, 2, 64)?,
-        count: within(number_of(matches, "count")?, 1, 100_000)?,
-        rounds: within(number_of(matches, "rounds")?, 1, 1_000)?,
-        chunks: within(number_of(matches, "chunks")?, 0, 1_024)?,
+        threads: within(number_of(matches, "threads")?, LEAST_THREADS, MOST_THREADS)?,
+        count: within(number_of(matches, "count")?, 1, MOST_BUFFERS)?,
+        rounds: within(number_of(matches, "rounds")?, 1, MOST_ROUNDS)?,
+        chunks: within(number_of(matches, "chunks")?, 0, MOST_CHUNKS)?,
         digits: Digits::new(number_of(matches, "width")?)?,
-        limit: within(number_of(matches, "limit")?, 0, 1_048_576)?,
+        limit: within(number_of(matches, "limit")?, 0, MOST_LIMIT)?,
         seed: number_of(matches, "seed")?,
         drop_first: flag_of(matches, DROP),
     })

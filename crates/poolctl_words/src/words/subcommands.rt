@@ -5,8 +5,10 @@ ghost use Rattle.clap.specs.declared.Command.TheViews.{out-Command as fields_of}
 ghost use Rattle.poolctl_words.specs.CommandLine.{command_line, replay_app, route_app, wants_subcommand, work_app};
 
 use super::arguments::{Choice, flag, number, option, plain_command, text, with_argument};
+use super::limits::{LAST_DESK, LAST_DESK2, LEAST_THREADS, MOST_CHUNKS, MOST_LIMIT};
 use clap::error::ErrorKind;
 use clap::{Command, Error};
+use pool_jobs::{MOST_BUFFERS, MOST_ROUNDS, MOST_THREADS};
 use std::alloc::{AllocError, Global};
 
 /// The command, with one subcommand more.
@@ -75,8 +77,8 @@ const NAME_HELP: &str = "Which workload: prodcons, ring or replace";
 
 const THREADS: Choice<'static> = Choice {
     name: "threads",
-    low: 2,
-    high: 64,
+    low: LEAST_THREADS,
+    high: MOST_THREADS,
     default: "4",
     help: "Workers, each in a thread of its own",
 };
@@ -84,7 +86,7 @@ const THREADS: Choice<'static> = Choice {
 const COUNT: Choice<'static> = Choice {
     name: "count",
     low: 1,
-    high: 100_000,
+    high: MOST_BUFFERS,
     default: "1000",
     help: "Buffers that a worker allocates, or replaces in a round",
 };
@@ -92,7 +94,7 @@ const COUNT: Choice<'static> = Choice {
 const ROUNDS: Choice<'static> = Choice {
     name: "rounds",
     low: 1,
-    high: 1_000,
+    high: MOST_ROUNDS,
     default: "1",
     help: "Rounds of replace",
 };
@@ -100,7 +102,7 @@ const ROUNDS: Choice<'static> = Choice {
 const CHUNKS: Choice<'static> = Choice {
     name: "chunks",
     low: 0,
-    high: 1_024,
+    high: MOST_CHUNKS,
     default: "1024",
     help: "Chunks of the region, of 4,096 bytes each",
 };
@@ -116,7 +118,7 @@ const WIDTH: Choice<'static> = Choice {
 const LIMIT: Choice<'static> = Choice {
     name: "limit",
     low: 0,
-    high: 1_048_576,
+    high: MOST_LIMIT,
     default: "4096",
     help: "Bytes in a desk's cache above which it posts",
 };
@@ -124,7 +126,7 @@ const LIMIT: Choice<'static> = Choice {
 const SEED: Choice<'static> = Choice {
     name: "seed",
     low: 0,
-    high: 4_294_967_295,
+    high: u32::MAX,
     default: "1",
     help: "What the sizes are drawn from",
 };
@@ -186,9 +188,9 @@ pub fn commands<'a>(alloc: Global) -> Result<Command<'a>, AllocError>
     let command = with_subcommand(program(alloc), classes)?;
     let classes2 = plain_command(alloc, "classes2", CLASSES2);
     let command = with_subcommand(command, classes2)?;
-    let route = route_command(alloc, "route", ROUTE, 63)?;
+    let route = route_command(alloc, "route", ROUTE, LAST_DESK)?;
     let command = with_subcommand(command, route)?;
-    let route2 = route_command(alloc, "route2", ROUTE2, 4095)?;
+    let route2 = route_command(alloc, "route2", ROUTE2, LAST_DESK2)?;
     let command = with_subcommand(command, route2)?;
     let replay = replay_command(alloc)?;
     let command = with_subcommand(command, replay)?;

@@ -1,12 +1,12 @@
 //! Postings to the end, into sinks with much and with little room.
-use crate::shelf::Shelf;
+use crate::batch_row::BatchRow;
 use crate::tests::samples::{filled_in, same};
 use digit_route::Cache;
 use slot_chain::NoMemory;
 use std::alloc::Global;
 use std::process::Abort;
 
-// Posts onto a shelf with so much room, which has to take `given` batches. Gives what is left, and
+// Posts onto a row with so much room, which has to take `given` batches. Gives what is left, and
 // the moves.
 fn post<'r>(
     rt: &impl Abort,
@@ -15,14 +15,9 @@ fn post<'r>(
     room: usize,
     given: usize,
 ) -> Result<(Cache<'r>, u64), NoMemory> {
-    let mut shelf = Shelf::new(alloc, room)?;
-    let posted = cache.post_all(&mut shelf);
-    same(
-        rt,
-        "batches given",
-        shelf.batches.len() as u64,
-        given as u64,
-    );
+    let mut row = BatchRow::new(alloc, room)?;
+    let posted = cache.post_all(&mut row);
+    same(rt, "batches given", row.batches.len() as u64, given as u64);
     Ok(posted)
 }
 
@@ -46,7 +41,7 @@ fn posts_all(rt: HostRuntime) {
     }
 }
 
-// A shelf with room for so many of five batches, how many are left, the moves until it refused one,
+// A row with room for so many of five batches, how many are left, the moves until it refused one,
 // and the moves of the posting that gives what was left.
 type Row = (usize, usize, u64, u64);
 

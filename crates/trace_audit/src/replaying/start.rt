@@ -1,6 +1,7 @@
 //! From the header on.
 ghost use Rattle.std.specs.Prelude.{◌≡◌, ◌≤◌, ◌*◌, ◌↔◌, ◌++◌, [], length, false, IfOk, IfErr, IfSome, IsSome};
 ghost use Rattle.std.specs.Io.KnownBytes.{Appends};
+ghost use Rattle.region_cut.specs.Limits.{chunk_limit, chunk_size};
 ghost use Rattle.trace_audit.specs.FloorCounts.{Opens, digits_of};
 ghost use Rattle.trace_audit.specs.Grammar.{IsHeader};
 ghost use Rattle.trace_audit.specs.Replay.{BeginsAudited, Failures, Fails, IsAudited, Reports, with_audit};
@@ -36,8 +37,8 @@ const NO_MEMORY: &[u8] = b"R15 NoMemory\n";
 
 /// A region of so many chunks.
 fn region_of(alloc: Global, chunks: u32) -> Result<Vec<u8>, AllocError>
-    requires { chunks ≤ MAX_CHUNKS }
-    ensures { IfOk result (λ region. length region.items ≡ chunks * CHUNK) }
+    requires { chunks ≤ chunk_limit }
+    ensures { IfOk result (λ region. length region.items ≡ chunks * chunk_size) }
 {
     vec![in alloc; 0u8; chunks as usize * CHUNK]
 }
@@ -60,7 +61,7 @@ fn floor_over<'r>(
     header: Header,
 ) -> Result<Floor<'r>, NoMemory>
     requires header { IsHeader header }
-    requires region { length region.old ≡ header.chunks * CHUNK }
+    requires region { length region.old ≡ header.chunks * chunk_size }
     ensures { IfOk result (λ floor. Opens header floor) }
 {
     parts_make_the_whole();
@@ -108,7 +109,7 @@ fn on_region<R: Source, W: Sink>(
     audits: bool,
 ) -> Result<(End, Option<Result<(), Fault>>), ReplayError>
     requires header { IsHeader header }
-    requires region { length region.old ≡ header.chunks * CHUNK }
+    requires region { length region.old ≡ header.chunks * chunk_size }
     requires reader_down { R.has_failed reader.old ≡ false }
     requires writer_down { W.has_failed writer.old ≡ false }
     ensures { Replayed audits (header_line header ++ held.old.items) (R.remaining reader.old) (R.remaining reader.new)

@@ -1,7 +1,7 @@
 use Rattle.std.proofs.Common.{◌≡◌, List, ◌++◌, map, flat_map, length, All, sym, ap, ◌∙◌, subst}
 use Rattle.std.specs.Borrow.{GName}
 use Rattle.std.proofs.lemmas.List.{append-nil}
-use Rattle.region_cut.specs.declared.TheConstants.{CHUNK}
+use Rattle.region_cut.specs.Limits.{chunk_size}
 use Rattle.region_cut.specs.Endings.{Ended, EndingsState, IsKnown, Agrees, end_in}
 use Rattle.region_cut.specs.Laws.{StandsAt}
 use Rattle.region_cut.specs.Parts.{name_of, bytes_of}
@@ -18,7 +18,7 @@ returns-in-Ok-clause-known c =
 pub returns-in-Ok-clause-whole : goal.returns-in-Ok-clause-whole
 returns-in-Ok-clause-whole c =
     let same = c.run.ensures.parts ∙ ap (λ (f : FloorState). f.parts) c.in-Ok.ensures.opening in
-    subst (All (λ x. length (end_in c.end.result.known x) ≡ CHUNK)) same c.end.ensures.known.whole
+    subst (All (λ x. length (end_in c.end.result.known x) ≡ chunk_size)) same c.end.ensures.known.whole
 
 pub returns-in-Ok-clause-bytes : goal.returns-in-Ok-clause-bytes
 returns-in-Ok-clause-bytes c tail =
@@ -41,7 +41,7 @@ returns-clause-whole c =
     let is : c.end_parts.new.endings.known ≡ map ended_part ps =
     ap (λ (s : EndingsState). s.known) c.end_parts.ensures ∙ (ap (λ (s : EndingsState). map ended_part c.in-Err.parts.items ++ s.known) c.new-endings.ensures
     ∙ (append-nil (map ended_part c.in-Err.parts.items) ∙ ap (λ v. map ended_part v.items) c.in-Err.ensures.back)) in
-    subst (λ (es : List Ended). All (λ x. length (end_in es x) ≡ CHUNK) (map name_of ps)) (sym is) (parts_whole ps (subst Agrees is c.agree.ensures))
+    subst (λ (es : List Ended). All (λ x. length (end_in es x) ≡ chunk_size) (map name_of ps)) (sym is) (parts_whole ps (subst Agrees is c.agree.ensures))
 
 pub returns-clause-bytes : goal.returns-clause-bytes
 returns-clause-bytes c tail =

@@ -1,5 +1,5 @@
 use Rattle.std.proofs.Common.{◌≡◌, length, map}
-use Rattle.pool_jobs.proofs.hand.sorted_out.Given as goal
+use Rattle.pool_jobs.proofs.hand.taken_apart.Given as goal
 
 abbrev pub invariant-loop-served : goal.invariant-loop-served
 invariant-loop-served g l = record {

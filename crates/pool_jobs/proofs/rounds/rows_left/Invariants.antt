@@ -1,5 +1,5 @@
 use Rattle.std.proofs.Common.{◌≡◌, map}
-use Rattle.pool_jobs.proofs.rounds.sorted_out.Given as goal
+use Rattle.pool_jobs.proofs.rounds.rows_left.Given as goal
 
 abbrev pub invariant-loop-one : goal.invariant-loop-one
 invariant-loop-one g l = l.lefts.items ≡ map (λ s. s.left) l.yielded

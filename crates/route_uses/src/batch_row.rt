@@ -8,22 +8,22 @@ use std::alloc::Global;
 /// Batches that were posted. It takes no memory after it was made, and refuses a batch where it is
 /// full.
 #[derive(Drop)]
-pub struct Shelf<'r> {
+pub struct BatchRow<'r> {
     pub batches: Vec<Batch<'r>>,
 }
 
-impl<'r> Shelf<'r> {
-    /// A shelf with room for `room` batches.
-    pub fn new(alloc: Global, room: usize) -> Result<Shelf<'r>, NoMemory>
+impl<'r> BatchRow<'r> {
+    /// A row with room for `room` batches.
+    pub fn new(alloc: Global, room: usize) -> Result<BatchRow<'r>, NoMemory>
         ensures empty { IfOk result (λ s. s.batches.items ≡ []) }
         ensures room { IfOk result (λ s. vec_capacity s.batches ≡ room) }
     {
         let batches = Vec::with_capacity(alloc, room)?;
-        Ok(Shelf { batches })
+        Ok(BatchRow { batches })
     }
 }
 
-impl<'r> BatchSink<'r> for Shelf<'r> {
+impl<'r> BatchSink<'r> for BatchRow<'r> {
     ghost given = { λ s. s.batches.items };
 
     ghost refuses = { λ s b. vec_capacity s.batches ≤ vec_len s.batches };
