@@ -18,6 +18,7 @@ use crate::part::Bump;
 pub use crate::region::cut_with_front;
 pub use front::Front;
 use known::{Known, nothing, resolve};
+use std::fmt;
 use std::marker::{Model, PhantomData};
 pub use ties::Ties;
 use ties::{gather, join};
@@ -108,5 +109,12 @@ impl<'r> Endings<'r> {
         } }
     {
         resolve(&mut self.known, &mut self.ties);
+    }
+}
+
+// What is known is known to contracts alone, so there is nothing to print.
+impl fmt::Debug for Endings<'_> {
+    fn fmt<W: fmt::Write>(&self, f: &mut fmt::Formatter<W>) -> fmt::Result {
+        f.write_str("Endings")
     }
 }

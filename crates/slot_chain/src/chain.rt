@@ -12,7 +12,7 @@ use crate::walk::Walk;
 use region_cut::Slot;
 use region_cut::endings::Endings;
 use std::marker::Model;
-use std::mem;
+use std::{fmt, mem};
 
 /// A list of buffers. In contracts a chain is that list; its last buffer is on top, where
 /// [`Chain::push`], [`Chain::push_beside`] and [`Chain::pop`] work.
@@ -288,5 +288,12 @@ impl<'r> Chain<'r> {
             }
         }
         Ok(())
+    }
+}
+
+// The buffers are counted, by a walk, and not printed.
+impl fmt::Debug for Chain<'_> {
+    fn fmt<W: fmt::Write>(&self, f: &mut fmt::Formatter<W>) -> fmt::Result {
+        write!(f, "Chain({} buffers)", self.len())
     }
 }

@@ -4,6 +4,7 @@ ghost use Rattle.std.specs.Prelude.{◌≡◌, ◌++◌};
 use crate::buf::Buf;
 use crate::chain::Chain;
 use std::alloc::AllocError;
+use std::fmt;
 use std::marker::Model;
 
 /// The buffers of a chain, from its top. In contracts it is the list of those that are still to
@@ -57,5 +58,12 @@ impl<'r> Extend<Buf<'r>> for Chain<'r> {
             self.push(buf);
         }
         Ok(())
+    }
+}
+
+// The buffers are counted, by a walk, and not printed.
+impl fmt::Debug for IntoIter<'_> {
+    fn fmt<W: fmt::Write>(&self, f: &mut fmt::Formatter<W>) -> fmt::Result {
+        write!(f, "IntoIter({} buffers)", self.chain.len())
     }
 }

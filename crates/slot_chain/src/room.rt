@@ -12,6 +12,7 @@ use crate::lease::Lease;
 use crate::node::Node;
 use region_cut::{Class, Piece, Slot};
 use std::alloc::Global;
+use std::fmt;
 use std::marker::Model;
 
 /// Room for one buffer: the box that the buffer and its link in a chain will lie in. It is the only
@@ -71,5 +72,11 @@ impl<'r> Room<'r> {
         node.forwards = 0;
         node.lease = Lease::new(bytes);
         Buf { node }
+    }
+}
+
+impl fmt::Debug for Room<'_> {
+    fn fmt<W: fmt::Write>(&self, f: &mut fmt::Formatter<W>) -> fmt::Result {
+        f.write_str("Room")
     }
 }

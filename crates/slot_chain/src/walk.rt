@@ -1,6 +1,7 @@
 //! Walks over chains that only look.
 use crate::chain::Top;
 use region_cut::{Class, Slot};
+use std::fmt;
 use std::marker::Model;
 
 /// What a walk shows of a buffer.
@@ -61,5 +62,12 @@ impl<'a, 'r> Iterator for Walk<'a, 'r> {
                 }
             },
         }
+    }
+}
+
+// The buffers are not printed.
+impl fmt::Debug for Walk<'_, '_> {
+    fn fmt<W: fmt::Write>(&self, f: &mut fmt::Formatter<W>) -> fmt::Result {
+        f.write_str("Walk")
     }
 }

@@ -3,6 +3,7 @@ ghost use Rattle.std.specs.Prelude.{◌≡◌, ◌∷◌, ◌++◌, [], List};
 ghost use Rattle.region_cut.specs.Carved.{Carved, all_joined};
 
 use crate::endings::front::Tie;
+use std::fmt;
 use std::marker::{Model, PhantomData, Send};
 
 /// What ties the bytes of chunks to those of their slots, kept when the cursors over them are gone.
@@ -53,5 +54,11 @@ impl Ties {
         ensures { result.all ≡ [] }
     {
         Ties {}
+    }
+}
+
+impl fmt::Debug for Ties {
+    fn fmt<W: fmt::Write>(&self, f: &mut fmt::Formatter<W>) -> fmt::Result {
+        f.write_str("Ties")
     }
 }
