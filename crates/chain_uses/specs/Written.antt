@@ -1,10 +1,7 @@
 -- A buffer after something was written to it.
 use Rattle.std.specs.Prelude.{◌≡◌, ℕ, List, [], ◌∷◌, ◌++◌, slice_set}
 use Rattle.slot_chain.specs.Buffer.{Buffer}
-
--- the same buffer, with the bytes bs
-abbrev pub with_bytes_now : Buffer → List ℕ → Buffer
-with_bytes_now b bs = record b { bytes = record b.bytes { now = bs } }
+use Rattle.slot_chain.specs.Loans.{with_bytes_now}
 
 -- the same buffer, with this first byte
 abbrev pub marked : Buffer → ℕ → Buffer

@@ -1,6 +1,7 @@
 //! What is written through a buffer: the buffer stays the same but for its bytes.
 ghost use Rattle.std.specs.Prelude.{◌≡◌, [], length, replicate, MatchBool};
-ghost use Rattle.chain_uses.specs.Written.{with_bytes_now, marked, MarksTop};
+ghost use Rattle.slot_chain.specs.Loans.{with_bytes_now};
+ghost use Rattle.chain_uses.specs.Written.{marked, MarksTop};
 
 use slot_chain::{Buf, Chain};
 

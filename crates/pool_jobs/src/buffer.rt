@@ -1,7 +1,7 @@
 //! A buffer of a pool.
 ghost use Rattle.std.specs.Prelude.{◌≡◌, ◌<◌, ◌^◌, length, replicate, slice_set};
 ghost use Rattle.region_cut.specs.Classes.{size_of};
-ghost use Rattle.pool_jobs.specs.Written.{with_bytes_now};
+ghost use Rattle.slot_chain.specs.Loans.{with_bytes_now};
 
 use crate::heap::Bytes;
 use pool_fabric::Naming;
