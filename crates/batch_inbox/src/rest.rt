@@ -12,6 +12,7 @@ use std::sync::Wait;
 /// What was sent to an inbox and not taken when it was ended.
 ///
 /// Contracts see the batches of each sender, from sender 0 on, in the order in which it sent them.
+#[must_use]
 pub struct Rest<'r> {
     pub(crate) queue: Line<'r>,
     pub(crate) pass: Pass<'r>,

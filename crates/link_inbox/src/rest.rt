@@ -10,6 +10,7 @@ use std::marker::Model;
 /// What was sent to an inbox and not taken when it was ended, half-linked batches too.
 ///
 /// Contracts see the batches of each sender, from sender 0 on, in the order in which it sent them.
+#[must_use]
 #[derive(Drop)]
 pub struct Rest<'r> {
     pub(crate) round: Round<'r>,

@@ -78,6 +78,7 @@ impl<'r> Model for TakeSeat<'r> {
 ///
 /// Contracts see which link is to be made. Only [`crate::LinkInbox::link`] makes it, with the seat
 /// that the batch was sent from. Whoever drops it leaves that seat without rest for good.
+#[must_use]
 #[derive(Drop)]
 pub struct Attached {
     pub(crate) node: u64,
