@@ -16,6 +16,7 @@ use crossbeam_queue::protocol::Lesson;
 use digit_route::{Batch, Digits};
 use slot_chain::NoMemory;
 use std::alloc::Global;
+use std::fmt;
 use std::marker::{Brand, Model};
 use std::sync::Wait;
 
@@ -173,5 +174,12 @@ impl<'r> Inbox<'r> {
         }
         queue.len_as::<Rests, R>(rt, &mut pass);
         Rest { queue, pass }
+    }
+}
+
+// The batches are not printed.
+impl fmt::Debug for Inbox<'_> {
+    fn fmt<W: fmt::Write>(&self, f: &mut fmt::Formatter<W>) -> fmt::Result {
+        write!(f, "Inbox(of {})", self.address)
     }
 }

@@ -6,6 +6,7 @@ ghost use Rattle.batch_inbox.specs.Views.{batches_of};
 use crate::rule::{Line, Pass};
 use crate::steps::Rests;
 use digit_route::Batch;
+use std::fmt;
 use std::marker::Model;
 use std::sync::Wait;
 
@@ -49,5 +50,12 @@ impl<'r> Rest<'r> {
             (λ x. (k : ℕ) → left self.old k ≡ batches_of k (x ∷ []) ++ left self.new k) }
     {
         self.queue.pop_as::<Rests, R>(rt, &mut self.pass)
+    }
+}
+
+// The batches are not printed.
+impl fmt::Debug for Rest<'_> {
+    fn fmt<W: fmt::Write>(&self, f: &mut fmt::Formatter<W>) -> fmt::Result {
+        f.write_str("Rest")
     }
 }

@@ -2,6 +2,7 @@
 ghost use Rattle.std.specs.Prelude.{◌≡◌};
 
 use crate::rule::Pass;
+use std::fmt;
 use std::marker::Model;
 
 /// The right of one sender to post to an inbox.
@@ -63,4 +64,16 @@ impl<'r> Model for TakeSeat<'r> {
     ghost invariant = { λ s. (s.pass.me.hand ≡ None) × (s.pass.me.spare ≡ None)
         × (s.pass.me.view.client
         ≡ taker s.pass.me.view.client.place s.pass.me.view.client.made s.pass.me.view.client.taken []) };
+}
+
+impl fmt::Debug for SendSeat<'_> {
+    fn fmt<W: fmt::Write>(&self, f: &mut fmt::Formatter<W>) -> fmt::Result {
+        write!(f, "SendSeat(of {})", self.sender)
+    }
+}
+
+impl fmt::Debug for TakeSeat<'_> {
+    fn fmt<W: fmt::Write>(&self, f: &mut fmt::Formatter<W>) -> fmt::Result {
+        f.write_str("TakeSeat")
+    }
 }

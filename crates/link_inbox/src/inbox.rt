@@ -15,6 +15,7 @@ use batch_inbox::place::Place;
 use digit_route::{Batch, Digits};
 use slot_chain::NoMemory;
 use std::alloc::Global;
+use std::fmt;
 use std::marker::Model;
 
 /// The message queue of one desk, with a seat for each sender and one for the receiver.
@@ -178,5 +179,12 @@ impl<'r> LinkInbox<'r> {
         words.store::<Frees>(&mut seat.token, front as usize + 1, FREE);
         seat.front = found;
         batch
+    }
+}
+
+// The batches are not printed.
+impl fmt::Debug for LinkInbox<'_> {
+    fn fmt<W: fmt::Write>(&self, f: &mut fmt::Formatter<W>) -> fmt::Result {
+        write!(f, "LinkInbox(of {})", self.place.address)
     }
 }

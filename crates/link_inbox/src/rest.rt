@@ -5,6 +5,7 @@ ghost use Rattle.batch_inbox.specs.Views.{batches_of};
 
 use crate::round::Round;
 use digit_route::Batch;
+use std::fmt;
 use std::marker::Model;
 
 /// What was sent to an inbox and not taken when it was ended, half-linked batches too.
@@ -36,5 +37,12 @@ impl<'r> Rest<'r> {
             (λ x. (k : ℕ) → left self.old k ≡ batches_of k (x ∷ []) ++ left self.new k) }
     {
         self.round.next()
+    }
+}
+
+// The batches are not printed.
+impl fmt::Debug for Rest<'_> {
+    fn fmt<W: fmt::Write>(&self, f: &mut fmt::Formatter<W>) -> fmt::Result {
+        f.write_str("Rest")
     }
 }

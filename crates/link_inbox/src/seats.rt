@@ -2,6 +2,7 @@
 ghost use Rattle.std.specs.Prelude.{◌≡◌, is_none};
 
 use crate::rule::Token;
+use std::fmt;
 use std::marker::Model;
 
 /// The right of one sender to send to an inbox.
@@ -79,7 +80,7 @@ impl<'r> Model for TakeSeat<'r> {
 /// Contracts see which link is to be made. Only [`crate::LinkInbox::link`] makes it, with the seat
 /// that the batch was sent from. Whoever drops it leaves that seat without rest for good.
 #[must_use]
-#[derive(Drop)]
+#[derive(Debug, Drop)]
 pub struct Attached {
     pub(crate) node: u64,
     pub(crate) before: u64,
@@ -91,4 +92,16 @@ impl Model for Attached {
     ghost Value = { HalfLink };
 
     ghost view = { λ a. record { node = a.node; before = a.before } };
+}
+
+impl fmt::Debug for SendSeat<'_> {
+    fn fmt<W: fmt::Write>(&self, f: &mut fmt::Formatter<W>) -> fmt::Result {
+        write!(f, "SendSeat(of {})", self.sender)
+    }
+}
+
+impl fmt::Debug for TakeSeat<'_> {
+    fn fmt<W: fmt::Write>(&self, f: &mut fmt::Formatter<W>) -> fmt::Result {
+        f.write_str("TakeSeat")
+    }
 }
