@@ -11,18 +11,21 @@ a function that calls one that isn't proved; an edit that nothing is said agains
 were refused, and in the end alone. So is an edit of anything but bodies, such as a constant, a definition or a law.
 
 An edit is refused where the prover says, at a place in this function, which clause it can't prove, or refuses a proof
-written by hand for this function. It says little where such a proof only names what the edit took away, and where
-the crate isn't proved but nothing is said of the function, as for a form that the checker doesn't cover; the line
-tells that. A crate of which out/ keeps no proofs is checked first. At most N crates at a time, and without --jobs as
-many as there are processors.
+written by hand for this function. That shows nothing of a clause where such a proof only names what the edit took away,
+and where the crate isn't proved but nothing is said of the function, as for a form that the checker doesn't cover. Such
+an edit counts as a failure: give it a form that keeps the calls and turns a value. Where an open goal and such a proof
+come together the line tells both: see whether the goal is false, or has only lost its proof. A crate of which out/
+keeps no proofs is checked first. At most N crates at a time, and without --jobs as many as there are processors.
 
-Prints a line for each edit, and in the last line how many were refused. The exit status is 1 where one was not, and 2
-where an edit can't be applied, the compiler can't read it, or the libraries aren't there.
+Prints a line for each edit, and in the last line how many were refused, let through, and not shown to be refused. The
+exit status is 1 where one was not refused, or not shown to be, and 2 where an edit can't be applied, the compiler can't
+read it, or the libraries aren't there.
 """
 import argparse
 import collections
 import concurrent.futures
 import dataclasses
+import enum
 import os
 import pathlib
 import re
@@ -45,6 +48,15 @@ GOAL = re.compile(r"\(`([^`]+)`\)")
 
 class BadEdit(Exception):
     """An edit that can't be tried."""
+
+
+class Verdict(enum.Enum):
+    """What a check says of an edit."""
+
+    REFUSED = "refused"
+    UNSHOWN = "NOT SHOWN TO BE REFUSED"
+    PASSED = "NOT REFUSED"
+    BAD = "BAD EDIT"
 
 
 @dataclasses.dataclass(frozen=True)
@@ -202,18 +214,19 @@ def refusal(function, text, said):
 
 
 def answer(edit, texts, said):
-    """Whether the edit is refused, and why."""
+    """The verdict on an edit, and why."""
     goals, refused, stale = [], [], []
     for function in edit.functions:
         for all_of_it, more in zip((goals, refused, stale), refusal(function, texts[function.file], said)):
             all_of_it += more
+    gone = f"a proof names what the edit took away: {stale[0]}" if stale else ""
     if goals:
-        return True, f"refused: not proved: {', '.join(dict.fromkeys(goals))}"
+        return Verdict.REFUSED, "; ".join(filter(None, [f"not proved: {', '.join(dict.fromkeys(goals))}", gone]))
     if refused:
-        return True, f"refused: {refused[0]}"
+        return Verdict.REFUSED, "; ".join(filter(None, [refused[0], gone]))
     if stale:
-        return True, f"refused (only because a proof names what the edit took away): {stale[0]}"
-    return False, "NOT REFUSED"
+        return Verdict.UNSHOWN, gone
+    return Verdict.PASSED, "nothing is said of it"
 
 
 def check_of(folder):
@@ -233,18 +246,18 @@ def said_of(folder):
 
 
 def alone(edit, said, told):
-    """Whether an edit is refused that was tried alone, where nothing is said against a function of its, and why."""
+    """The verdict on an edit that was tried alone, where nothing is said against a function of its, and why."""
     if said is None:
-        return False, f"BAD EDIT: {told[-600:]}"
+        return Verdict.BAD, told[-600:]
     if not re.search(r"^logic=not-proved", told, re.M):
-        return False, "NOT REFUSED"
+        return Verdict.PASSED, "the crate is proved"
     if edit.functions:
-        return True, "refused (but nothing is said of the function that it changes)"
-    return True, f"refused: {next((what[:160] for _, _, what in said if 'error' in what or UNPROVED.match(what)), '')}"
+        return Verdict.UNSHOWN, "the crate is not proved, but nothing is said of the function that it changes"
+    return Verdict.REFUSED, next((what[:160] for _, _, what in said if "error" in what or UNPROVED.match(what)), "")
 
 
 def tried(crate, edits):
-    """For each edit of the crate whether it is refused, and why."""
+    """For each edit of the crate the verdict and why, and how many checks it took."""
     waiting, answers, checks = list(edits), [], 0
     with tempfile.TemporaryDirectory(prefix="wrong-bodies-") as room:
         folder = copied(crate, pathlib.Path(room))
@@ -255,7 +268,8 @@ def tried(crate, edits):
             said, told = said_of(folder)
             checks += 1
             found = [(edit, *answer(edit, texts, said or [])) for edit in batch]
-            found = [it for it in found if it[1]] or [(it, *alone(it, said, told)) for it in batch if len(batch) == 1]
+            found = [it for it in found if it[1] is not Verdict.PASSED]
+            found = found or [(it, *alone(it, said, told)) for it in batch if len(batch) == 1]
             # where nothing of a batch is refused they are tried one by one
             size = len(waiting) if found else 1
             answers += found
@@ -282,7 +296,7 @@ def main():
             bad += 1
     if bad:
         return 2
-    began, refused, tried_in_all, checks_in_all = time.monotonic(), 0, 0, 0
+    began, verdicts, checks_in_all = time.monotonic(), collections.Counter(), 0
     # what a check keeps is what the copies are tried over
     for line in (TOP / "crates.txt").read_text().splitlines():
         name = line.partition(":")[0].partition(" ")[0]
@@ -294,13 +308,15 @@ def main():
         runs = [pool.submit(tried, it, of_crate[it]) for it in sorted(of_crate, key=size, reverse=True)]
         for run in concurrent.futures.as_completed(runs):
             answers, checks = run.result()
-            for edit, well, why in answers:
-                print(f"{edit.crate}/{edit.name}: {why}", flush=True)
-                refused, tried_in_all, checks_in_all = refused + well, tried_in_all + 1, checks_in_all + checks
-                checks = 0
+            checks_in_all += checks
+            for edit, verdict, why in answers:
+                print(f"{edit.crate}/{edit.name}: {verdict.value}: {why}", flush=True)
+                verdicts[verdict] += 1
     seconds = time.monotonic() - began
-    print(f"{refused} of {tried_in_all} wrong bodies refused, in {checks_in_all} checks and {seconds:.0f} seconds")
-    return 0 if refused == tried_in_all else 1
+    others = "".join(f", {verdicts[it]} {it.value}" for it in Verdict if it is not Verdict.REFUSED and verdicts[it])
+    counts = f"{verdicts[Verdict.REFUSED]} of {verdicts.total()} wrong bodies refused{others}"
+    print(f"{counts}, in {checks_in_all} checks and {seconds:.0f} seconds")
+    return 2 if verdicts[Verdict.BAD] else 0 if verdicts[Verdict.REFUSED] == verdicts.total() else 1
 
 
 if __name__ == "__main__":
