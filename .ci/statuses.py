@@ -36,6 +36,14 @@ TRAVEL = (
     b"desk 7 home 8 cached 0 queued 0\ndesk 11 home 8 cached 0 queued 0\n"
     b"desk 27 home 8 cached 0 queued 0\nend chunks 3 lent 0 home 24 cached 0 queued 0\n"
 )
+# Each of 1,024 desks claims a chunk of class 0, so that an audit looks at every slot that a region can have.
+DESKS, SLOTS = 1024, 256
+WIDE = f"pool2 {DESKS} {DESKS} 1\n" + "".join(f"adopt {desk} 0\nclaim {desk} 0\n" for desk in range(DESKS))
+WIDE_REPORT = "".join(
+    [f"ok\nchunk {chunk}\n" for chunk in range(DESKS)]
+    + [f"desk {desk} home {SLOTS} cached 0 queued 0\n" for desk in range(DESKS)]
+    + [f"end chunks {DESKS} lent 0 home {DESKS * SLOTS} cached 0 queued 0\n"]
+)
 CLASS_ROWS = [
     (0, 16, 256, 0), (1, 32, 128, 0), (2, 48, 85, 16), (3, 64, 64, 0), (4, 80, 51, 16), (5, 96, 42, 64),
     (6, 112, 36, 64), (7, 128, 32, 0), (8, 160, 25, 96), (9, 192, 21, 64), (10, 224, 18, 64), (11, 256, 16, 0),
@@ -193,6 +201,8 @@ def done():
     row("0: a buffer's journey, audited", ran(["replay", "--audit"], travel), 0, TRAVEL + b"audit yes\n", b"")
     row("0: a whole trace", ran(["replay"], GOOD), 0, REPORT, b"")
     row("0: a whole trace, audited", ran(["replay", "--audit"], GOOD), 0, REPORT + b"audit yes\n", b"")
+    wide = ran(["replay", "--audit"], WIDE.encode())
+    row("0: 262,144 slots, audited", wide, 0, WIDE_REPORT.encode() + b"audit yes\n", b"")
     row("0: the classes", ran(["classes"]), 0, CLASSES, b"")
     row("0: all classes", ran(["classes2"]), 0, CLASSES2, b"")
     for words, one, other, common in ROUTES:
