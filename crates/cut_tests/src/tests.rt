@@ -216,10 +216,7 @@ fn all_are(rt: &impl Abort, region: &[u8], byte: u8) {
 
 // How many chunks the region has, or why it is not cut.
 fn chunks_of(alloc: Global, region: &mut [u8]) -> Result<usize, CutError> {
-    match cut(alloc, region) {
-        Ok(parts) => Ok(parts.len()),
-        Err(error) => Err(error),
-    }
+    Ok(cut(alloc, region)?.len())
 }
 
 // The region has so many chunks. Where memory for the list of them was refused, the next try works.
