@@ -184,6 +184,7 @@ enum Play {
     Gives,
     GivesAll,
     Fills,
+    Keeps,
     Refuses,
     GivesLarge,
 }
@@ -204,6 +205,7 @@ fn run<'r>(
         Play::Gives => home::gives(rt, alloc, desk, parts),
         Play::GivesAll => home::gives_all(rt, alloc, desk, parts, lent),
         Play::Fills => home::fills_two(rt, alloc, desk, other, parts),
+        Play::Keeps => listing::keeps(rt, alloc, desk, other, parts, lent),
         Play::Refuses => refusal::refuses(rt, alloc, desk, parts),
         Play::GivesLarge => refusal::gives_large(rt, alloc, desk, parts),
     }

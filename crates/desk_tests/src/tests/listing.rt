@@ -1,5 +1,8 @@
 //! Slots are listed.
-use super::{claim, class, desk, free_is, goes_home, lend, parts, region, retired};
+use super::{
+    Play, claim, class, counts_are, desk, free_is, goes_home, lend, lend_or_not, parts, plays,
+    region, retired,
+};
 use pool_desk::{Desk, Freed, IdleDesk};
 use region_cut::{Part, Slot};
 use slot_chain::{Buf, Chain, NoMemory};
@@ -31,6 +34,12 @@ fn list_held(rt: &impl Abort, desk: &Desk<'_>, which: Which, slots: &mut Vec<Slo
     }
 }
 
+fn slots_of(rt: &impl Abort, alloc: Global, desk: &Desk<'_>, which: Which) -> Vec<Slot> {
+    let mut slots = Vec::new(alloc);
+    list_held(rt, desk, which, &mut slots);
+    slots
+}
+
 fn list_idle(rt: &impl Abort, desk: &IdleDesk<'_>, slots: &mut Vec<Slot>) {
     let before = slots.len();
     if desk.list_slots(slots).is_err() {
@@ -57,15 +66,11 @@ fn list_both(rt: &impl Abort, alloc: Global, owner: &Desk<'_>, other: &Desk<'_>)
 // Seven slots are at home with their owner, and the third is in the other's cache.
 fn list_apart(rt: &impl Abort, alloc: Global, owner: &Desk<'_>, other: &Desk<'_>) {
     let third = Slot { chunk: 0, index: 2 };
-    let mut home = Vec::new(alloc);
-    list_held(rt, other, Which::Home, &mut home);
-    assert!(rt; home.is_empty());
-    list_held(rt, owner, Which::Home, &mut home);
+    assert!(rt; slots_of(rt, alloc, other, Which::Home).is_empty());
+    let home = slots_of(rt, alloc, owner, Which::Home);
     assert!(rt; home.len() == 7 && !home.contains(&third));
-    let mut cached = Vec::new(alloc);
-    list_held(rt, owner, Which::Cached, &mut cached);
-    assert!(rt; cached.is_empty());
-    list_held(rt, other, Which::Cached, &mut cached);
+    assert!(rt; slots_of(rt, alloc, owner, Which::Cached).is_empty());
+    let cached = slots_of(rt, alloc, other, Which::Cached);
     assert!(rt; cached.as_slice() == [third].as_slice());
 }
 
@@ -122,4 +127,58 @@ fn lists_what_is_there(rt: HostRuntime) {
     let alloc = rt.alloc();
     let mut region = region(&rt, alloc, 1);
     leaves(&rt, alloc, parts(&rt, alloc, &mut region));
+}
+
+fn lists_are(rt: &impl Abort, alloc: Global, desk: &Desk<'_>, home: &[Slot], cached: &[Slot]) {
+    assert!(rt; slots_of(rt, alloc, desk, Which::Home).as_slice() == home);
+    assert!(rt; slots_of(rt, alloc, desk, Which::Cached).as_slice() == cached);
+}
+
+// A want of memory leaves both lists as they were, and the next try works.
+fn lend_listed<'r>(rt: &impl Abort, alloc: Global, desk: &mut Desk<'r>, size: usize) -> Buf<'r> {
+    let home = slots_of(rt, alloc, desk, Which::Home);
+    let cached = slots_of(rt, alloc, desk, Which::Cached);
+    if let Some(buf) = lend_or_not(rt, alloc, desk, size) {
+        return buf;
+    }
+    lists_are(rt, alloc, desk, &home, &cached);
+    lend_or_not(rt, alloc, desk, size).expect(rt, "memory is there again")
+}
+
+// Lends one buffer of a chunk, which is freed at a desk.
+fn fill_from<'r>(
+    rt: &impl Abort,
+    alloc: Global,
+    owner: &mut Desk<'r>,
+    at: &mut Desk<'r>,
+    parts: &mut Vec<Part<'r>>,
+) {
+    claim(rt, owner, parts, class(14));
+    let buf = lend_listed(rt, alloc, owner, 448);
+    free_is(rt, at, buf, Freed::Cached);
+}
+
+// A buffer of the other's is in the cache, and one of its own came home. Of another class each slot is lent.
+pub(crate) fn keeps<'r>(
+    rt: &impl Abort,
+    alloc: Global,
+    desk: &mut Desk<'r>,
+    other: &mut Desk<'r>,
+    parts: &mut Vec<Part<'r>>,
+    lent: &mut Chain<'r>,
+) {
+    fill_from(rt, alloc, other, desk, parts);
+    claim(rt, desk, parts, class(14));
+    let home = lend_listed(rt, alloc, desk, 448);
+    free_is(rt, desk, home, Freed::Home);
+    claim(rt, desk, parts, class(15));
+    for _ in 0..8 {
+        lent.push(lend_listed(rt, alloc, desk, 512));
+    }
+    counts_are(rt, desk, 9, 1);
+}
+
+#[test]
+fn a_refused_alloc_changes_no_list(rt: HostRuntime) {
+    plays(&rt, rt.alloc(), Play::Keeps, (1, 0), 3);
 }
