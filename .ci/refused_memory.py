@@ -7,7 +7,7 @@ takes the tests of these crates, or of all that have some; behind a colon those 
 A test has to hold whichever one of its allocations is refused: it ends by itself, and what it compares is as it has
 to be. Of a crate in `WRITTEN_FOR_IT` only the tests with these words are written so, and of one in
 `NOT_WRITTEN_FOR_IT` none; the others compare what comes out where there is memory. With `--most N` at most N
-allocations of a test are refused, spread evenly.
+allocations of a test are refused, spread evenly. Of the tests in `DEEP` only a part is ever refused.
 
 The tests are the built ones, `crates/NAME/out/NAME_tests`, which `rt ci` and `rt test` leave; where a crate has none,
 or one that is older than its sources, `rt test` makes it first. A small library that stands before the C library's
@@ -32,11 +32,23 @@ SECONDS = 60
 WRITTEN_FOR_IT = {
     "fabric_uses": "memory::",
     "inbox_tests": "deep::,dropped::,order::,users::",
-    "jobs_uses": "refused::",
+    "jobs_uses": "refused::,words::",
     "link_tests": "deep::,dropped::,half::,nodes::,order::,users::",
     "trace_uses": "growing,each_slot_once,the_least_fault_is_named,the_number_is_not_enough",
 }
 NOT_WRITTEN_FOR_IT = {"work_tests"}
+
+# These show that a list of 102,400 or 204,800 buffers takes no depth of the stack. Each buffer is a box of its own,
+# made by the same call as the one before, so refusing each in turn would take hours and look at one step again and
+# again. In place of all, the first `DEEP_FIRST` allocations are refused and `DEEP_SPREAD` spread evenly over all.
+DEEP = {
+    "chain_tests": "long::",
+    "desk_tests": "deep::",
+    "inbox_tests": "deep::",
+    "link_tests": "deep::",
+}
+DEEP_FIRST = 100
+DEEP_SPREAD = 100
 
 # Counts the allocations, and answers none for the one whose number is in REFUSE. At the end it tells the count.
 LIBRARY = r"""
@@ -128,26 +140,29 @@ def spread(count, most):
     return sorted({1 + turn * (count - 1) // max(1, most - 1) for turn in range(most)})
 
 
-def tried(library, program, test, most, counted):
+def chosen(count, most, is_deep):
+    """The numbers of the allocations to refuse, of so many."""
+    if most is None and is_deep:
+        return sorted({*range(1, min(count, DEEP_FIRST) + 1), *spread(count, DEEP_SPREAD)})
+    return spread(count, most)
+
+
+def tried(library, program, test, most, is_deep, counted):
     """How many refusals were tried, and those that the test doesn't bear."""
     why, count = ran(library, program, test, 0, counted)
     if why:
         return 0, [f"{test}, with no refusal: {why}"]
-    failed, last = [], 0
-    for number in spread(count, most):
-        last = number
-        why, asked = ran(library, program, test, number, counted)
+    failed, numbers, turn = [], list(chosen(count, most, is_deep)), 0
+    while turn < len(numbers):
+        why, asked = ran(library, program, test, numbers[turn], counted)
         if why:
-            failed.append(f"{test}, allocation {number} refused: {why}")
-        count = max(count, asked)
-    # behind a refusal a test may ask for more than it does without one
-    while most is None and last < count:
-        last += 1
-        why, asked = ran(library, program, test, last, counted)
-        if why:
-            failed.append(f"{test}, allocation {last} refused: {why}")
-        count = max(count, asked)
-    return last if most is None else len(spread(count, most)), failed
+            failed.append(f"{test}, allocation {numbers[turn]} refused: {why}")
+        # behind a refusal a test may ask for more than it does without one
+        if most is None and not is_deep:
+            numbers.extend(range(count + 1, asked + 1))
+            count = max(count, asked)
+        turn += 1
+    return len(numbers), failed
 
 
 def main():
@@ -166,9 +181,12 @@ def main():
             words = [word for word in (words or WRITTEN_FOR_IT.get(name, "")).split(",") if word]
             program, tests = tests_of(TOP / "crates" / name)
             tests = [test for test in tests if not words or any(word in test for word in words)]
+            deep = [test for test in tests if name in DEEP and DEEP[name] in test]
             with concurrent.futures.ThreadPoolExecutor(len(os.sched_getaffinity(0))) as pool:
                 jobs = [
-                    pool.submit(tried, library, program, test, asked.most, pathlib.Path(work) / f"{name}-{place}")
+                    pool.submit(
+                        tried, library, program, test, asked.most, test in deep, pathlib.Path(work) / f"{name}-{place}"
+                    )
                     for place, test in enumerate(tests)
                 ]
                 ended = [job.result() for job in jobs]
@@ -177,7 +195,8 @@ def main():
                 print(f"NOT BORNE: {name}: {line}")
             count, seconds = sum(count for count, _ in ended), time.monotonic() - start
             verdict = f"{len(failed)} not borne" if failed else "all borne"
-            print(f"{name}: {len(tests)} tests, {count} refusals, {verdict}, {seconds:.0f} s", flush=True)
+            part = f" (a part of {', '.join(deep)})" if deep else ""
+            print(f"{name}: {len(tests)} tests, {count} refusals{part}, {verdict}, {seconds:.0f} s", flush=True)
             bad = bad or bool(failed)
     sys.exit(1 if bad else 0)
 
