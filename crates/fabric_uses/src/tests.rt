@@ -4,3 +4,4 @@ mod lacking;
 mod leaving;
 mod memory;
 mod refused;
+mod told;

@@ -6,8 +6,8 @@ use Rattle.std.proofs.lemmas.Option.{get_or_from_slice_get, slice_get_within}
 use Rattle.std.proofs.lemmas.List.Elements.{All-cons, All-push, All-pop}
 use Rattle.std.proofs.lemmas.List.Sorted.{All-permutation, IsPermutation-sym, IsPermutation-swap_remove}
 use Rattle.pool_fabric.specs.Stations.{StationState}
-use Rattle.pool_fabric.specs.declared.found.GatherError.{GatherError}
-use Rattle.pool_fabric.specs.declared.found.GatherError.TheVariants.{NoMemory, Missing}
+use Rattle.pool_fabric.specs.declared.error.GatherError.{GatherError}
+use Rattle.pool_fabric.specs.declared.error.GatherError.TheVariants.{NoMemory, Missing}
 use Rattle.pool_fabric.specs.Faults.{LacksNumber, IsGatherFault}
 
 -- the station at a place was taken out

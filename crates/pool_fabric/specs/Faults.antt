@@ -1,8 +1,8 @@
 -- Why nothing was gathered.
 use Rattle.std.specs.Prelude.{◌≢◌, ℕ, ◌<◌, List, All}
 use Rattle.pool_fabric.specs.Stations.{StationState}
-use Rattle.pool_fabric.specs.declared.found.GatherError.{GatherError}
-use Rattle.pool_fabric.specs.declared.found.GatherError.TheVariants.{NoMemory, Missing}
+use Rattle.pool_fabric.specs.declared.error.GatherError.{GatherError}
+use Rattle.pool_fabric.specs.declared.error.GatherError.TheVariants.{NoMemory, Missing}
 
 -- none of the stations is of the desk of this number
 abbrev pub LacksNumber : ℕ → List StationState → Type 0

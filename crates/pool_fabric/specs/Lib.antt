@@ -12,5 +12,6 @@ pub mod Stocks
 pub mod Whole
 pub mod Gathered
 pub mod Faults
+pub mod Refusals
 pub mod Audited
 pub mod Opened

@@ -10,6 +10,7 @@ ghost use Rattle.pool_fabric.specs.Stocks.{AreTold};
 ghost use Rattle.pool_fabric.specs.Faults.{LacksNumber, IsGatherFault};
 ghost use Rattle.pool_fabric.specs.Whole.{IsWhole, IsAllOf, IsEachDesk, AreNoted};
 
+use crate::error::GatherError;
 use crate::fabric::Fabric;
 use crate::gathered::Gathered;
 use crate::held::HeldStation;
@@ -27,15 +28,6 @@ use slot_audit::Drawn;
 use slot_chain::Buf;
 use std::alloc::{AllocError, Global};
 use std::sync::Wait;
-
-/// Why nothing was gathered. What was handed in is then given up.
-#[derive(Clone, Copy, Debug, PartialEq, Eq)]
-pub enum GatherError {
-    /// Memory was refused.
-    NoMemory,
-    /// The station of a desk did not come back.
-    Missing,
-}
 
 /// All that a pool has, once no thread holds a station any more.
 #[derive(Drop)]

@@ -13,6 +13,7 @@
 mod boxes;
 mod column;
 mod drained;
+mod error;
 mod fabric;
 mod found;
 mod gathered;
@@ -31,8 +32,9 @@ mod stock;
 mod store;
 mod work;
 
+pub use error::GatherError;
 pub use fabric::{Fabric, MOST_TAKEN};
-pub use found::{Found, GatherError, gather};
+pub use found::{Found, gather};
 pub use held::HeldStation;
 pub use ledger::{Ledger, Page};
 pub use listing::account;
