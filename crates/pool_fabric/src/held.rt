@@ -16,6 +16,7 @@ use std::alloc::Global;
 use std::marker::Model;
 
 /// A station that a worker holds. Its type keeps the balance of a [`Station`].
+#[must_use]
 #[derive(Drop)]
 pub struct HeldStation<'r, T: Receiver, S: Sender, J: Naming> {
     pub(crate) desk: Desk<'r>,

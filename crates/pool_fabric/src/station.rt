@@ -20,6 +20,7 @@ use std::marker::Model;
 /// Its type keeps a balance, for the desk's whole life and whatever the program did with its
 /// buffers: what the desk has, what was sent from its seats and what it lent out is all slots of the
 /// chunks that it drew, what it took and what was freed to it.
+#[must_use]
 #[derive(Drop)]
 pub struct Station<'r, T: Receiver, S: Sender, J: Naming> {
     pub(crate) desk: IdleDesk<'r>,
