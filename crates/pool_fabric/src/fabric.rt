@@ -16,8 +16,8 @@ use crate::store::Store;
 use batch_inbox::{Mail, Mailbox, Receiver, Sender};
 use digit_route::Batch;
 use pool_desk::{Desk, IdleDesk};
-use std::mem;
 use std::sync::{Mutex, Wait};
+use std::{fmt, mem};
 
 /// How many batches a worker takes at a time.
 pub const MOST_TAKEN: u32 = 64;
@@ -239,5 +239,12 @@ impl<'r, T: Receiver, S: Sender, M: Mail<'r, TakeSeat = T, SendSeat = S>, J: Nam
             desk.handle(batch);
         }
         MOST_TAKEN
+    }
+}
+
+// The stations are not printed, nor what is in the inboxes.
+impl<M: Mailbox, T: Receiver, S: Sender, J: Naming> fmt::Debug for Fabric<'_, M, T, S, J> {
+    fn fmt<W: fmt::Write>(&self, f: &mut fmt::Formatter<W>) -> fmt::Result {
+        write!(f, "Fabric({} desks)", self.inboxes.len())
     }
 }

@@ -27,6 +27,7 @@ use region_cut::Part;
 use slot_audit::Drawn;
 use slot_chain::Buf;
 use std::alloc::{AllocError, Global};
+use std::fmt;
 use std::sync::Wait;
 
 /// All that a pool has, once no thread holds a station any more.
@@ -247,4 +248,17 @@ pub fn gather<
         return Err(GatherError::NoMemory);
     };
     Ok(gathered.finish(rt, &ledger, stock))
+}
+
+// The buffers are not printed.
+impl fmt::Debug for Found<'_> {
+    fn fmt<W: fmt::Write>(&self, f: &mut fmt::Formatter<W>) -> fmt::Result {
+        write!(
+            f,
+            "Found({} desks, {} batches, {} parts)",
+            self.desks.len(),
+            self.batches.len(),
+            self.parts.len()
+        )
+    }
 }

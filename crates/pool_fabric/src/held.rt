@@ -13,6 +13,7 @@ use digit_route::Digits;
 use pool_desk::{Desk, DeskError, Freed};
 use slot_chain::Buf;
 use std::alloc::Global;
+use std::fmt;
 use std::marker::Model;
 
 /// A station that a worker holds. Its type keeps the balance of a [`Station`].
@@ -133,5 +134,12 @@ impl<'r, T: Receiver, S: Sender, J: Naming> HeldStation<'r, T, S, J> {
                 of,
             }),
         }
+    }
+}
+
+// The buffers are not printed.
+impl<T: Receiver, S: Sender, J: Naming> fmt::Debug for HeldStation<'_, T, S, J> {
+    fn fmt<W: fmt::Write>(&self, f: &mut fmt::Formatter<W>) -> fmt::Result {
+        write!(f, "HeldStation({})", self.number())
     }
 }

@@ -12,6 +12,7 @@ use digit_route::Digits;
 use region_cut::Part;
 use slot_chain::NoMemory;
 use std::alloc::Global;
+use std::fmt;
 use std::marker::Model;
 
 /// All that a fabric is made of: the inboxes with their seats, a full stock, and a new ledger.
@@ -86,5 +87,11 @@ impl<'r, T: Receiver, S: Sender, M: NewMail<T, S>> Opening<'r, M, T, S> {
             digits,
             limit,
         })
+    }
+}
+
+impl<M: Mailbox, T: Receiver, S: Sender> fmt::Debug for Opening<'_, M, T, S> {
+    fn fmt<W: fmt::Write>(&self, f: &mut fmt::Formatter<W>) -> fmt::Result {
+        write!(f, "Opening({} desks)", self.desks())
     }
 }

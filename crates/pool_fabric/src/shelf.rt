@@ -7,6 +7,7 @@ use crate::station::Station;
 use batch_inbox::{Receiver, Sender};
 use slot_chain::NoMemory;
 use std::alloc::Global;
+use std::fmt;
 use std::marker::Model;
 
 /// How many stations a shelf holds at most.
@@ -78,5 +79,11 @@ impl<'r, T: Receiver, S: Sender, J: Naming> Shelf<'r, T, S, J> {
             (λ s. self.old ≡ self.new ++ s ∷ []) }
     {
         self.row.pop()
+    }
+}
+
+impl<T: Receiver, S: Sender, J: Naming> fmt::Debug for Shelf<'_, T, S, J> {
+    fn fmt<W: fmt::Write>(&self, f: &mut fmt::Formatter<W>) -> fmt::Result {
+        write!(f, "Shelf({} stations)", self.row.len())
     }
 }

@@ -12,6 +12,7 @@ use crate::notes::Notes;
 use batch_inbox::{Receiver, Sender};
 use pool_desk::IdleDesk;
 use slot_chain::Buf;
+use std::fmt;
 use std::marker::Model;
 
 /// A desk that no worker holds, with its seats: the one from which it takes, and one at each inbox
@@ -112,5 +113,12 @@ impl<'r, T: Receiver, S: Sender, J: Naming> Station<'r, T, S, J> {
             freed,
             of,
         }
+    }
+}
+
+// The buffers are not printed.
+impl<T: Receiver, S: Sender, J: Naming> fmt::Debug for Station<'_, T, S, J> {
+    fn fmt<W: fmt::Write>(&self, f: &mut fmt::Formatter<W>) -> fmt::Result {
+        write!(f, "Station({})", self.number())
     }
 }

@@ -5,6 +5,7 @@ ghost use Rattle.pool_fabric.specs.Stocks.{IsRising, AreChunks, GivesPart, IsLea
 
 use region_cut::{Class, Part};
 use slot_audit::Drawn;
+use std::fmt;
 use std::marker::Model;
 
 /// The parts of a region that no desk drew yet, and which chunks were drawn for which class.
@@ -58,5 +59,11 @@ impl<'r> Stock<'r> {
     {
         let Stock { parts, drawn } = self;
         (parts, drawn)
+    }
+}
+
+impl fmt::Debug for Stock<'_> {
+    fn fmt<W: fmt::Write>(&self, f: &mut fmt::Formatter<W>) -> fmt::Result {
+        write!(f, "Stock({} chunks)", self.parts.len())
     }
 }
