@@ -6,7 +6,7 @@ use Rattle.std.proofs.lemmas.List.Sorted.{All-permutation}
 use Rattle.slot_chain.specs.Buffer.{Buffer}
 use Rattle.digit_route.specs.Digits.{Scheme, IsScheme, common, count}
 use Rattle.digit_route.specs.Route.{IsCached, IsWellRouted}
-use Rattle.digit_route.proofs.DigitLaws.{common-lt}
+use Rattle.digit_route.proofs.SharedLaws.{shared_by_others}
 use Rattle.digit_route.specs.States.{BatchState}
 use Rattle.pool_desk.specs.Desks.{DeskState}
 use Rattle.pool_desk.specs.Steps.{Handles, passed_on, others}
@@ -35,7 +35,7 @@ cached_after s a from items old new r all moved =
 pub few : (s : Scheme) (a : ℕ) (items : List Buffer) → IsScheme s → a < 2 ^ s.bits → All (IsCached s a) items → All (λ (b : Buffer). b.forwards < count s) items
 few s a items scheme in_range all k d lt =
     let is = all k d lt in
-    let less = common-lt s scheme _ a is.in_range in_range is.apart in
+    let less = shared_by_others s _ a scheme is.in_range in_range is.apart in
     let most = is.forwards in
     omega arith
 
