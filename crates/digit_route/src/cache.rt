@@ -217,12 +217,20 @@ impl<'r> Cache<'r> {
     {
         match self.fault_for(t) {
             Some(fault) => Err(fault),
-            None => {
-                let chain = self.row.take_for(t);
-                self.bytes = bytes_left(self.bytes, chain.bytes_total(), &self.row);
-                Ok(self.row.batch(t, chain))
-            }
+            None => Ok(self.take_for(t)),
         }
+    }
+
+    /// Takes out the bucket for `t`, where `fault_for` said that it has a batch.
+    pub fn take_for(&mut self, t: u16) -> Batch<'r>
+        requires { RouteFault self.old.digits self.old.number t self.old.items None }
+        ensures same { self.new ≡ record self.old { items = self.new.items } }
+        ensures address { result.address ≡ t }
+        ensures gives { GivesBucket self.old.digits self.old.number self.old.items result self.new.items }
+    {
+        let chain = self.row.take_for(t);
+        self.bytes = bytes_left(self.bytes, chain.bytes_total(), &self.row);
+        self.row.batch(t, chain)
     }
 
     /// Takes out the bucket for some owner of a buffer in it, or says that the cache is empty.
