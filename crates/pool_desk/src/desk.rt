@@ -232,6 +232,17 @@ impl<'r> Desk<'r> {
         self.cache.take_bucket_for(t)
     }
 
+    /// Takes out of the cache all that goes to `t`, where [`Desk::fault_for`] said that it has a
+    /// batch. Takes no memory.
+    pub fn take_for(&mut self, t: u16) -> Batch<'r>
+        requires { RouteFault self.old.digits self.old.number t self.old.cached None }
+        ensures same { self.new ≡ record self.old { cached = self.new.cached } }
+        ensures address { result.address ≡ t }
+        ensures gives { GivesBucket self.old.digits self.old.number self.old.cached result self.new.cached }
+    {
+        self.cache.take_for(t)
+    }
+
     /// Takes out of the cache all that goes to some owner of a buffer in it, or says that it is
     /// empty. Takes no memory. To post all of the cache, [`Desk::posting`] takes fewer steps.
     pub fn next_batch(&mut self) -> Option<Batch<'r>>
