@@ -2,7 +2,7 @@
 use region_cut::Class;
 
 /// A drawn chunk: the number of the desk that drew it, and the class that it was drawn for.
-#[derive(Clone, Copy)]
+#[derive(Clone, Copy, Debug)]
 pub struct DrawnChunk {
     pub owner: u32,
     pub class: Class,
