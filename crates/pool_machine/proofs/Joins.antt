@@ -19,14 +19,14 @@ applies_push u v w qs ys q y more one st count h =
     let f = more st count h in
     let g = one f.0 (λ s. forwards st qs ys s (count s)) f.2 in (
       after f.0 q y,
-      run_push qs ys st f.0 q y f.1 g.1.0,
+      run_push qs ys st f.0 q y f.1 g.1.step.0,
       subst (λ k. Shown w (after f.0 q y) k) (λ i s. sym (forwards_push qs ys st f.0 q y f.1 s (count s)) i)
-          (subst (λ x. Shown w x (λ s. counted f.0 q y s (forwards st qs ys s (count s)))) g.1.1 g.2),
+          (subst (λ x. Shown w x (λ s. counted f.0 q y s (forwards st qs ys s (count s)))) g.1.step.1 g.1.shown),
     )
 
 -- a step leads to lists that show some state
 pub shows_next : (v w : Listing) (q : Request) (y : Answer) → Applies v q y w → ShowsSome v → ShowsSome w
-shows_next v w q y f s = let g = f s.0 s.1 s.2 in (g.0, _, g.2)
+shows_next v w q y f s = let g = f s.0 s.1 s.2 in (g.0, _, g.1.shown)
 
 pub headline : (old : Listing) (qs : List Request) (ys : List Answer) (new : Listing) → AppliesAll old qs ys new → Headline old qs ys new
 headline old qs ys new f st count h =

@@ -177,7 +177,9 @@ module _ (v : Listing) (st : State) (c : Slot → ℕ) (h : Shown v st c) where
 pub applies : (v w : Listing) (q : Request) (y : Answer) → LocatedStep v q y w → Applies v q y w
 applies v w q y f st c h =
     let g = f st c (located v st c h) in
-    (g.0, g.1, shown w g.0 (λ s. counted st q y s (c s)) (step_reached st g.0 c q y h.reached g.1) g.2)
+    let count : Slot → ℕ = λ s. counted st q y s (c s) in
+    let seen = shown w g.0 count (step_reached st g.0 c q y h.reached g.1) g.2 in
+    (g.0, record { step = g.1; shown = seen; once = shown_once w g.0 count seen })
 
 pub opening_shown : (desks chunks : ℕ) (digits : Scheme) (limit : ℕ) → IsScheme digits → desks ≤ 2 ^ digits.bits →
     Shown (opened desks chunks digits limit) (opening desks chunks digits limit) (λ s. 0)

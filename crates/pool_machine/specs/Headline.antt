@@ -7,12 +7,28 @@ use Rattle.pool_machine.specs.Steps.{Answer, Step, Run}
 use Rattle.pool_machine.specs.Forwards.{counted, forwards}
 use Rattle.pool_machine.specs.Listing.{Listing, DeskListing, BatchListing, slots_seen, Shown}
 
--- one request is one step of the machine, from each state that the floor shows to one that it shows afterwards
-abbrev pub Applies : Listing → Request → Answer → Listing → Type 0
-Applies old q y new = (st : State) (count : Slot → ℕ) → Shown old st count →
-    (next : State) × Step st q y next × Shown new next (λ s. counted st q y s (count s))
+-- all lists of a floor joined: homes, lent buffers, caches and batches
+abbrev pub joined : Listing → List Slot
+joined v = flat_map (λ (d : DeskListing). slots_seen d.home) v.desks ++ (slots_seen v.lent
+    ++ (flat_map (λ (d : DeskListing). slots_seen d.cache) v.desks
+    ++ flat_map (λ ws. flat_map (λ (w : BatchListing). slots_seen w.buffers) ws) v.inboxes))
 
--- so is a list of requests a run
+-- ---- one request
+
+-- The answer is one step, and the new lists show the state that it leads to, in which each slot was passed on as often
+-- as the step tells. All lists joined are the slots of the drawn chunks, each once.
+pub record AppliesAt (st : State) (count : Slot → ℕ) (request : Request) (answer : Answer) (new : Listing)
+    (next : State) : Type 0 where
+  pub step : Step st request answer next
+  pub shown : Shown new next (λ s. counted st request answer s (count s))
+  pub once : IsPermutation (joined new) (slots next)
+
+-- so it is from each state that the floor shows before
+abbrev pub Applies : Listing → Request → Answer → Listing → Type 0
+Applies old request answer new = (st : State) (count : Slot → ℕ) → Shown old st count →
+    (next : State) × AppliesAt st count request answer new next
+
+-- a list of requests is a run
 abbrev pub AppliesAll : Listing → List Request → List Answer → Listing → Type 0
 AppliesAll old qs ys new = (st : State) (count : Slot → ℕ) → Shown old st count →
     (end : State) × Run st qs ys end × Shown new end (λ s. forwards st qs ys s (count s))
@@ -20,12 +36,6 @@ AppliesAll old qs ys new = (st : State) (count : Slot → ℕ) → Shown old st 
 -- the lists show some state that a run leads to
 abbrev pub ShowsSome : Listing → Type 0
 ShowsSome v = (st : State) × (count : Slot → ℕ) × Shown v st count
-
--- all lists of a floor joined: homes, lent buffers, caches and batches
-abbrev pub joined : Listing → List Slot
-joined v = flat_map (λ (d : DeskListing). slots_seen d.home) v.desks ++ (slots_seen v.lent
-    ++ (flat_map (λ (d : DeskListing). slots_seen d.cache) v.desks
-    ++ flat_map (λ ws. flat_map (λ (w : BatchListing). slots_seen w.buffers) ws) v.inboxes))
 
 -- ---- the headline
 

@@ -32,7 +32,7 @@ unfolding Applies
 follows_more start now new rs xs r x h s st count shown =
     let before = h st count shown in
     let step = s before.0 before.1 before.3 in
-    (step.0, _, run_more st before.0 step.0 rs xs r x before.2 step.1, step.2)
+    (step.0, _, run_more st before.0 step.0 rs xs r x before.2 step.1.step, step.1.shown)
 
 all_more : (rs : List Request) (r : Request) → AllByRecursion IsRequest rs → IsRequest r → AllByRecursion IsRequest (rs ++ r ∷ [])
 all_more [] r h k = (k, tt)
