@@ -23,6 +23,7 @@ use region_cut::endings::Endings;
 use region_cut::laws::{known_ends_stay, slices_lie_in_order, slots_lie_at_their_ranges};
 use slot_chain::NoMemory;
 use std::alloc::Global;
+use std::fmt;
 use std::marker::Model;
 
 /// All desks of a pool, the chunks that none of them drew, the lent buffers, and the batches that are on their way.
@@ -178,5 +179,14 @@ impl<'r> Floor<'r> {
         ensures named { IsNamed self.now }
     {
         let _lists = &self.lists;
+    }
+}
+
+// Its lists and their bytes are not printed.
+impl fmt::Debug for Floor<'_> {
+    fn fmt<W: fmt::Write>(&self, f: &mut fmt::Formatter<W>) -> fmt::Result {
+        let desks = self.desk_count();
+        let drawn = self.drawn_count();
+        write!(f, "Floor({desks} desks, {drawn} chunks drawn)")
     }
 }
