@@ -6,7 +6,7 @@ use Rattle.std.proofs.lemmas.List.{get_or_read, get_or_append_left, length-appen
 use Rattle.std.proofs.Math.Seq.{get_or-append_seam}
 use Rattle.std.specs.Prelude.{Bool, true, false, IsTrue, ◌↔◌}
 use Rattle.std.specs.List.Sorted.{IsNonDecreasingBy}
-use Rattle.event_floor.specs.Inboxes.{QueuedState, NumbersRise, IsHalf}
+use Rattle.event_floor.specs.Inboxes.{QueuedState, NumbersRise, IsUnlinked}
 
 -- so they don't fall
 pub rises_weakly : (ps : List QueuedState) → NumbersRise ps → IsNonDecreasingBy (λ (p : QueuedState). p.number) ps
@@ -15,22 +15,22 @@ rises_weakly ps h i j d l m =
     (λ (other : _ × (i ≢ j)). let e = other.1 in let r = h i j d (omega (arith, l, e)) m in omega (arith, r)) (eqb_tells i j)
 
 -- no batch has the number, where the first whose number isn't below it isn't such a batch
-pub none_half : (ps : List QueuedState) (number i : ℕ) → NumbersRise ps → ((k : ℕ) (d : QueuedState) → k < i → (get_or ps k d).number < number)
-    → ((k : ℕ) (d : QueuedState) → i ≤ k → k < length ps → number ≤ (get_or ps k d).number) → ((d : QueuedState) → i < length ps → IsHalf number (get_or ps i d) → ⊥)
-    → All (λ (p : QueuedState). IsHalf number p → ⊥) ps
-none_half ps number i h below above other k d l half =
-    let is = half.0 in
+pub none_unlinked : (ps : List QueuedState) (number i : ℕ) → NumbersRise ps → ((k : ℕ) (d : QueuedState) → k < i → (get_or ps k d).number < number)
+    → ((k : ℕ) (d : QueuedState) → i ≤ k → k < length ps → number ≤ (get_or ps k d).number) → ((d : QueuedState) → i < length ps → IsUnlinked number (get_or ps i d) → ⊥)
+    → All (λ (p : QueuedState). IsUnlinked number p → ⊥) ps
+none_unlinked ps number i h below above other k d l unlinked =
+    let is = unlinked.0 in
     ⊎_elim (λ (m : k < i). let b = below k d m in absurd (omega (arith, b, is)))
     (λ (n : i ≤ k).
-    ⊎_elim (λ (same : _ × (k ≡ i)). let e = same.1 in other d (omega (arith, l, e)) (subst (λ z. IsHalf number (get_or ps z d)) e half))
+    ⊎_elim (λ (same : _ × (k ≡ i)). let e = same.1 in other d (omega (arith, l, e)) (subst (λ z. IsUnlinked number (get_or ps z d)) e unlinked))
     (λ (apart : _ × (k ≢ i)). let e = apart.1 in let m : i < k = omega (arith, n, e) in
     let a = above i d (omega arith) (omega (arith, m, l)) in let r = h i k d m l in absurd (omega (arith, a, r, is))) (eqb_tells k i)) (cases_lt k i)
 
 -- and such a place isn't one, where its batch was asked
-pub not_half : (ps : List QueuedState) (number i : ℕ) (x : QueuedState) (answer : Bool) → (IsTrue answer ↔ IsHalf number x) → answer ≡ false → x ≡ get_or ps i x
-    → (d : QueuedState) → i < length ps → IsHalf number (get_or ps i d) → ⊥
-not_half ps number i x answer asked denied read d l half =
-    let says : answer ≡ true = asked.1 (subst (λ z. IsHalf number z) (sym (get_or_read ps i x l read d)) half) in
+pub not_unlinked : (ps : List QueuedState) (number i : ℕ) (x : QueuedState) (answer : Bool) → (IsTrue answer ↔ IsUnlinked number x) → answer ≡ false → x ≡ get_or ps i x
+    → (d : QueuedState) → i < length ps → IsUnlinked number (get_or ps i d) → ⊥
+not_unlinked ps number i x answer asked denied read d l unlinked =
+    let says : answer ≡ true = asked.1 (subst (λ z. IsUnlinked number z) (sym (get_or_read ps i x l read d)) unlinked) in
     let both : false ≡ true = sym denied ∙ says in
     absurd (cc)
 

@@ -53,12 +53,12 @@ abbrev pub buffers_in : List QueuedState → List Buffer
 buffers_in queued = flat_map (λ (p : QueuedState). p.buffers) queued
 
 -- it has this number, and still has to be linked
-abbrev pub IsHalf : ℕ → QueuedState → Type 0
-IsHalf number p = (p.number ≡ number) × (p.linked ≡ false)
+abbrev pub IsUnlinked : ℕ → QueuedState → Type 0
+IsUnlinked number p = (p.number ≡ number) × (p.linked ≡ false)
 
 -- it was sent by this desk, and still has to be linked
-abbrev pub IsHalfOf : ℕ → QueuedState → Type 0
-IsHalfOf sender p = (p.sender ≡ sender) × (p.linked ≡ false)
+abbrev pub IsUnlinkedOf : ℕ → QueuedState → Type 0
+IsUnlinkedOf sender p = (p.sender ≡ sender) × (p.linked ≡ false)
 
 -- such a batch waits in some inbox, and in none
 abbrev pub SomeQueued : (QueuedState → Type 0) → List (List QueuedState) → Type 0
@@ -68,10 +68,10 @@ abbrev pub NoneQueued : (QueuedState → Type 0) → List (List QueuedState) →
 NoneQueued P inboxes = (b : ℕ) → b < length inboxes → All (λ (p : QueuedState). P p → ⊥) (inbox_at inboxes b)
 
 -- the batch at a place of an inbox has this number, and still has to be linked
-abbrev pub IsHalfAt : List (List QueuedState) → ℕ → ℕ → ℕ → Type 0
-IsHalfAt inboxes number inbox place =
+abbrev pub IsUnlinkedAt : List (List QueuedState) → ℕ → ℕ → ℕ → Type 0
+IsUnlinkedAt inboxes number inbox place =
     (inbox < length inboxes) × (place < length (inbox_at inboxes inbox))
-    × IsHalf number (slice_index_or (inbox_at inboxes inbox) place no_batch)
+    × IsUnlinked number (slice_index_or (inbox_at inboxes inbox) place no_batch)
 
 -- each batch has a greater number than those before it
 abbrev pub NumbersRise : List QueuedState → Type 0
@@ -115,9 +115,9 @@ pub record TakesFrom (batch : BatchState) (b : ℕ) (old new : List (List Queued
   pub same : new ≡ slice_set old b rest
 
 -- the batch of this number, which still had to be linked, is linked
-pub record LinksHalf (number : ℕ) (old new : List (List QueuedState)) : Type 0 where
+pub record LinksUnlinked (number : ℕ) (old new : List (List QueuedState)) : Type 0 where
   pub inbox : ℕ
   pub place : ℕ
-  pub half : IsHalfAt old number inbox place
+  pub unlinked : IsUnlinkedAt old number inbox place
   pub same : new ≡ slice_set old inbox
       (slice_set (inbox_at old inbox) place (as_linked (slice_index_or (inbox_at old inbox) place no_batch)))

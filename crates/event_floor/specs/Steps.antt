@@ -33,7 +33,7 @@ use Rattle.pool_machine.specs.declared.refusal.Refusal.TheVariants.{BadClass, Sp
 use Rattle.event_floor.specs.declared.any_desk.AnyDesk.TheVariants.{Idle as IdleDesk}
 use Rattle.event_floor.specs.Desks.{adopted, retired}
 use Rattle.event_floor.specs.Lent.{lent_at, index_of}
-use Rattle.event_floor.specs.Inboxes.{QueuedState, inbox_at, sent_as, as_linked, no_batch, IsHalf, IsHalfOf, IsHalfAt}
+use Rattle.event_floor.specs.Inboxes.{QueuedState, inbox_at, sent_as, as_linked, no_batch, IsUnlinked, IsUnlinkedOf, IsUnlinkedAt}
 use Rattle.event_floor.specs.Inboxes.{SomeQueued, NoneQueued, HasNoFront}
 use Rattle.event_floor.specs.Floors.{FloorState, desk_count, profile_seen, IsIdle, IsHeld, with_any_desk, with_desk}
 use Rattle.event_floor.specs.Floors.{with_inbox, last_number}
@@ -66,22 +66,22 @@ abbrev pub MeetsFault : FloorState → ℕ → ℕ → Option RouteError → Typ
 MeetsFault v a t fault = (d : DeskState) × Routes v a t d fault
 
 -- a batch that waits in some inbox still has to be linked: one of this sender
-abbrev pub HasHalfOf : FloorState → ℕ → Type 0
-HasHalfOf v sender = SomeQueued (IsHalfOf sender) v.inboxes
+abbrev pub HasUnlinkedOf : FloorState → ℕ → Type 0
+HasUnlinkedOf v sender = SomeQueued (IsUnlinkedOf sender) v.inboxes
 
 -- there is none: of this number, of this sender
-abbrev pub LacksHalf : FloorState → ℕ → Type 0
-LacksHalf v number = NoneQueued (IsHalf number) v.inboxes
+abbrev pub LacksUnlinked : FloorState → ℕ → Type 0
+LacksUnlinked v number = NoneQueued (IsUnlinked number) v.inboxes
 
-abbrev pub LacksHalfOf : FloorState → ℕ → Type 0
-LacksHalfOf v sender = NoneQueued (IsHalfOf sender) v.inboxes
+abbrev pub LacksUnlinkedOf : FloorState → ℕ → Type 0
+LacksUnlinkedOf v sender = NoneQueued (IsUnlinkedOf sender) v.inboxes
 
 abbrev pub Refuses : FloorState → Request → Refusal → Type 0
 Refuses v (Adopt a worker) NoDesk = desk_count v ≤ a
 Refuses v (Adopt a worker) Held = MeetsHeld v a
 Refuses v (Retire a) NoDesk = desk_count v ≤ a
 Refuses v (Retire a) Idle = MeetsIdle v a
-Refuses v (Retire a) Unsettled = (d : DeskState) × IsHeld v a d × ((d.cached ≢ []) ⊎ HasHalfOf v a)
+Refuses v (Retire a) Unsettled = (d : DeskState) × IsHeld v a d × ((d.cached ≢ []) ⊎ HasUnlinkedOf v a)
 Refuses v (Claim a class) NoDesk = desk_count v ≤ a
 Refuses v (Claim a class) Idle = MeetsIdle v a
 Refuses v (Claim a class) BadClass = MeetsHeld v a × (class_limit v ≤ class)
@@ -104,7 +104,7 @@ Refuses v (Send a t) NothingFor = MeetsFault v a t (Some RouteNothingFor)
 Refuses v (Send a t) NotAnOwner = MeetsFault v a t (Some RouteNotAnOwner)
 Refuses v (Send a t) Spent = MeetsFault v a t None × (last_number < v.next)
 Refuses v (Send a t) NoMemory = MeetsFault v a t None × (v.next ≤ last_number)
-Refuses v (Link number) NoBatch = LacksHalf v number
+Refuses v (Link number) NoBatch = LacksUnlinked v number
 Refuses v (Take b) NoDesk = desk_count v ≤ b
 Refuses v (Take b) Idle = MeetsIdle v b
 Refuses v (Take b) Nothing = MeetsHeld v b × HasNoFront (inbox_at v.inboxes b)
@@ -172,7 +172,7 @@ pub record SendsBatch (old : FloorState) (a t number count : ℕ) (new : FloorSt
 pub record LinksBatch (old : FloorState) (number : ℕ) (new : FloorState) : Type 0 where
   pub inbox : ℕ
   pub place : ℕ
-  pub half : IsHalfAt old.inboxes number inbox place
+  pub unlinked : IsUnlinkedAt old.inboxes number inbox place
   pub same : new ≡ with_inbox old inbox
       (slice_set (inbox_at old.inboxes inbox) place
       (as_linked (slice_index_or (inbox_at old.inboxes inbox) place no_batch)))
@@ -192,7 +192,7 @@ pub record TakesFront (old : FloorState) (b home on : ℕ) (new : FloorState) : 
 
 abbrev pub Does : FloorState → Request → Reply → FloorState → Type 0
 Does old (Adopt a worker) Done new = (d : IdleState) × IsIdle old a d × (new ≡ with_desk old a (adopted worker d))
-Does old (Retire a) Done new = (d : DeskState) × IsHeld old a d × (d.cached ≡ []) × LacksHalfOf old a
+Does old (Retire a) Done new = (d : DeskState) × IsHeld old a d × (d.cached ≡ []) × LacksUnlinkedOf old a
     × (new ≡ with_any_desk old a (IdleDesk (retired d)))
 Does old (Claim a class) (Chunk k) new = DrawsChunk old a class k new
 Does old (Alloc a size) (Lent slot) new = LendsSlot old a size slot new

@@ -39,7 +39,7 @@ impl<'r> Lists<'r> {
         if let AnyDesk::Idle(_) = &self.desks[place] {
             return Err(Refusal::Idle);
         }
-        if self.inboxes.has_half_of(a) {
+        if self.inboxes.has_unlinked_of(a) {
             return Err(Refusal::Unsettled);
         }
         if release(&mut self.desks[place], self.digits) {

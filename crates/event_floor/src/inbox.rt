@@ -5,7 +5,7 @@ ghost use Rattle.slot_chain.specs.Buffer.{ended_of};
 ghost use Rattle.slot_chain.specs.Counts.{capped};
 ghost use Rattle.digit_route.specs.Route.{RouteFault};
 ghost use Rattle.slot_chain.specs.Slots.{slot_of};
-ghost use Rattle.event_floor.specs.Inboxes.{QueuedState, as_linked, no_batch, IsHalf, NumbersRise, buffers_in};
+ghost use Rattle.event_floor.specs.Inboxes.{QueuedState, as_linked, no_batch, IsUnlinked, NumbersRise, buffers_in};
 ghost use Rattle.event_floor.specs.Inboxes.{HasNoFront};
 ghost use Rattle.event_floor.specs.Inboxes.{LeavesFront, SendsInto};
 
@@ -59,14 +59,14 @@ impl<'r> Inbox<'r> {
 
     /// The place of the batch of this number, where it waits here and still has to be linked. The numbers rise along
     /// the inbox, so it takes a time that grows with the logarithm of how many wait.
-    pub(crate) fn find_half(&self, number: u32) -> Option<usize>
+    pub(crate) fn find_unlinked(&self, number: u32) -> Option<usize>
         ensures found { MatchOption result
-            (All (λ (p : QueuedState). IsHalf number p → ⊥) self.now)
-            (λ i. (i < length self.now) × IsHalf number (slice_index_or self.now i no_batch)) }
+            (All (λ (p : QueuedState). IsUnlinked number p → ⊥) self.now)
+            (λ i. (i < length self.now) × IsUnlinked number (slice_index_or self.now i no_batch)) }
         ensures rising { NumbersRise self.now }
     {
         let place = self.place_of(number);
-        if place < self.batches.len() && self.batches[place].is_half(number) {
+        if place < self.batches.len() && self.batches[place].is_unlinked(number) {
             return Some(place);
         }
         None

@@ -5,9 +5,9 @@ ghost use Rattle.slot_chain.specs.Buffer.{ended_of};
 ghost use Rattle.slot_chain.specs.Counts.{capped};
 ghost use Rattle.digit_route.specs.Route.{RouteFault};
 ghost use Rattle.slot_chain.specs.Slots.{slot_of};
-ghost use Rattle.event_floor.specs.Inboxes.{QueuedState, inbox_at, buffers_in, IsHalf, IsHalfOf, SomeQueued};
+ghost use Rattle.event_floor.specs.Inboxes.{QueuedState, inbox_at, buffers_in, IsUnlinked, IsUnlinkedOf, SomeQueued};
 ghost use Rattle.event_floor.specs.Inboxes.{NoneQueued};
-ghost use Rattle.event_floor.specs.Inboxes.{HasNoFront, SendsTo, TakesFrom, LinksHalf};
+ghost use Rattle.event_floor.specs.Inboxes.{HasNoFront, SendsTo, TakesFrom, LinksUnlinked};
 
 use crate::inbox::Inbox;
 use crate::unlinked::{Unlinked, UnlinkedIndex};
@@ -63,11 +63,11 @@ impl<'r> Inboxes<'r> {
         ensures refused { OnErr result (self.new ≡ self.old) }
         ensures refused_desk { OnErr result (desk.new ≡ desk.old) }
     {
-        let half = Unlinked {
+        let entry = Unlinked {
             sender: desk.number() as u32,
             inbox: t as u32,
         };
-        self.unlinked.add(number, half)?;
+        self.unlinked.add(number, entry)?;
         match self.inboxes[t as usize].send(desk, t, number) {
             Ok(count) => Ok(count),
             Err(refused) => {
@@ -80,14 +80,14 @@ impl<'r> Inboxes<'r> {
     /// Links the batch of this number, where it still has to be linked. The index tells the inbox, so it takes a time
     /// that grows with the logarithm of how many wait there.
     pub(crate) fn link(&mut self, number: u32) -> bool
-        ensures { MatchBool result (LinksHalf number self.old self.new)
-            (NoneQueued (IsHalf number) self.old × (self.new ≡ self.old)) }
+        ensures { MatchBool result (LinksUnlinked number self.old self.new)
+            (NoneQueued (IsUnlinked number) self.old × (self.new ≡ self.old)) }
     {
-        let Some(half) = self.unlinked.remove(number) else {
+        let Some(entry) = self.unlinked.remove(number) else {
             return false;
         };
-        let inbox = &mut self.inboxes[half.inbox as usize];
-        match inbox.find_half(number) {
+        let inbox = &mut self.inboxes[entry.inbox as usize];
+        match inbox.find_unlinked(number) {
             Some(place) => {
                 inbox.link(place);
                 true
@@ -97,9 +97,9 @@ impl<'r> Inboxes<'r> {
     }
 
     /// Whether a batch of this sender still has to be linked.
-    pub(crate) fn has_half_of(&self, sender: u32) -> bool
+    pub(crate) fn has_unlinked_of(&self, sender: u32) -> bool
         requires { sender < length self.now }
-        ensures { MatchBool result (SomeQueued (IsHalfOf sender) self.now) (NoneQueued (IsHalfOf sender) self.now) }
+        ensures { MatchBool result (SomeQueued (IsUnlinkedOf sender) self.now) (NoneQueued (IsUnlinkedOf sender) self.now) }
     {
         self.unlinked.has_sender(sender)
     }

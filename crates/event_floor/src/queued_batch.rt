@@ -2,7 +2,7 @@
 ghost use Rattle.std.specs.Prelude.{◌≡◌, ◌↔◌, IsTrue, OnOk, length, map};
 ghost use Rattle.slot_chain.specs.Counts.{capped};
 ghost use Rattle.slot_chain.specs.Slots.{slot_of, AddsSlots};
-ghost use Rattle.event_floor.specs.Inboxes.{sent_as, as_linked, IsHalf};
+ghost use Rattle.event_floor.specs.Inboxes.{sent_as, as_linked, IsUnlinked};
 
 use digit_route::Batch;
 use region_cut::Slot;
@@ -59,8 +59,8 @@ impl<'r> QueuedBatch<'r> {
     }
 
     /// Whether it has this number and still has to be linked.
-    pub(crate) fn is_half(&self, number: u32) -> bool
-        ensures { IsTrue result ↔ IsHalf number self.now }
+    pub(crate) fn is_unlinked(&self, number: u32) -> bool
+        ensures { IsTrue result ↔ IsUnlinked number self.now }
     {
         self.number == number && !self.linked
     }

@@ -2,7 +2,7 @@
 ghost use Rattle.std.specs.Prelude.{◌≡◌, ◌≢◌, ◌<◌, ℕ, [], Some, None, nat_eq, OnOk, IfOk, OnErr, MatchBool};
 ghost use Rattle.std.specs.Prelude.{if◌then◌else◌};
 ghost use Rattle.event_floor.specs.declared.unlinked.Unlinked.{Unlinked as UnlinkedEntry};
-ghost use Rattle.event_floor.specs.Unlinked.{half_of};
+ghost use Rattle.event_floor.specs.Unlinked.{unlinked_of};
 
 use slot_chain::NoMemory;
 use std::alloc::Global;
@@ -51,38 +51,38 @@ impl UnlinkedIndex {
     }
 
     /// Adds a batch. A refusal changes nothing.
-    pub(crate) fn add(&mut self, number: u32, half: Unlinked) -> Result<(), NoMemory>
-        requires sender { half.sender < self.old.desks }
-        requires absent { half_of self.old number ≡ None }
+    pub(crate) fn add(&mut self, number: u32, entry: Unlinked) -> Result<(), NoMemory>
+        requires sender { entry.sender < self.old.desks }
+        requires absent { unlinked_of self.old number ≡ None }
         ensures desks { self.new.desks ≡ self.old.desks }
         ensures adds { OnOk result ((n : ℕ)
-            → half_of self.new n ≡ (if nat_eq number n then Some half else half_of self.old n)) }
+            → unlinked_of self.new n ≡ (if nat_eq number n then Some entry else unlinked_of self.old n)) }
         ensures refused { OnErr result (self.new ≡ self.old) }
     {
         // no desk sent more of them than there are, so its count has room for one more
         let _count = self.by_number.len();
-        self.by_number.insert(number, half)?;
-        self.by_sender[half.sender as usize] += 1;
+        self.by_number.insert(number, entry)?;
+        self.by_sender[entry.sender as usize] += 1;
         Ok(())
     }
 
     /// Takes the batch of this number out, where it has one. Takes no memory.
     pub(crate) fn remove(&mut self, number: u32) -> Option<Unlinked>
-        ensures value { result ≡ half_of self.old number }
+        ensures value { result ≡ unlinked_of self.old number }
         ensures desks { self.new.desks ≡ self.old.desks }
-        ensures removes { (n : ℕ) → half_of self.new n ≡ (if nat_eq number n then None else half_of self.old n) }
+        ensures removes { (n : ℕ) → unlinked_of self.new n ≡ (if nat_eq number n then None else unlinked_of self.old n) }
     {
-        let half = self.by_number.remove(&number)?;
-        self.by_sender[half.sender as usize] -= 1;
-        Some(half)
+        let entry = self.by_number.remove(&number)?;
+        self.by_sender[entry.sender as usize] -= 1;
+        Some(entry)
     }
 
     /// Whether it has a batch of this sender.
     pub(crate) fn has_sender(&self, sender: u32) -> bool
         requires { sender < self.now.desks }
         ensures { MatchBool result
-            ((n : ℕ) × (h : UnlinkedEntry) × (half_of self.now n ≡ Some h) × (h.sender ≡ sender))
-            ((n : ℕ) (h : UnlinkedEntry) → half_of self.now n ≡ Some h → h.sender ≢ sender) }
+            ((n : ℕ) × (h : UnlinkedEntry) × (unlinked_of self.now n ≡ Some h) × (h.sender ≡ sender))
+            ((n : ℕ) (h : UnlinkedEntry) → unlinked_of self.now n ≡ Some h → h.sender ≢ sender) }
     {
         self.by_sender[sender as usize] != 0
     }

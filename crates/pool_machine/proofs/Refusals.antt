@@ -23,7 +23,7 @@ use Rattle.pool_machine.proofs.Basics.{Member-filter}
 use Rattle.pool_machine.proofs.Enumerate.{count_cons}
 use Rattle.pool_machine.proofs.InPlace.{in_cache_is}
 use Rattle.pool_machine.proofs.PartBy.{part_any, home_with_is, lent_named, bools_agree, any_same}
-use Rattle.pool_machine.proofs.Words.{is_half, near, front_ready}
+use Rattle.pool_machine.proofs.Words.{is_unlinked, near, front_ready}
 
 -- whether the bucket for t takes an owner's buffers
 abbrev pub goes_by : Scheme → ℕ → ℕ → ℕ → Bool
@@ -53,7 +53,7 @@ conditions_seen v (Send a t) =
     ∷ (not (list_any (λ (e : Entry). goes_by v.digits a t e.owner) (desk_listing v a).cache), NothingFor)
     ∷ (not (list_any (λ (e : Entry). goes_by v.digits a t e.owner && (e.owner == t)) (desk_listing v a).cache), NotAnOwner)
     ∷ (nat_le (2 ^ 32) v.next, Spent) ∷ []
-conditions_seen v (Link n) = (not (any_queued (is_half n) v.inboxes), NoBatch) ∷ []
+conditions_seen v (Link n) = (not (any_queued (is_unlinked n) v.inboxes), NoBatch) ∷ []
 conditions_seen v (Take b) =
     (nat_le (length v.desks) b, NoDesk) ∷ (is_none (desk_listing v b).worker, Idle) ∷
     (not (front_ready (map as_waiting (inbox_listing v b))), Nothing) ∷ []
@@ -263,7 +263,7 @@ module _ (v : Listing) (st : State) (count : Slot → ℕ) (h : Located v st cou
       (ap₂ ◌∷◌ (ap (λ b. (b, Idle)) (idle_is a)) (ap (λ cs. (a == t, ToSelf) ∷ cs)
       (ap₂ ◌∷◌ (ap (λ b. (not b, NothingFor)) (bucket_any a t)) (ap₂ ◌∷◌ (ap (λ b. (not b, NotAnOwner)) (owner_any a t))
       (ap (λ n. (nat_le (2 ^ 32) n, Spent) ∷ []) (sym h.frame.next))))))
-  conditions_agree (Link n) = ap (λ b. (not b, NoBatch) ∷ []) (queued_any v st count h (is_half n))
+  conditions_agree (Link n) = ap (λ b. (not b, NoBatch) ∷ []) (queued_any v st count h (is_unlinked n))
   conditions_agree (Take b) =
       ap₂ ◌∷◌ (ap (λ b. (b, NoDesk)) (no_desk_is b)) (ap₂ ◌∷◌ (ap (λ b. (b, Idle)) (idle_is b))
       (ap (λ ws. (not (front_ready ws), Nothing) ∷ []) (sym (h.frame.inboxes b))))

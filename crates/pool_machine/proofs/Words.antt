@@ -20,8 +20,8 @@ abbrev pub at_home_with : State → ℕ → Slot → Bool
 at_home_with st a s = is_at st AtHome s && (owner_of st s == a)
 
 -- the batch has the number n, and still has to be linked
-abbrev pub is_half : ℕ → Waiting → Bool
-is_half n w = (n == w.number) && not w.linked
+abbrev pub is_unlinked : ℕ → Waiting → Bool
+is_unlinked n w = (n == w.number) && not w.linked
 
 -- the batch is linked where it has the number n
 abbrev pub link_one : ℕ → Waiting → Waiting

@@ -138,7 +138,7 @@ module _ (K : Buffer → Type 0) (U : Unused → Type 0) (R : Carved → Type 0)
       lent = e.lent;
       queued = each_row (All (λ (p : QueuedState). All K p.buffers)) v.inboxes s.inbox _
           (All-set (λ (p : QueuedState). All K p.buffers) (inbox_at v.inboxes s.inbox) s.place (as_linked (get_or (inbox_at v.inboxes s.inbox) s.place no_batch))
-          (e.queued s.inbox s.place no_batch s.half.1) (e.queued s.inbox)) e.queued;
+          (e.queued s.inbox s.place no_batch s.unlinked.1) (e.queued s.inbox)) e.queued;
     })
 
     pub send_everywhere : (w : FloorState) (a t number count : ℕ) → SendsBatch v a t number count w → Everywhere K U R w

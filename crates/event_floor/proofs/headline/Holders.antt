@@ -9,14 +9,14 @@ use Rattle.pool_machine.specs.declared.reply.Reply.TheVariants.{Done}
 use Rattle.pool_machine.specs.declared.refusal.Refusal.TheVariants.{NoDesk, Held, Unsettled}
 use Rattle.event_floor.specs.Desks.{adopted, retired, IsNumbered}
 use Rattle.event_floor.specs.Floors.{FloorState, with_any_desk, with_desk, IsIdle, IsHeld}
-use Rattle.event_floor.specs.Steps.{LacksHalfOf}
+use Rattle.event_floor.specs.Steps.{LacksUnlinkedOf}
 use Rattle.pool_machine.specs.Listing.{Entry, DeskListing, desk_listing}
 use Rattle.pool_machine.proofs.Located.{LocatedStep}
 use Rattle.event_floor.specs.headline.Listing.{entry_of, desk_of, listing_of}
 use Rattle.event_floor.specs.headline.Whole.{IsWhole}
 use Rattle.pool_machine.proofs.Applied.{adopt_applies, retire_applies}
 use Rattle.event_floor.proofs.headline.Views.{passes, held_seen, idle_seen, is_desk_seen, held_first, with_any_desk_seen}
-use Rattle.event_floor.proofs.headline.Refused.{unsettled, unsettled_rows, neither_row, half_of_none}
+use Rattle.event_floor.proofs.headline.Refused.{unsettled, unsettled_rows, neither_row, none_unlinked_of}
 
 -- the listing of a floor with another desk
 pub any_desk_listing : (v : FloorState) (a : ℕ) (s : AnyDesk) → listing_of (with_any_desk v a s) ≡ record (listing_of v) { desks = set (listing_of v).desks a (desk_of s) }
@@ -43,12 +43,12 @@ adopt_done v w a x d h e =
 or_none : (x y : Bool) → x ≡ false → y ≡ false → (x || y) ≡ false
 or_none x y e f = ap (λ b. b || y) e ∙ f
 
-settled : (v : FloorState) (a : ℕ) (d : DeskState) → IsHeld v a d → d.cached ≡ [] → LacksHalfOf v a → unsettled v a ≡ false
+settled : (v : FloorState) (a : ℕ) (d : DeskState) → IsHeld v a d → d.cached ≡ [] → LacksUnlinkedOf v a → unsettled v a ≡ false
 settled v a d h e f =
     or_none _ _ (ap (λ (x : DeskListing). list_any (λ (e : Entry). true) x.cache) (held_seen v a d h) ∙ ap (λ bs. list_any (λ (e : Entry). true) (map entry_of bs)) e)
-    (half_of_none v a f)
+    (none_unlinked_of v a f)
 
-pub retire_done : (v w : FloorState) (a : ℕ) (d : DeskState) → IsHeld v a d → d.cached ≡ [] → LacksHalfOf v a → w ≡ with_any_desk v a (IdleDesk (retired d))
+pub retire_done : (v w : FloorState) (a : ℕ) (d : DeskState) → IsHeld v a d → d.cached ≡ [] → LacksUnlinkedOf v a → w ≡ with_any_desk v a (IdleDesk (retired d))
     → LocatedStep (listing_of v) (Retire a) (Ok Done) (listing_of w)
 retire_done v w a d h none lacks e =
     let l = listing_of v in

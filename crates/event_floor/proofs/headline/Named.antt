@@ -163,7 +163,7 @@ module _ (names : List Carved) (v : FloorState) (n : AreNames names v) where
         lent = n.lent;
         queued = each_row (All (λ (p : QueuedState). All (HasName names) p.buffers)) v.inboxes s.inbox _
             (All-set (λ (p : QueuedState). All (HasName names) p.buffers) (inbox_at v.inboxes s.inbox) s.place (as_linked (get_or (inbox_at v.inboxes s.inbox) s.place no_batch))
-            (n.queued s.inbox s.place no_batch s.half.1) (n.queued s.inbox)) n.queued;
+            (n.queued s.inbox s.place no_batch s.unlinked.1) (n.queued s.inbox)) n.queued;
       })
 
   pub take_named : (w : FloorState) (b home on : ℕ) → TakesFront v b home on w → AreNames names w

@@ -13,7 +13,7 @@ use Rattle.event_floor.specs.declared.any_desk.AnyDesk.TheVariants.{Held as Held
 use Rattle.pool_machine.specs.declared.request.Request.TheVariants.{Send, Link, Take}
 use Rattle.pool_machine.specs.declared.reply.Reply.{Reply}
 use Rattle.pool_machine.specs.declared.reply.Reply.TheVariants.{Done, Batch, Counts}
-use Rattle.event_floor.specs.Inboxes.{QueuedState, inbox_at, sent_as, as_linked, no_batch, IsHalf, SomeQueued}
+use Rattle.event_floor.specs.Inboxes.{QueuedState, inbox_at, sent_as, as_linked, no_batch, IsUnlinked, SomeQueued}
 use Rattle.event_floor.specs.Floors.{FloorState}
 use Rattle.event_floor.specs.Steps.{SendsBatch, LinksBatch, TakesFront}
 use Rattle.pool_machine.specs.State.{State, bucket, in_bucket, slots, owner_of, InBatch, same_place, slots_at}
@@ -128,7 +128,7 @@ pub link_done : (v w : FloorState) (n : ℕ) → LinksBatch v n w → LocatedSte
 link_done v w n s =
     let ps = inbox_at v.inboxes s.inbox in
     let p = get_or ps s.place no_batch in
-    let some : SomeQueued (IsHalf n) v.inboxes = (s.inbox, s.half.0, (s.place, p, s.half.1, get_or_same ps s.place p no_batch s.half.1, s.half.2)) in
+    let some : SomeQueued (IsUnlinked n) v.inboxes = (s.inbox, s.unlinked.0, (s.place, p, s.unlinked.1, get_or_same ps s.place p no_batch s.unlinked.1, s.unlinked.2)) in
     let row : get_or (inbox_listing (listing_of v) s.inbox) s.place (batch_of no_batch) ≡ batch_of p =
     ap (λ ws. get_or ws s.place (batch_of no_batch)) (inbox_seen v s.inbox) ∙ get_or-map_default batch_of ps s.place no_batch in
     let shown : listing_of w ≡ after_link (listing_of v) s.inbox s.place (get_or (inbox_listing (listing_of v) s.inbox) s.place (batch_of no_batch)) =
@@ -139,9 +139,9 @@ link_done v w n s =
     (set-map batch_of ps s.place (as_linked p) ∙ ap₂ (λ ws x. set ws s.place (linked x)) (sym (inbox_seen v s.inbox)) (sym row))) in
     subst (λ z. LocatedStep (listing_of v) (Link n) (Ok Done) z) (sym shown)
     (link_applies (listing_of v) n s.inbox s.place (batch_of no_batch) (link_accepted v n some)
-    (subst (λ m. s.inbox < m) (sym (length-map v.inboxes (map batch_of))) s.half.0)
-    (subst (λ ws. s.place < length ws) (sym (inbox_seen v s.inbox)) (subst (λ m. s.place < m) (sym (length-map ps batch_of)) s.half.1))
-    (ap (λ (x : BatchListing). x.number) row ∙ s.half.2.0))
+    (subst (λ m. s.inbox < m) (sym (length-map v.inboxes (map batch_of))) s.unlinked.0)
+    (subst (λ ws. s.place < length ws) (sym (inbox_seen v s.inbox)) (subst (λ m. s.place < m) (sym (length-map ps batch_of)) s.unlinked.1))
+    (ap (λ (x : BatchListing). x.number) row ∙ s.unlinked.2.0))
 
 -- ---- Take
 

@@ -15,7 +15,7 @@ use Rattle.pool_machine.specs.declared.request.Request.TheVariants.{Adopt, Retir
 use Rattle.pool_machine.specs.declared.refusal.Refusal.{Refusal}
 use Rattle.pool_machine.specs.declared.refusal.Refusal.TheVariants.{NoDesk, Idle, TooLarge, NeedChunk, NotNeeded, NoChunk, NotLent, NothingFor, NotAnOwner, ToSelf, NoBatch, Nothing, Unsettled, Held, NoMemory, BadClass, Spent}
 use Rattle.event_floor.specs.Lent.{buffers_lent, lent_at, AreInPlace}
-use Rattle.event_floor.specs.Inboxes.{QueuedState, inbox_at, IsHalf, IsHalfOf, SomeQueued, NoneQueued, HasNoFront}
+use Rattle.event_floor.specs.Inboxes.{QueuedState, inbox_at, IsUnlinked, IsUnlinkedOf, SomeQueued, NoneQueued, HasNoFront}
 use Rattle.event_floor.specs.Floors.{FloorState, desk_count, last_number, IsHeld}
 use Rattle.event_floor.specs.Steps.{Refuses, Routes, class_limit, size_limit}
 use Rattle.pool_machine.specs.State.{Waiting, least_class}
@@ -29,7 +29,7 @@ use Rattle.event_floor.proofs.headline.Least.{holds_within, least_is}
 use Rattle.event_floor.proofs.headline.Lists.{any-map, All-not-from_Any}
 use Rattle.event_floor.proofs.headline.Tables.{none_lent, one_lent}
 use Rattle.event_floor.proofs.headline.Views.{leb_past, ltb_past, any_of, none_of, hits, passes, held_seen, idle_seen, no_desk_seen, is_desk_seen, no_desk_first, idle_first, held_first, has_class_seen, lacks_class_seen, inbox_seen}
-use Rattle.pool_machine.proofs.Words.{is_half, front_ready}
+use Rattle.pool_machine.proofs.Words.{is_unlinked, front_ready}
 
 abbrev pub Says : FloorState → Request → Refusal → Type 0
 Says v q r = refusal_seen (listing_of v) q ≡ Some r
@@ -45,8 +45,8 @@ adopt_refused v a x _ h = elim h [ ]
 
 -- ---- batches
 
-half_seen : (n : ℕ) (p : QueuedState) → is_half n (as_waiting (batch_of p)) ≡ ((n == p.number) && not p.linked)
-half_seen n p = refl
+unlinked_seen : (n : ℕ) (p : QueuedState) → is_unlinked n (as_waiting (batch_of p)) ≡ ((n == p.number) && not p.linked)
+unlinked_seen n p = refl
 
 -- some batch passes, and none does
 pub queued_some : (v : FloorState) (P : QueuedState → Type 0) (p : Waiting → Bool) → ((x : QueuedState) → P x → p (as_waiting (batch_of x)) ≡ true)
@@ -88,20 +88,20 @@ isnt_eqb : (m n : ℕ) → m ≢ n → (m == n) ≡ false
 isnt_eqb m n e = grind (arith, e)
 
 -- the batches of this sender that still have to be linked
-abbrev pub halves_of : ℕ → Waiting → Bool
-halves_of a w = (a == w.sender) && not w.linked
+abbrev pub is_unlinked_of : ℕ → Waiting → Bool
+is_unlinked_of a w = (a == w.sender) && not w.linked
 
-pub half_of_some : (v : FloorState) (a : ℕ) → SomeQueued (IsHalfOf a) v.inboxes → any_queued (halves_of a) (listing_of v).inboxes ≡ true
-half_of_some v a h = queued_some v (IsHalfOf a) (halves_of a) (λ x p. two_true (a == x.sender) x.linked (is_eqb a x.sender (sym p.0)) p.1) h
+pub some_unlinked_of : (v : FloorState) (a : ℕ) → SomeQueued (IsUnlinkedOf a) v.inboxes → any_queued (is_unlinked_of a) (listing_of v).inboxes ≡ true
+some_unlinked_of v a h = queued_some v (IsUnlinkedOf a) (is_unlinked_of a) (λ x p. two_true (a == x.sender) x.linked (is_eqb a x.sender (sym p.0)) p.1) h
 
-pub half_of_none : (v : FloorState) (a : ℕ) → NoneQueued (IsHalfOf a) v.inboxes → any_queued (halves_of a) (listing_of v).inboxes ≡ false
-half_of_none v a h = queued_none v (IsHalfOf a) (halves_of a) (λ x f. one_false (a == x.sender) x.linked (λ p. f (sym (eqb_is a x.sender p.0), p.1))) h
+pub none_unlinked_of : (v : FloorState) (a : ℕ) → NoneQueued (IsUnlinkedOf a) v.inboxes → any_queued (is_unlinked_of a) (listing_of v).inboxes ≡ false
+none_unlinked_of v a h = queued_none v (IsUnlinkedOf a) (is_unlinked_of a) (λ x f. one_false (a == x.sender) x.linked (λ p. f (sym (eqb_is a x.sender p.0), p.1))) h
 
-pub half_some : (v : FloorState) (n : ℕ) → SomeQueued (IsHalf n) v.inboxes → any_queued (is_half n) (listing_of v).inboxes ≡ true
-half_some v n h = queued_some v (IsHalf n) (is_half n) (λ x p. two_true (n == x.number) x.linked (is_eqb n x.number (sym p.0)) p.1) h
+pub some_unlinked : (v : FloorState) (n : ℕ) → SomeQueued (IsUnlinked n) v.inboxes → any_queued (is_unlinked n) (listing_of v).inboxes ≡ true
+some_unlinked v n h = queued_some v (IsUnlinked n) (is_unlinked n) (λ x p. two_true (n == x.number) x.linked (is_eqb n x.number (sym p.0)) p.1) h
 
-pub half_none : (v : FloorState) (n : ℕ) → NoneQueued (IsHalf n) v.inboxes → any_queued (is_half n) (listing_of v).inboxes ≡ false
-half_none v n h = queued_none v (IsHalf n) (is_half n) (λ x f. one_false (n == x.number) x.linked (λ p. f (sym (eqb_is n x.number p.0), p.1))) h
+pub none_unlinked : (v : FloorState) (n : ℕ) → NoneQueued (IsUnlinked n) v.inboxes → any_queued (is_unlinked n) (listing_of v).inboxes ≡ false
+none_unlinked v n h = queued_none v (IsUnlinked n) (is_unlinked n) (λ x f. one_false (n == x.number) x.linked (λ p. f (sym (eqb_is n x.number p.0), p.1))) h
 
 -- ---- Retire
 
@@ -114,12 +114,12 @@ or_right true y e = refl
 or_right false y e = e
 
 abbrev pub unsettled : FloorState → ℕ → Bool
-unsettled v a = list_any (λ (e : Entry). true) (desk_listing (listing_of v) a).cache || any_queued (halves_of a) (listing_of v).inboxes
+unsettled v a = list_any (λ (e : Entry). true) (desk_listing (listing_of v) a).cache || any_queued (is_unlinked_of a) (listing_of v).inboxes
 
 -- what stands against a retirement of a held desk
 abbrev pub unsettled_rows : FloorState → ℕ → List (Bool × Refusal)
 unsettled_rows v a = (list_any (λ (e : Entry). true) (desk_listing (listing_of v) a).cache, Unsettled)
-    ∷ (any_queued (halves_of a) (listing_of v).inboxes, Unsettled) ∷ []
+    ∷ (any_queued (is_unlinked_of a) (listing_of v).inboxes, Unsettled) ∷ []
 
 either_row : (x y : Bool) (r : Refusal) → (x || y) ≡ true → first ((x, r) ∷ (y, r) ∷ []) ≡ Some r
 either_row true y r e = refl
@@ -136,10 +136,10 @@ retire_refused v a NoDesk h = no_desk_first v a (unsettled_rows v a) h
 retire_refused v a Idle h = idle_first v a (unsettled_rows v a) h.0 h.1
 retire_refused v a Unsettled h = held_first v a (unsettled_rows v a) h.0 h.1 ∙ either_row _ _ Unsettled (either h.2)
   where
-    either : (h.0.cached ≢ []) ⊎ SomeQueued (IsHalfOf a) v.inboxes → unsettled v a ≡ true
-    either (inl ne) = ap (λ b. b || any_queued (halves_of a) (listing_of v).inboxes)
+    either : (h.0.cached ≢ []) ⊎ SomeQueued (IsUnlinkedOf a) v.inboxes → unsettled v a ≡ true
+    either (inl ne) = ap (λ b. b || any_queued (is_unlinked_of a) (listing_of v).inboxes)
         (ap (λ (x : DeskListing). list_any (λ (e : Entry). true) x.cache) (held_seen v a h.0 h.1) ∙ some_cached h.0.cached ne)
-    either (inr s) = or_right (list_any (λ (e : Entry). true) (desk_listing (listing_of v) a).cache) _ (half_of_some v a s)
+    either (inr s) = or_right (list_any (λ (e : Entry). true) (desk_listing (listing_of v) a).cache) _ (some_unlinked_of v a s)
 retire_refused v a _ h = elim h [ ]
 
 -- ---- Claim
@@ -347,11 +347,11 @@ send_refused v a t _ h = elim h [ ]
 -- ---- Link
 
 pub link_refused : (v : FloorState) (n : ℕ) (r : Refusal) → Refuses v (Link n) r → Says v (Link n) r
-link_refused v n NoBatch h = hits (not (any_queued (is_half n) (listing_of v).inboxes)) NoBatch [] (ap not (half_none v n h))
+link_refused v n NoBatch h = hits (not (any_queued (is_unlinked n) (listing_of v).inboxes)) NoBatch [] (ap not (none_unlinked v n h))
 link_refused v n _ h = elim h [ ]
 
-pub link_accepted : (v : FloorState) (n : ℕ) → SomeQueued (IsHalf n) v.inboxes → refusal_seen (listing_of v) (Link n) ≡ None
-link_accepted v n h = passes (not (any_queued (is_half n) (listing_of v).inboxes)) NoBatch [] (ap not (half_some v n h))
+pub link_accepted : (v : FloorState) (n : ℕ) → SomeQueued (IsUnlinked n) v.inboxes → refusal_seen (listing_of v) (Link n) ≡ None
+link_accepted v n h = passes (not (any_queued (is_unlinked n) (listing_of v).inboxes)) NoBatch [] (ap not (some_unlinked v n h))
 
 -- ---- Take
 

@@ -16,16 +16,16 @@ returns-in-Idle-clause-refuses c =
     let there = within _ _ _ _ c.if-place-len.false c.len.ensures c.self.inside.desks.ok.0 in
     (c.in-Idle.field-0, is_idle _ _ c.args.a _ _ c.self.view_is there c.index.ensures c.in-Idle.is)
 
-pub has_half_of-requires : goal.has_half_of-requires
-has_half_of-requires c =
+pub has_unlinked_of-requires : goal.has_unlinked_of-requires
+has_unlinked_of-requires c =
     let there = within _ _ _ _ c.if-place-len.false c.len.ensures c.self.inside.desks.ok.0 in
     subst (λ z. c.args.a < z) (sym c.self.invariant.inbox_count) there
 
-pub returns-then-has_half_of-clause-refuses : goal.returns-then-has_half_of-clause-refuses
-returns-then-has_half_of-clause-refuses c =
+pub returns-then-has_unlinked_of-clause-refuses : goal.returns-then-has_unlinked_of-clause-refuses
+returns-then-has_unlinked_of-clause-refuses c =
     let there = within _ _ _ _ c.if-place-len.false c.len.ensures c.self.inside.desks.ok.0 in
     subst (λ (v : FloorState). Refuses v (Retire c.args.a) Unsettled) c.self.view_is
-    (c.in_default.field-0, (there, desk_read _ _ _ _ there c.index.ensures c.in_default.is), inr c.if-has_half_of.ensures)
+    (c.in_default.field-0, (there, desk_read _ _ _ _ there c.index.ensures c.in_default.is), inr c.if-has_unlinked_of.ensures)
 
 pub invariant_of-self : goal.invariant_of-self
 invariant_of-self c =
