@@ -90,15 +90,11 @@ impl<'r> Inbox<'r> {
         ensures refused_desk { OnErr result (desk.new ≡ desk.old) }
     {
         self.batches.try_reserve(1)?;
-        match desk.batch_for(t) {
-            Ok(batch) => {
-                let count = batch.len();
-                self.batches
-                    .push_back_reserved(QueuedBatch::new(number, batch));
-                Ok(count)
-            }
-            Err(_) => unreachable!(),
-        }
+        let batch = desk.take_for(t);
+        let count = batch.len();
+        self.batches
+            .push_back_reserved(QueuedBatch::new(number, batch));
+        Ok(count)
     }
 
     /// Takes the front, or None where there is none or it still has to be linked.

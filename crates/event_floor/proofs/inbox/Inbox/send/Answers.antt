@@ -10,9 +10,9 @@ invariant_of-self c = subst (λ z. NumbersRise z) (sym c.in_err-try_reserve.ensu
 pub returns-in_err-try_reserve-clause-refused : goal.returns-in_err-try_reserve-clause-refused
 returns-in_err-try_reserve-clause-refused c = on_err c.from_residual.result (c.in_err-try_reserve.ensures.items ∙ c.self.view_is)
 
-pub invariant_of-self-in-Ok : goal.invariant_of-self-in-Ok
-invariant_of-self-in-Ok c =
-    let p = sent_as c.args.number c.in-Ok.batch in
+pub invariant_of-self-2 : goal.invariant_of-self-2
+invariant_of-self-2 c =
+    let p = sent_as c.args.number c.take_for-batch.result in
     let queued : c.push_back_reserved.new.self.items ≡ c.self.inside.batches.items ++ p ∷ [] =
     c.push_back_reserved.ensures.items ∙ (ap (λ z. z ++ c.new.result ∷ []) c.in_ok-try_reserve.ensures.items ∙ ap (λ (z : QueuedState). c.self.inside.batches.items ++ z ∷ []) c.new.ensures) in
     subst (λ z. NumbersRise z) (sym queued)
@@ -20,11 +20,11 @@ invariant_of-self-in-Ok c =
 
 pub returns-clause-sends : goal.returns-clause-sends
 returns-clause-sends c =
-    let batch = c.in-Ok.ensures in
+    let batch = c.take_for-batch.ensures in
     record {
-      batch = c.in-Ok.batch;
-      address = batch.value.1;
-      gives = batch.value.2;
+      batch = c.take_for-batch.result;
+      address = batch.address;
+      gives = batch.gives;
       same_desk = batch.same;
       counted = c.len-count.ensures;
       queued = c.push_back_reserved.ensures.items
