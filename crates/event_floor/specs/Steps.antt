@@ -33,7 +33,8 @@ use Rattle.pool_machine.specs.declared.refusal.Refusal.TheVariants.{BadClass, Sp
 use Rattle.event_floor.specs.declared.any_desk.AnyDesk.TheVariants.{Idle as IdleDesk}
 use Rattle.event_floor.specs.Desks.{adopted, retired}
 use Rattle.event_floor.specs.Lent.{lent_at, index_of}
-use Rattle.event_floor.specs.Inboxes.{QueuedState, inbox_at, sent_as, as_linked, no_batch, IsUnlinked, IsUnlinkedOf, IsUnlinkedAt}
+use Rattle.event_floor.specs.Inboxes.{QueuedState, inbox_at, sent_as, as_linked, no_batch, IsUnlinked, IsUnlinkedOf}
+use Rattle.event_floor.specs.Inboxes.{IsUnlinkedAt}
 use Rattle.event_floor.specs.Inboxes.{SomeQueued, NoneQueued, HasNoFront}
 use Rattle.event_floor.specs.Floors.{FloorState, desk_count, profile_seen, IsIdle, IsHeld, with_any_desk, with_desk}
 use Rattle.event_floor.specs.Floors.{with_inbox, last_number}

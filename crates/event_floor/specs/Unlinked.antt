@@ -31,11 +31,13 @@ HasUnlinked queued number sender =
     × ((slice_index_or queued place no_batch).sender ≡ sender)
 
 abbrev pub WaitsUnlinked : List (List QueuedState) → ℕ → ℕ → ℕ → Type 0
-WaitsUnlinked inboxes number sender inbox = (inbox < length inboxes) × HasUnlinked (inbox_at inboxes inbox) number sender
+WaitsUnlinked inboxes number sender inbox =
+    (inbox < length inboxes) × HasUnlinked (inbox_at inboxes inbox) number sender
 
 -- the index has those batches of the inboxes that still have to be linked, and no others
 pub record IsIndexOf (inboxes : List (List QueuedState)) (v : UnlinkedState) : Type 0 where
   pub desks : v.desks ≡ length inboxes
-  pub waits : (number : ℕ) (h : Unlinked) → unlinked_of v number ≡ Some h → WaitsUnlinked inboxes number h.sender h.inbox
+  pub waits : (number : ℕ) (h : Unlinked) → unlinked_of v number ≡ Some h
+      → WaitsUnlinked inboxes number h.sender h.inbox
   pub known : (number sender inbox : ℕ) → WaitsUnlinked inboxes number sender inbox
       → unlinked_of v number ≡ Some (record { sender = sender; inbox = inbox })

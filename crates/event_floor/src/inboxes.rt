@@ -99,7 +99,8 @@ impl<'r> Inboxes<'r> {
     /// Whether a batch of this sender still has to be linked.
     pub(crate) fn has_unlinked_of(&self, sender: u32) -> bool
         requires { sender < length self.now }
-        ensures { MatchBool result (SomeQueued (IsUnlinkedOf sender) self.now) (NoneQueued (IsUnlinkedOf sender) self.now) }
+        ensures { MatchBool result (SomeQueued (IsUnlinkedOf sender) self.now)
+            (NoneQueued (IsUnlinkedOf sender) self.now) }
     {
         self.unlinked.has_sender(sender)
     }

@@ -70,7 +70,8 @@ impl UnlinkedIndex {
     pub(crate) fn remove(&mut self, number: u32) -> Option<Unlinked>
         ensures value { result ≡ unlinked_of self.old number }
         ensures desks { self.new.desks ≡ self.old.desks }
-        ensures removes { (n : ℕ) → unlinked_of self.new n ≡ (if nat_eq number n then None else unlinked_of self.old n) }
+        ensures removes { (n : ℕ)
+            → unlinked_of self.new n ≡ (if nat_eq number n then None else unlinked_of self.old n) }
     {
         let entry = self.by_number.remove(&number)?;
         self.by_sender[entry.sender as usize] -= 1;

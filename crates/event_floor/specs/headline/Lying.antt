@@ -16,7 +16,8 @@ abbrev pub NamedBuffersLie : Type 0
 NamedBuffersLie =
     (end : Ending) (v : FloorState) (names : List Carved) → AreNames names v
     → (b : Buffer) (named : HasName names b) (region : List ℕ)
-    → BeginsWith end v.parts chunk_size region → BeginsWith end named.chunk.taken (size_of b.class) (end named.chunk.whole)
+    → BeginsWith end v.parts chunk_size region
+    → BeginsWith end named.chunk.taken (size_of b.class) (end named.chunk.whole)
     → StandsAt (end b.bytes.ghost_name) (start_of b.slot b.class) region
 
 -- So does a slot that was never handed out, whose chunk ends as the slots that were taken of it and then as what is
