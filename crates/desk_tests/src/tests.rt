@@ -5,6 +5,7 @@
 //! and works when it is made again.
 mod bytes;
 mod deep;
+mod front;
 mod home;
 mod listing;
 mod posting;

@@ -1,2 +1,4 @@
+pub mod Begun
+pub mod Given
 pub mod Homes
 pub mod LifeLaws

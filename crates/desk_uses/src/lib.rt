@@ -11,4 +11,4 @@ mod living;
 pub use callers::{cached_were_passed_on_few_times, lend_and_take_back, written};
 pub use crossing::{desk_crosses, idle_desk_crosses};
 pub use lending::lend_by_hand;
-pub use living::lives;
+pub use living::{fills_front, lives};

@@ -1,5 +1,6 @@
 //! A desk's whole life over a region of one chunk, after which it is known what the region holds.
-ghost use Rattle.std.specs.Prelude.{◌≡◌, [], length};
+ghost use Rattle.std.specs.Prelude.{◌≡◌, ◌↔◌, ◌≤◌, ⊤, [], All, Bool, IsTrue, None, length, take};
+ghost use Rattle.std.specs.Borrow.{sem, LendsSo, Array, u8};
 ghost use Rattle.std.specs.List.{Contains};
 ghost use Rattle.region_cut.specs.Limits.{chunk_size};
 ghost use Rattle.region_cut.specs.Parts.{name_of, bytes_of};
@@ -70,4 +71,53 @@ pub fn lives<'r>(alloc: Global, region: &'r mut [u8], byte: u8) -> (bool, Ending
     endings.agree();
     endings.close(front);
     (is_filled, endings)
+}
+
+fn lived<'r>(region: &'r mut [u8], alloc: Global, byte: u8) -> Endings<'r>
+    requires { length region.old ≡ chunk_size }
+    ensures { (is_filled : Bool) × Contains result.known
+        (record { name = region.entry.ghost_name; bytes = filled is_filled byte region.old }) }
+{
+    let (_is_filled, endings) = lives(alloc, region, byte);
+    endings
+}
+
+fn ended<'r>(region: &'r mut [u8], alloc: Global, byte: u8) -> Option<&'r mut u8>
+    requires { length region.old ≡ chunk_size }
+    ensures* writes_back { sem 𝓛 (LendsSo (Array u8 0) u8 region.entry result (λ _ _. ⊤)
+        (λ new. (is_filled : Bool) × (new ≡ filled is_filled byte region.old))) }
+    ensures none { result ≡ None }
+{
+    let _endings = lived(region, alloc, byte);
+    None
+}
+
+// Whether each of the first 16 bytes is this one.
+fn begins_with(bytes: &[u8], byte: u8) -> bool
+    requires { 16 ≤ length bytes.now }
+    ensures { IsTrue result ↔ All (λ b. b ≡ byte) (take 16 bytes.now) }
+{
+    bytes[..16].iter().all(|b| *b == byte)
+}
+
+// The region is filled in front, or is as it was.
+fn filled_or_not(region: &mut [u8], alloc: Global, byte: u8)
+    requires { length region.old ≡ chunk_size }
+    ensures { (is_filled : Bool) × (region.new ≡ filled is_filled byte region.old) }
+{
+    match ended(region, alloc, byte) {
+        None => (),
+        Some(_byte) => (),
+    }
+}
+
+/// The same, for a caller that goes on with its region, and knows it byte by byte: the 16 bytes in
+/// front are `byte`, and the others are as they were; or all are as they were, which is so where memory
+/// was refused. Tells which, by a look at the front.
+pub fn fills_front(alloc: Global, region: &mut [u8], byte: u8) -> bool
+    requires { length region.old ≡ chunk_size }
+    ensures { region.new ≡ filled result byte region.old }
+{
+    filled_or_not(region, alloc, byte);
+    begins_with(region, byte)
 }
