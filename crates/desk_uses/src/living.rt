@@ -111,9 +111,9 @@ fn filled_or_not(region: &mut [u8], alloc: Global, byte: u8)
     }
 }
 
-/// The same, for a caller that goes on with its region, and knows it byte by byte: the 16 bytes in
-/// front are `byte`, and the others are as they were; or all are as they were, which is so where memory
-/// was refused. Tells which, by a look at the front.
+/// A desk lives over the region as in [`lives`], for a caller that goes on with its region and knows it
+/// byte by byte: the 16 bytes in front are `byte`, and the others are as they were; or all are as they
+/// were, which is so where memory was refused. Tells which, by a look at the front.
 pub fn fills_front(alloc: Global, region: &mut [u8], byte: u8) -> bool
     requires { length region.old ≡ chunk_size }
     ensures { region.new ≡ filled result byte region.old }
