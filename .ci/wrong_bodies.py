@@ -194,7 +194,7 @@ def proofs_of(function, text):
     start = next(it[2] for it in spans(text) if it[:2] == (function.name, function.above))
     block = [it for it in BLOCK.finditer(text, 0, start)][-1:]
     if block and re.compile(r"^}", re.M).search(text, block[0].end(), start) is None:
-        return re.compile(rf"proofs/(?:\w+/)*{block[0][1]}\w*/{function.name}/")
+        return re.compile(rf"proofs/(?:\w+/)*{block[0][1]}(?:[A-Z]\w*)?/{function.name}/")
     module = function.file.removeprefix("src/").removesuffix(".rt")
     return re.compile(rf"proofs/{'' if module in ('lib', 'main') else f'{module}/'}{function.name}/")
 
