@@ -13,6 +13,7 @@ use pool_desk::{DeskError, Freed};
 use pool_fabric::{Fabric, HeldStation, Naming};
 use region_cut::Class;
 use std::alloc::Global;
+use std::fmt;
 use std::marker::Model;
 use std::sync::Wait;
 
@@ -341,5 +342,13 @@ impl<
         ensures freed { self.new.freed ≡ self.old.freed ++ buffer.entry ∷ [] }
     {
         self.free(rt, buffer);
+    }
+}
+
+// The buffers are not printed.
+impl<M: Mailbox, T: Receiver, S: Sender, G: Gate, J: Naming> fmt::Debug
+    for Allocator<'_, '_, M, T, S, G, J> {
+    fn fmt<W: fmt::Write>(&self, f: &mut fmt::Formatter<W>) -> fmt::Result {
+        write!(f, "Allocator(of worker {})", self.worker)
     }
 }

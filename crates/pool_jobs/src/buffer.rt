@@ -7,6 +7,7 @@ use crate::heap::Bytes;
 use pool_fabric::Naming;
 use region_cut::Class;
 use slot_chain::Buf;
+use std::fmt;
 use std::marker::{Model, PhantomData};
 
 /// A buffer of the pool that `J` names. Its type keeps that its owner is one of the pool, so each
@@ -125,4 +126,11 @@ fn fill(buf: &mut Buf<'_>, byte: u8)
     ensures { buf.new ≡ with_bytes_now buf.old (replicate (size_of buf.old.class) byte) }
 {
     buf.bytes_mut().fill(byte);
+}
+
+// The bytes are not printed.
+impl<J: Naming> fmt::Debug for Buffer<'_, J> {
+    fn fmt<W: fmt::Write>(&self, f: &mut fmt::Formatter<W>) -> fmt::Result {
+        write!(f, "Buffer({:?})", self.buf)
+    }
 }
