@@ -1,7 +1,8 @@
 //! What a desk's buffer was filled with stands in front of the region, and every other byte is as it
 //! was.
 use super::bytes_of;
-use desk_uses::fills_front;
+use desk_uses::{fills_front, lend_by_hand};
+use pool_desk::Freed;
 use region_cut::CHUNK;
 use std::alloc::Global;
 use std::process::Abort;
@@ -43,4 +44,15 @@ fn a_buffer_fills_the_front_and_nothing_else(rt: HostRuntime) {
     if !fills(&rt, alloc, &mut region) {
         assert!(&rt; fills(&rt, alloc, &mut region));
     }
+}
+
+#[test]
+fn a_buffer_is_lent_by_hand_and_goes_home(rt: HostRuntime) {
+    let alloc = rt.alloc();
+    let mut region = bytes_of(&rt, alloc, CHUNK, 0);
+    if lend_by_hand(alloc, &mut region).is_none() {
+        assert!(&rt; lend_by_hand(alloc, &mut region) == Some(Freed::Home));
+    }
+    assert!(&rt; region.first() == Some(&1));
+    assert!(&rt; lend_by_hand(alloc, &mut region[1..]).is_none());
 }
