@@ -44,6 +44,7 @@ UNPROVED = re.compile(r"(?:error: )?(?:it is not proved that|`search` found no p
 STALE = re.compile(r"error: .*(?:has no field|is not in scope|has no `|was not admitted)")
 BLOCK = re.compile(r"^impl\b(?:.* for )?[^{\n]*?\b([A-Z]\w*)(?:<[^{\n]*>)?(?: \{|$)", re.M)
 GOAL = re.compile(r"\(`([^`]+)`\)")
+NAMED = re.compile(r"error: `([^`]+)`")
 
 
 class BadEdit(Exception):
@@ -223,7 +224,8 @@ def answer(edit, texts, said):
     if goals:
         return Verdict.REFUSED, "; ".join(filter(None, [f"not proved: {', '.join(dict.fromkeys(goals))}", gone]))
     if refused:
-        return Verdict.REFUSED, "; ".join(filter(None, [refused[0], gone]))
+        names = dict.fromkeys(it[1] for it in map(NAMED.match, refused) if it)
+        return Verdict.REFUSED, "; ".join(filter(None, [f"no proof fits: {', '.join(names)}: {refused[0]}", gone]))
     if stale:
         return Verdict.UNSHOWN, gone
     return Verdict.PASSED, "nothing is said of it"
