@@ -4,6 +4,7 @@ pub mod Floors
 pub mod Unlinked
 pub mod Lent
 pub mod Inboxes
+pub mod HeldDesks
 pub mod Desks
 pub mod Steps
 pub mod headline

@@ -1,11 +1,13 @@
 //! A desk of a floor, in whoever's hands.
-ghost use Rattle.std.specs.Prelude.{◌≡◌, ◌<◌, ◌≤◌, ◌^◌, IfOk, IsPermutation, map};
+ghost use Rattle.std.specs.Prelude.{◌≡◌, ◌<◌, ◌≤◌, ◌^◌, IfOk, IfErr, OnOk, IsPermutation, map};
 ghost use Rattle.slot_chain.specs.Buffer.{owner_limit};
 ghost use Rattle.slot_chain.specs.Slots.{slot_of};
 ghost use Rattle.digit_route.specs.Limits.{largest_limit};
 ghost use Rattle.pool_desk.specs.Homes.{slot_at};
 ghost use Rattle.event_floor.specs.Desks.{new_desks, in_hands_of, home_of, cached_of, Releases};
+ghost use Rattle.event_floor.specs.HeldDesks.{HoldsDesk, LacksHeld};
 
+use crate::Refusal;
 use digit_route::Digits;
 use pool_desk::{Desk, IdleDesk};
 use region_cut::Slot;
@@ -84,6 +86,18 @@ fn released<'r>(any: AnyDesk<'r>) -> (bool, AnyDesk<'r>)
             Err(desk) => (false, AnyDesk::Held(desk)),
         },
         AnyDesk::Idle(desk) => (false, AnyDesk::Idle(desk)),
+    }
+}
+
+/// Whether a worker holds the desk of this number; else why a request for it is refused.
+pub(crate) fn check_held(desks: &[AnyDesk<'_>], a: u32) -> Result<(), Refusal>
+    ensures held { OnOk result (HoldsDesk desks.now a) }
+    ensures refused { IfErr result (λ refusal. LacksHeld desks.now a refusal) }
+{
+    match desks.get(a as usize) {
+        Some(AnyDesk::Held(_)) => Ok(()),
+        Some(AnyDesk::Idle(_)) => Err(Refusal::Idle),
+        None => Err(Refusal::NoDesk),
     }
 }
 

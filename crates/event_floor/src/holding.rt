@@ -4,7 +4,7 @@ ghost use Rattle.event_floor.specs.Floors.{desk_count};
 ghost use Rattle.event_floor.specs.Steps.{Does, Refuses};
 ghost use Rattle.pool_machine.specs.declared.request.Request.TheVariants.{Adopt, Retire};
 
-use crate::any_desk::{AnyDesk, hold, release};
+use crate::any_desk::{AnyDesk, check_held, hold, release};
 use crate::lists::Lists;
 use crate::{Refusal, Reply};
 
@@ -32,17 +32,11 @@ impl<'r> Lists<'r> {
         ensures unchanged { OnErr result (self.new ≡ self.old) }
         ensures desks { desk_count self.new ≡ desk_count self.old }
     {
-        let place = a as usize;
-        if place >= self.desks.len() {
-            return Err(Refusal::NoDesk);
-        }
-        if let AnyDesk::Idle(_) = &self.desks[place] {
-            return Err(Refusal::Idle);
-        }
+        check_held(&self.desks, a)?;
         if self.inboxes.has_unlinked_of(a) {
             return Err(Refusal::Unsettled);
         }
-        if release(&mut self.desks[place], self.digits) {
+        if release(&mut self.desks[a as usize], self.digits) {
             Ok(Reply::Done)
         } else {
             Err(Refusal::Unsettled)

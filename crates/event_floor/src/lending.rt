@@ -7,7 +7,7 @@ ghost use Rattle.event_floor.specs.Steps.{Does, Refuses};
 ghost use Rattle.pool_machine.specs.declared.request.Request.TheVariants.{Claim, Alloc, Free};
 
 use crate::answers::{refusal_by_desk, reply_of_free};
-use crate::any_desk::AnyDesk;
+use crate::any_desk::{AnyDesk, check_held};
 use crate::lists::Lists;
 use crate::{Refusal, Reply};
 use digit_route::Digits;
@@ -33,12 +33,9 @@ impl<'r> Lists<'r> {
         ensures unchanged { OnErr result (self.new ≡ self.old) }
         ensures desks { desk_count self.new ≡ desk_count self.old }
     {
-        let place = a as usize;
-        if place >= self.desks.len() {
-            return Err(Refusal::NoDesk);
-        }
-        let AnyDesk::Held(desk) = &mut self.desks[place] else {
-            return Err(Refusal::Idle);
+        check_held(&self.desks, a)?;
+        let AnyDesk::Held(desk) = &mut self.desks[a as usize] else {
+            unreachable!()
         };
         let Some(class) = class_of(self.digits, class) else {
             return Err(Refusal::BadClass);
@@ -62,12 +59,9 @@ impl<'r> Lists<'r> {
         ensures unchanged { OnErr result (self.new ≡ self.old) }
         ensures desks { desk_count self.new ≡ desk_count self.old }
     {
-        let place = a as usize;
-        if place >= self.desks.len() {
-            return Err(Refusal::NoDesk);
-        }
-        let AnyDesk::Held(desk) = &mut self.desks[place] else {
-            return Err(Refusal::Idle);
+        check_held(&self.desks, a)?;
+        let AnyDesk::Held(desk) = &mut self.desks[a as usize] else {
+            unreachable!()
         };
         match desk.alloc(alloc, size as usize) {
             Ok(buf) => {
@@ -85,12 +79,9 @@ impl<'r> Lists<'r> {
         ensures unchanged { OnErr result (self.new ≡ self.old) }
         ensures desks { desk_count self.new ≡ desk_count self.old }
     {
-        let place = a as usize;
-        if place >= self.desks.len() {
-            return Err(Refusal::NoDesk);
-        }
-        let AnyDesk::Held(desk) = &mut self.desks[place] else {
-            return Err(Refusal::Idle);
+        check_held(&self.desks, a)?;
+        let AnyDesk::Held(desk) = &mut self.desks[a as usize] else {
+            unreachable!()
         };
         let Some(buf) = self.lent.take(chunk, index) else {
             return Err(Refusal::NotLent);

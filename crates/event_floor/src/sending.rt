@@ -5,7 +5,7 @@ ghost use Rattle.event_floor.specs.Steps.{Does, Refuses};
 ghost use Rattle.pool_machine.specs.declared.request.Request.TheVariants.{Send, Link, Take};
 
 use crate::answers::refusal_by_route;
-use crate::any_desk::AnyDesk;
+use crate::any_desk::{AnyDesk, check_held};
 use crate::lists::Lists;
 use crate::{Refusal, Reply};
 
@@ -19,11 +19,12 @@ impl<'r> Lists<'r> {
         ensures unchanged { OnErr result (self.new ≡ self.old) }
         ensures desks { desk_count self.new ≡ desk_count self.old }
     {
-        if a as usize >= self.desks.len() || t as usize >= self.desks.len() {
+        if t as usize >= self.desks.len() {
             return Err(Refusal::NoDesk);
         }
+        check_held(&self.desks, a)?;
         let AnyDesk::Held(desk) = &mut self.desks[a as usize] else {
-            return Err(Refusal::Idle);
+            unreachable!()
         };
         match desk.fault_for(t as u16) {
             Some(fault) => return Err(refusal_by_route(fault)),
@@ -61,14 +62,11 @@ impl<'r> Lists<'r> {
         ensures unchanged { OnErr result (self.new ≡ self.old) }
         ensures desks { desk_count self.new ≡ desk_count self.old }
     {
-        let place = b as usize;
-        if place >= self.desks.len() {
-            return Err(Refusal::NoDesk);
-        }
-        let AnyDesk::Held(desk) = &mut self.desks[place] else {
-            return Err(Refusal::Idle);
+        check_held(&self.desks, b)?;
+        let AnyDesk::Held(desk) = &mut self.desks[b as usize] else {
+            unreachable!()
         };
-        let Some(batch) = self.inboxes.take(place) else {
+        let Some(batch) = self.inboxes.take(b as usize) else {
             return Err(Refusal::Nothing);
         };
         let counts = desk.handle(batch);

@@ -1,18 +1,20 @@
-use Rattle.std.proofs.Common.{◌≡◌, ◌<◌, ◌∙◌, refl, ap, sym, subst, length}
+use Rattle.std.proofs.Common.{◌≡◌, ◌<◌, ◌∙◌, ap, sym, subst, length}
 use Rattle.std.proofs.lemmas.List.{length-set}
 use Rattle.pool_desk.specs.Desks.{DeskState}
 use Rattle.event_floor.specs.declared.any_desk.AnyDesk.TheVariants.{Held}
-use Rattle.event_floor.specs.Floors.{AreOwned}
+use Rattle.event_floor.specs.Floors.{FloorState, AreOwned}
+use Rattle.event_floor.specs.Steps.{Refuses}
+use Rattle.pool_machine.specs.declared.request.Request.TheVariants.{Alloc}
 use Rattle.event_floor.proofs.DeskLaws.{alloc_keeps, alloc_placed}
 use Rattle.event_floor.proofs.FloorLaws.{floor_settled, floor_desk, floor_lent, owned_set, place_within, held_desk_of}
-use Rattle.event_floor.proofs.HeldLaws.{HeldThere, held_there, within, too_few, is_idle, floor_kept, view_kept, count_kept}
+use Rattle.event_floor.proofs.HeldLaws.{HeldThere, held_there, is_there, refused_at, if_err, not_idle, floor_kept, view_kept, count_kept}
 use Rattle.event_floor.proofs.StepLaws.{alloc_refused, lends_slot}
 use Rattle.event_floor.proofs.lists.Lists.alloc.Goals as goal
 
 pub put-requires-clause-within : goal.put-requires-clause-within
 put-requires-clause-within c =
     let held : HeldThere c.self.inside.desks.items c.args.a c.in-Held.desk =
-    held_there _ _ _ _ _ _ c.if-place-len.false c.len.ensures c.self.inside.desks.ok.0 c.index_mut.ensures.value c.in-Held.is in
+    held_there _ _ _ _ _ c.deref.ensures.value c.in_ok-check_held.ensures.held c.index_mut.ensures.value c.in-Held.is in
     let f = c.self.invariant in
     let own_desk = held_desk_of c.args.a c.in-Held.desk f held.0 held.1 in
     let at = alloc_placed _ _ _ _ _ _ _ _ c.in-Ok.buf own_desk c.in-Ok.ensures in
@@ -21,15 +23,15 @@ put-requires-clause-within c =
 pub put-requires-clause-index : goal.put-requires-clause-index
 put-requires-clause-index c =
     let held : HeldThere c.self.inside.desks.items c.args.a c.in-Held.desk =
-    held_there _ _ _ _ _ _ c.if-place-len.false c.len.ensures c.self.inside.desks.ok.0 c.index_mut.ensures.value c.in-Held.is in
+    held_there _ _ _ _ _ c.deref.ensures.value c.in_ok-check_held.ensures.held c.index_mut.ensures.value c.in-Held.is in
     let f = c.self.invariant in
     let own_desk = held_desk_of c.args.a c.in-Held.desk f held.0 held.1 in
     (alloc_placed _ _ _ _ _ _ _ _ c.in-Ok.buf own_desk c.in-Ok.ensures).1
 
-pub invariant_of-self-in-Ok : goal.invariant_of-self-in-Ok
-invariant_of-self-in-Ok c =
+pub invariant_of-self : goal.invariant_of-self
+invariant_of-self c =
     let held : HeldThere c.self.inside.desks.items c.args.a c.in-Held.desk =
-    held_there _ _ _ _ _ _ c.if-place-len.false c.len.ensures c.self.inside.desks.ok.0 c.index_mut.ensures.value c.in-Held.is in
+    held_there _ _ _ _ _ c.deref.ensures.value c.in_ok-check_held.ensures.held c.index_mut.ensures.value c.in-Held.is in
     let f = c.self.invariant in
     let own_desk = held_desk_of c.args.a c.in-Held.desk f held.0 held.1 in
     let at = alloc_placed _ _ _ _ _ _ _ _ c.in-Ok.buf own_desk c.in-Ok.ensures in
@@ -37,31 +39,6 @@ invariant_of-self-in-Ok c =
     floor_settled (floor_desk c.args.a _
     (floor_lent _ f (ap length c.put.ensures ∙ length-set _ _ _) (subst (λ z. AreOwned (length c.self.inside.desks.items) z) (sym c.put.ensures) own)) held.0
     (alloc_keeps _ _ _ _ _ _ _ _ _ own_desk c.in-Ok.ensures))
-
-pub returns-then-place-len-clause-refuses : goal.returns-then-place-len-clause-refuses
-returns-then-place-len-clause-refuses c =
-    too_few _ _ c.args.a _ _ c.self.view_is c.if-place-len.true c.len.ensures c.self.inside.desks.ok.0
-
-pub index_mut-requires : goal.index_mut-requires
-index_mut-requires c =
-    subst (λ z. c.args.a < z) c.len.ensures c.if-place-len.false
-
-pub invariant_of-self : goal.invariant_of-self
-invariant_of-self c =
-    floor_kept c.args.a _ _ c.self.invariant c.index_mut.ensures.value refl
-
-pub returns-in_default-clause-refuses : goal.returns-in_default-clause-refuses
-returns-in_default-clause-refuses c =
-    let there = within _ _ _ _ c.if-place-len.false c.len.ensures c.self.inside.desks.ok.0 in
-    (c.in_default.field-0, is_idle _ _ c.args.a _ _ c.self.view_is there c.index_mut.ensures.value c.in_default.is)
-
-pub returns-in_default-clause-unchanged : goal.returns-in_default-clause-unchanged
-returns-in_default-clause-unchanged c =
-    view_kept _ _ c.args.a _ _ c.self.view_is c.index_mut.ensures.value refl
-
-pub returns-in_default-clause-desks : goal.returns-in_default-clause-desks
-returns-in_default-clause-desks c =
-    count_kept _ _ c.args.a c.index_mut.result.now c.self.view_is
 
 pub invariant_of-self-in-Err : goal.invariant_of-self-in-Err
 invariant_of-self-in-Err c =
@@ -71,7 +48,7 @@ invariant_of-self-in-Err c =
 pub returns-in-Err-clause-refuses : goal.returns-in-Err-clause-refuses
 returns-in-Err-clause-refuses c =
     let held : HeldThere c.self.inside.desks.items c.args.a c.in-Held.desk =
-    held_there _ _ _ _ _ _ c.if-place-len.false c.len.ensures c.self.inside.desks.ok.0 c.index_mut.ensures.value c.in-Held.is in
+    held_there _ _ _ _ _ c.deref.ensures.value c.in_ok-check_held.ensures.held c.index_mut.ensures.value c.in-Held.is in
     let own_desk = held_desk_of c.args.a c.in-Held.desk c.self.invariant held.0 held.1 in
     alloc_refused _ _ c.args.a c.args.size c.in-Held.desk _ c.refusal_by_desk.result c.self.view_is held own_desk.numbered c.in-Err.ensures.0 c.refusal_by_desk.ensures
 
@@ -87,9 +64,20 @@ returns-in-Err-clause-desks c =
 pub returns-in-Ok-clause-does : goal.returns-in-Ok-clause-does
 returns-in-Ok-clause-does c =
     let held : HeldThere c.self.inside.desks.items c.args.a c.in-Held.desk =
-    held_there _ _ _ _ _ _ c.if-place-len.false c.len.ensures c.self.inside.desks.ok.0 c.index_mut.ensures.value c.in-Held.is in
+    held_there _ _ _ _ _ c.deref.ensures.value c.in_ok-check_held.ensures.held c.index_mut.ensures.value c.in-Held.is in
     lends_slot _ _ c.args.a c.args.size _ c.in-Held.desk c.alloc.new.self c.in-Ok.buf c.put.new.self c.self.view_is held c.in-Ok.ensures c.slot-slot.ensures c.put.ensures
 
 pub returns-in-Ok-clause-desks : goal.returns-in-Ok-clause-desks
 returns-in-Ok-clause-desks c =
     count_kept _ _ c.args.a (Held c.alloc.new.self) c.self.view_is
+
+pub index_mut-requires : goal.index_mut-requires
+index_mut-requires c = subst (λ z. c.args.a < z) (sym c.self.inside.desks.ok.0) (is_there _ _ _ c.deref.ensures.value c.in_ok-check_held.ensures.held)
+
+pub unreachable-requires : goal.unreachable-requires
+unreachable-requires c = not_idle _ _ _ _ _ c.deref.ensures.value c.in_ok-check_held.ensures.held c.index_mut.ensures.value c.in_default.is
+
+pub returns-in_err-check_held-clause-refuses : goal.returns-in_err-check_held-clause-refuses
+returns-in_err-check_held-clause-refuses c =
+    if_err _ _ _ c.from_residual.ensures.1
+    (refused_at _ _ _ c.args.a _ (λ (v : FloorState) r. Refuses v (Alloc c.args.a c.args.size) r) c.self.view_is c.deref.ensures.value c.in_err-check_held.ensures.refused (λ l. l) (λ h. h))

@@ -7,14 +7,14 @@ use Rattle.event_floor.specs.Chunks.{ChunksState}
 use Rattle.event_floor.specs.Steps.{Refuses, HasHome}
 use Rattle.event_floor.proofs.DeskLaws.{claim_keeps}
 use Rattle.event_floor.proofs.FloorLaws.{floor_settled, floor_desk, held_desk_of, uses_class, few_classes}
-use Rattle.event_floor.proofs.HeldLaws.{HeldThere, held_there, within, too_few, is_idle, floor_kept, view_kept, count_kept, not_so}
+use Rattle.event_floor.proofs.HeldLaws.{HeldThere, held_there, is_there, refused_at, if_err, not_idle, floor_kept, view_kept, count_kept, not_so}
 use Rattle.event_floor.proofs.StepLaws.{draws_chunk}
 use Rattle.event_floor.proofs.lists.Lists.claim.Goals as goal
 
 pub invariant_of-self-2 : goal.invariant_of-self-2
 invariant_of-self-2 c =
     let held : HeldThere c.self.inside.desks.items c.args.a c.in-Held.desk =
-    held_there _ _ _ _ _ _ c.if-place-len.false c.len.ensures c.self.inside.desks.ok.0 c.index_mut.ensures.value c.in-Held.is in
+    held_there _ _ _ _ _ c.deref.ensures.value c.in_ok-check_held.ensures.held c.index_mut.ensures.value c.in-Held.is in
     let f = c.self.invariant in
     let own_desk = held_desk_of c.args.a c.in-Held.desk f held.0 held.1 in
     let few = c.in-Some.ensures in
@@ -26,7 +26,7 @@ invariant_of-self-2 c =
 pub returns-clause-does : goal.returns-clause-does
 returns-clause-does c =
     let held : HeldThere c.self.inside.desks.items c.args.a c.in-Held.desk =
-    held_there _ _ _ _ _ _ c.if-place-len.false c.len.ensures c.self.inside.desks.ok.0 c.index_mut.ensures.value c.in-Held.is in
+    held_there _ _ _ _ _ c.deref.ensures.value c.in_ok-check_held.ensures.held c.index_mut.ensures.value c.in-Held.is in
     let f = c.self.invariant in
     let own_desk = held_desk_of c.args.a c.in-Held.desk f held.0 held.1 in
     let few = c.in-Some.ensures in
@@ -37,39 +37,14 @@ returns-clause-does c =
 pub claim-requires : goal.claim-requires
 claim-requires c =
     let held : HeldThere c.self.inside.desks.items c.args.a c.in-Held.desk =
-    held_there _ _ _ _ _ _ c.if-place-len.false c.len.ensures c.self.inside.desks.ok.0 c.index_mut.ensures.value c.in-Held.is in
+    held_there _ _ _ _ _ c.deref.ensures.value c.in_ok-check_held.ensures.held c.index_mut.ensures.value c.in-Held.is in
     let f = c.self.invariant in
     let own_desk = held_desk_of c.args.a c.in-Held.desk f held.0 held.1 in
     let few = c.in-Some.ensures in
     uses_class c.in-Held.desk _ own_desk (rw (sym few.0) at few.1)
 
-pub returns-then-place-len-clause-refuses : goal.returns-then-place-len-clause-refuses
-returns-then-place-len-clause-refuses c =
-    too_few _ _ c.args.a _ _ c.self.view_is c.if-place-len.true c.len.ensures c.self.inside.desks.ok.0
-
-pub index_mut-requires : goal.index_mut-requires
-index_mut-requires c =
-    subst (λ z. c.args.a < z) c.len.ensures c.if-place-len.false
-
 pub invariant_of-self : goal.invariant_of-self
 invariant_of-self c =
-    floor_kept c.args.a _ _ c.self.invariant c.index_mut.ensures.value refl
-
-pub returns-in_default-clause-refuses : goal.returns-in_default-clause-refuses
-returns-in_default-clause-refuses c =
-    let there = within _ _ _ _ c.if-place-len.false c.len.ensures c.self.inside.desks.ok.0 in
-    (c.in_default.field-0, is_idle _ _ c.args.a _ _ c.self.view_is there c.index_mut.ensures.value c.in_default.is)
-
-pub returns-in_default-clause-unchanged : goal.returns-in_default-clause-unchanged
-returns-in_default-clause-unchanged c =
-    view_kept _ _ c.args.a _ _ c.self.view_is c.index_mut.ensures.value refl
-
-pub returns-in_default-clause-desks : goal.returns-in_default-clause-desks
-returns-in_default-clause-desks c =
-    count_kept _ _ c.args.a c.index_mut.result.now c.self.view_is
-
-pub invariant_of-self-in_default-class_of : goal.invariant_of-self-in_default-class_of
-invariant_of-self-in_default-class_of c =
     floor_kept c.args.a _ _ c.self.invariant c.index_mut.ensures.value c.in-Held.is
 
 pub returns-in_default-class_of-clause-unchanged : goal.returns-in_default-class_of-clause-unchanged
@@ -83,7 +58,7 @@ returns-in_default-class_of-clause-desks c =
 pub returns-in_default-class_of-clause-refuses : goal.returns-in_default-class_of-clause-refuses
 returns-in_default-class_of-clause-refuses c =
     let held : HeldThere c.self.inside.desks.items c.args.a c.in-Held.desk =
-    held_there _ _ _ _ _ _ c.if-place-len.false c.len.ensures c.self.inside.desks.ok.0 c.index_mut.ensures.value c.in-Held.is in
+    held_there _ _ _ _ _ c.deref.ensures.value c.in_ok-check_held.ensures.held c.index_mut.ensures.value c.in-Held.is in
     subst (λ (v : FloorState). Refuses v (Claim c.args.a c.args.class) BadClass) c.self.view_is
     ((c.in-Held.desk, held), c.in_default-class_of.ensures)
 
@@ -102,7 +77,7 @@ returns-then-has_home-clause-desks c =
 pub returns-then-has_home-clause-refuses : goal.returns-then-has_home-clause-refuses
 returns-then-has_home-clause-refuses c =
     let held : HeldThere c.self.inside.desks.items c.args.a c.in-Held.desk =
-    held_there _ _ _ _ _ _ c.if-place-len.false c.len.ensures c.self.inside.desks.ok.0 c.index_mut.ensures.value c.in-Held.is in
+    held_there _ _ _ _ _ c.deref.ensures.value c.in_ok-check_held.ensures.held c.index_mut.ensures.value c.in-Held.is in
     let few = c.in-Some.ensures in
     subst (λ (v : FloorState). Refuses v (Claim c.args.a c.args.class) NotNeeded) c.self.view_is
     (c.in-Held.desk, held, few.1, subst (λ z. HasHome c.in-Held.desk z) few.0 (c.has_home.ensures.0 c.if-has_home.true))
@@ -122,15 +97,26 @@ returns-in_default-draw-clause-desks c =
 pub returns-in_default-draw-clause-refuses : goal.returns-in_default-draw-clause-refuses
 returns-in_default-draw-clause-refuses c =
     let held : HeldThere c.self.inside.desks.items c.args.a c.in-Held.desk =
-    held_there _ _ _ _ _ _ c.if-place-len.false c.len.ensures c.self.inside.desks.ok.0 c.index_mut.ensures.value c.in-Held.is in
+    held_there _ _ _ _ _ c.deref.ensures.value c.in_ok-check_held.ensures.held c.index_mut.ensures.value c.in-Held.is in
     let few = c.in-Some.ensures in
     subst (λ (v : FloorState). Refuses v (Claim c.args.a c.args.class) NoChunk) c.self.view_is
     (c.in-Held.desk, held, few.1, subst (λ z. HasHome c.in-Held.desk z → ⊥) few.0 (not_so _ c.has_home.ensures.1 c.if-has_home.false), c.in_default-draw.ensures.0)
 
-pub unreachable-requires : goal.unreachable-requires
-unreachable-requires c =
+pub unreachable-requires-in-Err : goal.unreachable-requires-in-Err
+unreachable-requires-in-Err c =
     not_so _ c.has_home.ensures.1 c.if-has_home.false c.in-Err.ensures.1.1
 
 pub returns-clause-desks : goal.returns-clause-desks
 returns-clause-desks c =
     count_kept _ _ c.args.a (Held c.claim.new.self) c.self.view_is
+
+pub index_mut-requires : goal.index_mut-requires
+index_mut-requires c = subst (λ z. c.args.a < z) (sym c.self.inside.desks.ok.0) (is_there _ _ _ c.deref.ensures.value c.in_ok-check_held.ensures.held)
+
+pub unreachable-requires : goal.unreachable-requires
+unreachable-requires c = not_idle _ _ _ _ _ c.deref.ensures.value c.in_ok-check_held.ensures.held c.index_mut.ensures.value c.in_default.is
+
+pub returns-in_err-check_held-clause-refuses : goal.returns-in_err-check_held-clause-refuses
+returns-in_err-check_held-clause-refuses c =
+    if_err _ _ _ c.from_residual.ensures.1
+    (refused_at _ _ _ c.args.a _ (λ (v : FloorState) r. Refuses v (Claim c.args.a c.args.class) r) c.self.view_is c.deref.ensures.value c.in_err-check_held.ensures.refused (λ l. l) (λ h. h))

@@ -1,4 +1,4 @@
-use Rattle.std.proofs.Common.{◌<◌, refl, sym, subst}
+use Rattle.std.proofs.Common.{◌<◌, sym, subst}
 use Rattle.pool_machine.specs.declared.refusal.Refusal.TheVariants.{Nothing}
 use Rattle.pool_machine.specs.declared.request.Request.TheVariants.{Take}
 use Rattle.event_floor.specs.declared.any_desk.AnyDesk.TheVariants.{Held}
@@ -6,7 +6,7 @@ use Rattle.event_floor.specs.Floors.{FloorState}
 use Rattle.event_floor.specs.Steps.{Refuses}
 use Rattle.event_floor.proofs.DeskLaws.{handle_keeps}
 use Rattle.event_floor.proofs.FloorLaws.{floor_settled, floor_desk, floor_inbox, held_desk_of}
-use Rattle.event_floor.proofs.HeldLaws.{HeldThere, held_there, within, too_few, is_idle, floor_kept, view_kept, count_kept}
+use Rattle.event_floor.proofs.HeldLaws.{HeldThere, held_there, is_there, refused_at, if_err, not_idle, floor_kept, view_kept, count_kept}
 use Rattle.event_floor.proofs.InboxLaws.{rest_queued, taken_address, taken_digits, taken_known}
 use Rattle.event_floor.proofs.StepLaws.{takes_front}
 use Rattle.event_floor.proofs.lists.Lists.take.Goals as goal
@@ -14,7 +14,7 @@ use Rattle.event_floor.proofs.lists.Lists.take.Goals as goal
 pub handle-counts-requires-clause-address : goal.handle-counts-requires-clause-address
 handle-counts-requires-clause-address c =
     let held : HeldThere c.self.inside.desks.items c.args.b c.in-Held.desk =
-    held_there _ _ _ _ _ _ c.if-place-len.false c.len.ensures c.self.inside.desks.ok.0 c.index_mut.ensures.value c.in-Held.is in
+    held_there _ _ _ _ _ c.deref.ensures.value c.in_ok-check_held.ensures.held c.index_mut.ensures.value c.in-Held.is in
     let f = c.self.invariant in
     let own_desk = held_desk_of c.args.b c.in-Held.desk f held.0 held.1 in
     taken_address _ _ _ _ _ _ _ _ _ _ own_desk c.in-Some.ensures.leaves (f.queued c.args.b held.0)
@@ -22,7 +22,7 @@ handle-counts-requires-clause-address c =
 pub handle-counts-requires-clause-digits : goal.handle-counts-requires-clause-digits
 handle-counts-requires-clause-digits c =
     let held : HeldThere c.self.inside.desks.items c.args.b c.in-Held.desk =
-    held_there _ _ _ _ _ _ c.if-place-len.false c.len.ensures c.self.inside.desks.ok.0 c.index_mut.ensures.value c.in-Held.is in
+    held_there _ _ _ _ _ c.deref.ensures.value c.in_ok-check_held.ensures.held c.index_mut.ensures.value c.in-Held.is in
     let f = c.self.invariant in
     let own_desk = held_desk_of c.args.b c.in-Held.desk f held.0 held.1 in
     taken_digits _ _ _ _ _ _ _ _ _ _ own_desk c.in-Some.ensures.leaves (f.queued c.args.b held.0)
@@ -30,7 +30,7 @@ handle-counts-requires-clause-digits c =
 pub invariant_of-self-2 : goal.invariant_of-self-2
 invariant_of-self-2 c =
     let held : HeldThere c.self.inside.desks.items c.args.b c.in-Held.desk =
-    held_there _ _ _ _ _ _ c.if-place-len.false c.len.ensures c.self.inside.desks.ok.0 c.index_mut.ensures.value c.in-Held.is in
+    held_there _ _ _ _ _ c.deref.ensures.value c.in_ok-check_held.ensures.held c.index_mut.ensures.value c.in-Held.is in
     let f = c.self.invariant in
     let own_desk = held_desk_of c.args.b c.in-Held.desk f held.0 held.1 in
     let queued = f.queued c.args.b held.0 in
@@ -43,42 +43,17 @@ invariant_of-self-2 c =
 pub returns-clause-does : goal.returns-clause-does
 returns-clause-does c =
     let held : HeldThere c.self.inside.desks.items c.args.b c.in-Held.desk =
-    held_there _ _ _ _ _ _ c.if-place-len.false c.len.ensures c.self.inside.desks.ok.0 c.index_mut.ensures.value c.in-Held.is in
+    held_there _ _ _ _ _ c.deref.ensures.value c.in_ok-check_held.ensures.held c.index_mut.ensures.value c.in-Held.is in
     takes_front _ _ c.args.b c.in-Held.desk _ _ _ c.handle-counts.result c.self.view_is held c.in-Some.ensures c.handle-counts.ensures.parts c.handle-counts.ensures.counts
-
-pub returns-then-place-len-clause-refuses : goal.returns-then-place-len-clause-refuses
-returns-then-place-len-clause-refuses c =
-    too_few _ _ c.args.b _ _ c.self.view_is c.if-place-len.true c.len.ensures c.self.inside.desks.ok.0
-
-pub index_mut-requires : goal.index_mut-requires
-index_mut-requires c =
-    subst (λ z. c.args.b < z) c.len.ensures c.if-place-len.false
 
 pub invariant_of-self : goal.invariant_of-self
 invariant_of-self c =
-    floor_kept c.args.b _ _ c.self.invariant c.index_mut.ensures.value refl
-
-pub returns-in_default-clause-refuses : goal.returns-in_default-clause-refuses
-returns-in_default-clause-refuses c =
-    let there = within _ _ _ _ c.if-place-len.false c.len.ensures c.self.inside.desks.ok.0 in
-    (c.in_default.field-0, is_idle _ _ c.args.b _ _ c.self.view_is there c.index_mut.ensures.value c.in_default.is)
-
-pub returns-in_default-clause-unchanged : goal.returns-in_default-clause-unchanged
-returns-in_default-clause-unchanged c =
-    view_kept _ _ c.args.b _ _ c.self.view_is c.index_mut.ensures.value refl
-
-pub returns-in_default-clause-desks : goal.returns-in_default-clause-desks
-returns-in_default-clause-desks c =
-    count_kept _ _ c.args.b c.index_mut.result.now c.self.view_is
-
-pub invariant_of-self-in_default-take : goal.invariant_of-self-in_default-take
-invariant_of-self-in_default-take c =
     rw c.in_default-take.ensures.1 (floor_kept c.args.b _ _ c.self.invariant c.index_mut.ensures.value c.in-Held.is)
 
 pub returns-in_default-take-clause-refuses : goal.returns-in_default-take-clause-refuses
 returns-in_default-take-clause-refuses c =
     let held : HeldThere c.self.inside.desks.items c.args.b c.in-Held.desk =
-    held_there _ _ _ _ _ _ c.if-place-len.false c.len.ensures c.self.inside.desks.ok.0 c.index_mut.ensures.value c.in-Held.is in
+    held_there _ _ _ _ _ c.deref.ensures.value c.in_ok-check_held.ensures.held c.index_mut.ensures.value c.in-Held.is in
     subst (λ (v : FloorState). Refuses v (Take c.args.b) Nothing) c.self.view_is
     ((c.in-Held.desk, held), c.in_default-take.ensures.0)
 
@@ -92,9 +67,20 @@ returns-in_default-take-clause-desks c =
 
 pub take-requires : goal.take-requires
 take-requires c =
-    let there = within _ _ _ _ c.if-place-len.false c.len.ensures c.self.inside.desks.ok.0 in
+    let there = is_there _ _ _ c.deref.ensures.value c.in_ok-check_held.ensures.held in
     subst (λ z. c.args.b < z) (sym c.self.invariant.inbox_count) there
 
 pub returns-clause-desks : goal.returns-clause-desks
 returns-clause-desks c =
     count_kept _ _ c.args.b (Held c.handle-counts.new.self) c.self.view_is
+
+pub index_mut-requires : goal.index_mut-requires
+index_mut-requires c = subst (λ z. c.args.b < z) (sym c.self.inside.desks.ok.0) (is_there _ _ _ c.deref.ensures.value c.in_ok-check_held.ensures.held)
+
+pub unreachable-requires : goal.unreachable-requires
+unreachable-requires c = not_idle _ _ _ _ _ c.deref.ensures.value c.in_ok-check_held.ensures.held c.index_mut.ensures.value c.in_default.is
+
+pub returns-in_err-check_held-clause-refuses : goal.returns-in_err-check_held-clause-refuses
+returns-in_err-check_held-clause-refuses c =
+    if_err _ _ _ c.from_residual.ensures.1
+    (refused_at _ _ _ c.args.b _ (λ (v : FloorState) r. Refuses v (Take c.args.b) r) c.self.view_is c.deref.ensures.value c.in_err-check_held.ensures.refused (λ l. l) (λ h. h))
