@@ -1,9 +1,9 @@
 //! The floor.
-ghost use Rattle.std.specs.Prelude.{ℕ, List, [], ◌≡◌, ◌≤◌, ◌^◌, ◌++◌, length, flat_map, IfOk, IfErr, OnErr};
+ghost use Rattle.std.specs.Prelude.{ℕ, List, [], ◌≡◌, ◌≤◌, ◌^◌, ◌++◌, length, map, flat_map, IfOk, IfErr, OnErr};
 ghost use Rattle.std.specs.Prelude.{Err};
-ghost use Rattle.region_cut.specs.Parts.{AreNumbered, bytes_of};
+ghost use Rattle.region_cut.specs.Parts.{AreNumbered, name_of, bytes_of};
 ghost use Rattle.digit_route.specs.Limits.{largest_limit};
-ghost use Rattle.event_floor.specs.Floors.{desk_count, opening};
+ghost use Rattle.event_floor.specs.Floors.{desk_count};
 ghost use Rattle.event_floor.specs.Steps.{Answers};
 ghost use Rattle.event_floor.specs.headline.Bytes.{Holds, KeepsBytes, EndsAsHeld};
 ghost use Rattle.event_floor.specs.headline.Headline.{Applies, Headline, Shows};
@@ -61,7 +61,8 @@ impl<'r> Floor<'r> {
         requires few { desks ≤ 2 ^ digits.bits }
         requires limit { limit ≤ largest_limit }
         requires parts { AreNumbered parts.items }
-        ensures opening { IfOk result (λ f. f ≡ opening desks parts.entry.items digits limit) }
+        ensures parts { IfOk result (λ f. f.parts ≡ map name_of parts.entry.items) }
+        ensures desks { IfOk result (λ f. desk_count f ≡ desks) }
         ensures shows { IfOk result (λ f.
             Shown (listing_of f) (machine_opening desks (length parts.entry.items) digits limit) (λ slot. 0)) }
         ensures bytes { IfOk result (λ f.
@@ -85,7 +86,8 @@ impl<'r> Floor<'r> {
         requires few { desks ≤ 2 ^ digits.bits }
         requires limit { limit ≤ largest_limit }
         requires parts { AreNumbered parts.items }
-        ensures opening { IfOk result (λ f. f ≡ opening desks parts.entry.items digits limit) }
+        ensures parts { IfOk result (λ f. f.parts ≡ map name_of parts.entry.items) }
+        ensures desks { IfOk result (λ f. desk_count f ≡ desks) }
         ensures shows { IfOk result (λ f.
             Shown (listing_of f) (machine_opening desks (length parts.entry.items) digits limit) (λ slot. 0)) }
         ensures bytes { IfOk result (λ f.

@@ -6,23 +6,22 @@ use Rattle.region_cut.specs.Endings.{Ended, EndingsState, IsKnown, Agrees, end_i
 use Rattle.region_cut.specs.Laws.{StandsAt}
 use Rattle.region_cut.specs.Parts.{name_of, bytes_of}
 use Rattle.event_floor.specs.Chunks.{ended_part}
-use Rattle.event_floor.specs.Floors.{FloorState}
 use Rattle.floor_uses.proofs.Whole.{parts_known, parts_whole, parts_stand}
 use Rattle.floor_uses.proofs.ending.parts_live.Goals as goal
 
 pub returns-in-Ok-clause-known : goal.returns-in-Ok-clause-known
 returns-in-Ok-clause-known c =
-    let same = c.run.ensures.parts ∙ ap (λ (f : FloorState). f.parts) c.in-Ok.ensures.opening in
+    let same = c.run.ensures.parts ∙ c.in-Ok.ensures.parts in
     subst (All (IsKnown c.end.result.known)) same c.end.ensures.known.parts
 
 pub returns-in-Ok-clause-whole : goal.returns-in-Ok-clause-whole
 returns-in-Ok-clause-whole c =
-    let same = c.run.ensures.parts ∙ ap (λ (f : FloorState). f.parts) c.in-Ok.ensures.opening in
+    let same = c.run.ensures.parts ∙ c.in-Ok.ensures.parts in
     subst (All (λ x. length (end_in c.end.result.known x) ≡ chunk_size)) same c.end.ensures.known.whole
 
 pub returns-in-Ok-clause-bytes : goal.returns-in-Ok-clause-bytes
 returns-in-Ok-clause-bytes c tail =
-    let same = c.run.ensures.parts ∙ ap (λ (f : FloorState). f.parts) c.in-Ok.ensures.opening in
+    let same = c.run.ensures.parts ∙ c.in-Ok.ensures.parts in
     let region = flat_map bytes_of c.args.parts.items ++ tail in
     subst (λ (xs : List GName). StandsAt (flat_map (end_in c.end.result.known) xs) 0 region) same
     (c.end.ensures.bytes region (c.run.ensures.bytes.region region (c.in-Ok.ensures.bytes tail)))

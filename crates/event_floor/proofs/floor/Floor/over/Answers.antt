@@ -1,6 +1,6 @@
-use Rattle.std.proofs.Common.{◌≡◌, ◌≤◌, ◌++◌, length, flat_map, sym, subst}
+use Rattle.std.proofs.Common.{◌≡◌, ◌≤◌, ◌++◌, length, flat_map, sym, subst, ap, ◌∙◌}
 use Rattle.region_cut.specs.Parts.{bytes_of}
-use Rattle.event_floor.specs.Floors.{FloorState, IsFloor, opening}
+use Rattle.event_floor.specs.Floors.{FloorState, IsFloor, desk_count, opening}
 use Rattle.event_floor.specs.headline.Bytes.{Holds}
 use Rattle.event_floor.specs.headline.Headline.{Shows}
 use Rattle.event_floor.specs.headline.Listing.{listing_of}
@@ -9,6 +9,7 @@ use Rattle.event_floor.specs.headline.Whole.{IsWhole}
 use Rattle.pool_machine.specs.Listing.{Shown}
 use Rattle.pool_machine.specs.State.{opening as machine_opening}
 use Rattle.event_floor.proofs.ChunkLaws.{numbered_few}
+use Rattle.event_floor.proofs.FloorLaws.{new_desks_length}
 use Rattle.event_floor.proofs.headline.Keeping.{opening_named}
 use Rattle.event_floor.proofs.headline.Kept.{opening_holds}
 use Rattle.event_floor.proofs.headline.Runs.{opening_shows}
@@ -39,3 +40,10 @@ returns-clause-bytes c tail =
     let parts = c.args.parts.items in
     let e : c.in_ok-lists.lists ≡ opening c.args.desks parts c.args.digits c.args.limit = c.in_ok-lists.ensures.opening in
     subst (λ v. Holds v (flat_map bytes_of parts ++ tail)) (sym e) (opening_holds c.args.desks parts c.args.digits c.args.limit tail)
+
+pub returns-clause-parts : goal.returns-clause-parts
+returns-clause-parts c = ap (λ (v : FloorState). v.parts) c.in_ok-lists.ensures.opening
+
+pub returns-clause-desks : goal.returns-clause-desks
+returns-clause-desks c =
+    ap (λ (v : FloorState). desk_count v) c.in_ok-lists.ensures.opening ∙ new_desks_length c.args.digits c.args.limit c.args.desks
