@@ -2,7 +2,7 @@
 use Rattle.std.specs.Prelude.{ℕ, ◌≡◌, ◌≢◌, List, Option, Some, None, Ok, Err, IsOk, IsErr, ⊤}
 use Rattle.std.specs.Io.KnownBytes.{Appends}
 use Rattle.region_cut.specs.Classes.{classes_of}
-use Rattle.trace_audit.specs.Replay.{BeginsAudited, Fails, IsAudited, Reports, with_audit}
+use Rattle.trace_audit.specs.Replay.{Replays, ReplaysAudited}
 use Rattle.trace_audit.specs.Report.{Verdict}
 use Rattle.trace_audit.specs.Wire.{Begins}
 use Rattle.slot_audit.specs.declared.fault.Fault.TheVariants.{NoMemory}
@@ -27,10 +27,9 @@ SaysYes (Some (Err fault)) = ⊥
 -- the report of a trace with this end was written: alone, or with `audit yes` behind it wherever an audit has a line
 abbrev pub WritesReport : Asked → Option (List ℕ) → Option (List ℕ) → Option (List ℕ) → Option (List ℕ) → End
     → Type 0
-WritesReport Replay left0 left out0 out end = Reports left0 left (Appends out0 out) end
+WritesReport Replay left0 left out0 out end = Replays left0 left out0 out (Ok end)
 WritesReport AuditedReplay left0 left out0 out end =
-    (audit : Option Verdict) × IsAudited end audit × SaysYes audit
-    × Reports left0 left (with_audit audit (Appends out0 out)) end
+    (audit : Option Verdict) × SaysYes audit × ReplaysAudited left0 left out0 out (Ok (end, audit))
 WritesReport _ left0 left out0 out end = ⊥
 
 -- all that was asked for was written: the classes of a profile, a route, the report of a whole trace, or what a
@@ -50,8 +49,7 @@ WritesUpTo asked left0 left out0 out = (end : End) × (end ≢ Whole) × WritesR
 -- counted, and behind it what its audit found
 abbrev pub TellsFault : Asked → Option (List ℕ) → Option (List ℕ) → Option (List ℕ) → Option (List ℕ) → Type 0
 TellsFault AuditedReplay left0 left out0 out =
-    (end : End) × IsAudited end (Some (Err NoMemory))
-    × Reports left0 left (with_audit (Some (Err NoMemory)) (Appends out0 out)) end
+    (end : End) × ReplaysAudited left0 left out0 out (Ok (end, Some (Err NoMemory)))
 TellsFault (Work w) left0 left out0 out =
     (left ≡ left0) × (t : Tally) × IsErr t.audit × Appends out0 out (work_text w t)
 TellsFault _ left0 left out0 out = ⊥
@@ -59,8 +57,8 @@ TellsFault _ left0 left out0 out = ⊥
 -- a replay broke off at this error: what it had written by then
 abbrev pub BreaksOff : Asked → Option (List ℕ) → Option (List ℕ) → Option (List ℕ) → Option (List ℕ) → ReplayError
     → Type 0
-BreaksOff Replay left0 left out0 out e = Fails left0 left (Appends out0 out) (λ end. Begins out0 out) e
-BreaksOff AuditedReplay left0 left out0 out e = Fails left0 left (Appends out0 out) (BeginsAudited out0 out) e
+BreaksOff Replay left0 left out0 out e = Replays left0 left out0 out (Err e)
+BreaksOff AuditedReplay left0 left out0 out e = ReplaysAudited left0 left out0 out (Err e)
 BreaksOff _ left0 left out0 out e = ⊥
 
 -- a beginning of what was asked for was written, and nothing else; only a replay reads

@@ -1,5 +1,5 @@
 -- What is written behind the answers.
-use Rattle.std.proofs.Common.{◌≡◌, inr, ℕ, ◌≤◌, List, Option, Some, None, Ok, Err, refl, sym, ◌∙◌, subst, arith, Bool, true, false}
+use Rattle.std.proofs.Common.{inr, ℕ, ◌≤◌, List, Option, Some, None, Ok, Err, refl, sym, ◌∙◌, subst, arith, Bool, true, false}
 use Rattle.event_floor.specs.Floors.{FloorState}
 use Rattle.pool_machine.specs.Laws.{RunsKeepNumbers}
 use Rattle.trace_audit.specs.FloorSlots.{ShowsPool}
@@ -30,10 +30,10 @@ asked true n rest at_end NoRoom audit e t = absurd e
 asked false n rest at_end end audit e t = t
 
 -- the closing lines could not all be written
-pub not_closed : (audits failed : Bool) (floor : FloorState) (end : End) (old new : Option (List ℕ)) → Begins old new (tail_text (told floor) end) → failed ≡ true → Finishes audits floor end old new failed (Err Write)
-not_closed audits failed floor end old new h up =
+pub not_closed : (audits : Bool) (floor : FloorState) (end : End) (old new : Option (List ℕ)) → Begins old new (tail_text (told floor) end) → Finishes audits floor end old new (Err Write)
+not_closed audits floor end old new h =
     let t = some_told audits in
-    (refl, up, t.0, t.1, begins_longer old new (tail_text (told floor) end) (audit_lines t.0) h)
+    (t.0, t.1, begins_longer old new (tail_text (told floor) end) (audit_lines t.0) h)
 
 -- ---- a floor that was driven
 
@@ -48,7 +48,7 @@ opened_shows h start fits opens = record {
 
 -- and afterwards
 pub driven_shows : RunsKeepNumbers → (left0 left out0 out : Option (List ℕ)) (held0 : List ℕ) (start now : FloorState) (end : End)
-    → ShowsPool start → Driven left0 left held0 start now out0 out end → ShowsPool now
+    → ShowsPool start → Driven left0 left held0 start now out0 out (Ok end) → ShowsPool now
 driven_shows numbers left0 left out0 out held0 start now end shows (n, rest, p, ends) =
     let r = p.run shows.state shows.passed shows.shown in
     let kept = numbers p.requests p.answers shows.state r.0 r.2 in

@@ -1,5 +1,5 @@
 -- What one line adds to what was played, and how it ends.
-use Rattle.std.proofs.Common.{◌≡◌, ℕ, ◌+◌, ◌≤◌, ◌<◌, List, [], ◌∷◌, ◌++◌, Option, refl, sym, ◌∙◌, ap, subst, arith, length-append, append_assoc, append-nil}
+use Rattle.std.proofs.Common.{◌≡◌, ℕ, ◌+◌, ◌≤◌, ◌<◌, List, [], ◌∷◌, ◌++◌, Option, Ok, Err, refl, sym, ◌∙◌, ap, subst, arith, length-append, append_assoc, append-nil}
 use Rattle.std.specs.List.{flat_map, AllByRecursion}
 use Rattle.std.proofs.lemmas.List.{flat_map_more}
 use Rattle.std.specs.Io.KnownBytes.{Appends, Consumes, Keeps, IsAtEnd}
@@ -13,7 +13,7 @@ use Rattle.pool_machine.specs.Steps.{Answers, Run, after}
 use Rattle.pool_machine.specs.Steps.{Answer}
 use Rattle.trace_audit.specs.Report.{answer_line}
 use Rattle.trace_audit.specs.Words.{request_line}
-use Rattle.trace_audit.specs.Steps.{EndsSo, Follows, Played, Broke, Driven, Stopped}
+use Rattle.trace_audit.specs.Steps.{EndsSo, Follows, Played, Turned, Driven}
 use Rattle.trace_audit.specs.Wire.{Begins}
 use Rattle.trace_audit.specs.declared.replaying.ending.End.{End}
 use Rattle.trace_audit.specs.declared.replaying.ending.ReplayError.{ReplayError}
@@ -102,7 +102,7 @@ begins_more out0 out out' text tail h (front, back, e, k) = (text ++ front, back
 -- the end of the request lines was found
 pub driven_end : (left0 left left' out0 out out' : Option (List ℕ)) (held0 held rest : List ℕ) (start now new : FloorState) (n : ℕ) (end : End)
     → Played left0 left held0 held start now n [] (Appends out0 out) → (more : List ℕ) → Consumes left left' more → held ++ more ≡ rest → new ≡ now → out' ≡ out
-    → EndsSo n rest (IsAtEnd left') end → Driven left0 left' held0 start new out0 out' end
+    → EndsSo n rest (IsAtEnd left') end → Driven left0 left' held0 start new out0 out' (Ok end)
 driven_end left0 left left' out0 out out' held0 held rest start now new n end p more read lines same kept ends = (
   n,
   rest,
@@ -112,11 +112,10 @@ driven_end left0 left left' out0 out out' held0 held rest start now new n end p 
 )
 
 -- the reader or the writer failed within a line
-pub stopped_by : (left0 left left' out0 out out' : Option (List ℕ)) (held0 held held' : List ℕ) (start now new : FloorState) (n : ℕ) (e : ReplayError)
+pub stopped_by : (left0 left left' out0 out out' : Option (List ℕ)) (held0 held held' : List ℕ) (at_end : Type 0) (start now new : FloorState) (n : ℕ) (e : ReplayError)
     → Played left0 left held0 held start now n [] (Appends out0 out) → n < 999999 → (more : List ℕ) → Consumes left left' more
-    → Broke (held ++ more) held' now new out out' e → Stopped left0 left' held0 start out0 out' e
-stopped_by left0 left left' out0 out out' held0 held held' start now new n Read p low more read b = (
-  new,
+    → Turned (held ++ more) held' at_end now new out out' (Err e) → Driven left0 left' held0 start new out0 out' (Err e)
+stopped_by left0 left left' out0 out out' held0 held held' at_end start now new n Read p low more read b = (
   n,
   held',
   played_tail left0 left left' held0 held held' start now new n [] (Appends out0 out) (Appends out0 out') p more read b.0 b.2
@@ -125,8 +124,7 @@ stopped_by left0 left left' out0 out out' held0 held held' start now new n Read 
   b.1,
   λ full. absurd (omega arith),
 )
-stopped_by left0 left left' out0 out out' held0 held held' start now new n Write p low more read (r, x, fits, lines, step, wrote) = (
-  new,
+stopped_by left0 left left' out0 out out' held0 held held' at_end start now new n Write p low more read (r, x, fits, lines, step, wrote) = (
   n + 1,
   held',
   played_more left0 left left' held0 held held' start now new n (n + 1) (Appends out0 out) (Begins out0 out') p refl more r x read lines fits step
@@ -136,9 +134,8 @@ stopped_by left0 left left' out0 out out' held0 held held' start now new n Write
 
 -- the reader failed behind the last line that a trace may have
 pub stopped_last : (left0 left left' out0 out : Option (List ℕ)) (held0 held : List ℕ) (start now : FloorState) (n : ℕ)
-    → Played left0 left held0 held start now n [] (Appends out0 out) → n ≤ 999999 → Keeps left left' → held ≡ [] → Stopped left0 left' held0 start out0 out Read
+    → Played left0 left held0 held start now n [] (Appends out0 out) → n ≤ 999999 → Keeps left left' → held ≡ [] → Driven left0 left' held0 start now out0 out (Err Read)
 stopped_last left0 left left' out0 out held0 held start now n p low kept none = (
-  now,
   n,
   [],
   played_tail left0 left left' held0 held [] start now now n [] (Appends out0 out) (Appends out0 out) p [] (consumes_kept left left' kept) (append-nil held ∙ none) refl

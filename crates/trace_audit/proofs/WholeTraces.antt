@@ -1,15 +1,15 @@
 -- From what was read to all bytes, whatever stands behind it.
 use Rattle.std.proofs.Common.{◌≡◌, inl, inr, ℕ, ◌≤◌, List, [], ◌∷◌, ◌++◌, Option, refl, sym, ◌∙◌, ap, ap₂, subst, append_assoc, append-nil, codes}
 use Rattle.std.specs.Io.KnownBytes.{Consumes, IsAtEnd}
-use Rattle.std.proofs.KnownBytes.{Consumes-nil, Consumes-trans}
+use Rattle.std.proofs.KnownBytes.{Consumes-trans}
 use Rattle.trace_audit.specs.Grammar.{header_text, IsHeader}
 use Rattle.trace_audit.specs.Words.{header_line}
 use Rattle.trace_audit.specs.Machine.{closing}
 use Rattle.pool_machine.specs.State.{State}
 use Rattle.trace_audit.specs.Trace.{EndsTrace, BeginsWithRequest, BeginsWithHeader}
 use Rattle.trace_audit.specs.Report.{bad_line}
-use Rattle.trace_audit.specs.Replay.{Answered, ReportsTrace}
-use Rattle.trace_audit.specs.Steps.{EndsSo, HoldsBehind, IsBadFront, IsBadHeader}
+use Rattle.trace_audit.specs.Replay.{Answered, HoldsOfAll, ReportsTrace}
+use Rattle.trace_audit.specs.Steps.{EndsSo, IsBadFront, IsBadHeader}
 use Rattle.trace_audit.specs.declared.grammar.header.Header.{Header}
 use Rattle.trace_audit.specs.declared.replaying.ending.End.{End}
 use Rattle.trace_audit.specs.declared.replaying.ending.End.TheVariants.{Whole, BadLine, NoRoom}
@@ -56,23 +56,23 @@ as_report bytes P n rest NoRoom e r = absurd e
 
 -- no good header line stands first
 pub bad_header : (left0 left : Option (List ℕ)) (given : List ℕ) → Consumes left0 left given → IsBadHeader given (IsAtEnd left) → (P : List ℕ → Type 0) → P (bad_line 1)
-    → HoldsBehind [] left0 left (λ bytes. ReportsTrace bytes P (BadLine 1))
+    → HoldsOfAll left0 left (λ bytes. ReportsTrace bytes P (BadLine 1))
 bad_header left0 left given read bad P p = (given, read, λ more none. inr (refl, (λ b. bad_header_whole given more (IsAtEnd left) none bad b), p))
 
 -- a good one does, and there is no room for the pool
-pub no_room : (left0 left : Option (List ℕ)) (h : Header) (held : List ℕ) → IsHeader h → left ≡ left0 → (P : List ℕ → Type 0) → P (codes "R15 NoMemory" ++ 10 ∷ [])
-    → HoldsBehind (header_line h ++ held) left0 left (λ bytes. ReportsTrace bytes P NoRoom)
-no_room left0 left h held fits same P p = (
-  [],
-  subst (λ (w : Option (List ℕ)). Consumes left0 w []) (sym same) (Consumes-nil left0),
+pub no_room : (first left : Option (List ℕ)) (h : Header) (held : List ℕ) → IsHeader h → Consumes first left (header_line h ++ held) → (P : List ℕ → Type 0) → P (codes "R15 NoMemory" ++ 10 ∷ [])
+    → HoldsOfAll first left (λ bytes. ReportsTrace bytes P NoRoom)
+no_room first left h held fits read P p = (
+  header_line h ++ held,
+  read,
   λ more none. ((h, held ++ more, fits, append_assoc (header_line h) held more ∙ append_assoc (header_text h) (10 ∷ []) (held ++ more)), p),
 )
 
--- what was read first stands behind nothing
-pub shifted : (left0 left left' : Option (List ℕ)) (before first : List ℕ) (Q : List ℕ → Type 0) → Consumes left0 left first → first ≡ before
-    → HoldsBehind before left left' Q → HoldsBehind [] left0 left' Q
-shifted left0 left left' before first Q read is (given, more_read, q) = (
-  first ++ given,
-  Consumes-trans left0 left left' first given read more_read,
-  λ more none. subst Q (ap (λ w. w ++ (given ++ more)) (sym is) ∙ sym (append_assoc first given more)) (q more none),
+-- what was read first stands before what was read then
+pub behind : (first left0 left : Option (List ℕ)) (before given : List ℕ) (Q : List ℕ → Type 0) → Consumes first left0 before → Consumes left0 left given
+    → ((more : List ℕ) → (IsAtEnd left → more ≡ []) → Q (before ++ (given ++ more))) → HoldsOfAll first left Q
+behind first left0 left before given Q read more_read q = (
+  before ++ given,
+  Consumes-trans first left0 left before given read more_read,
+  λ more none. subst Q (sym (append_assoc before given more)) (q more none),
 )

@@ -1,8 +1,8 @@
 -- What a replay reads, how it ends, and what it writes.
 use Rattle.std.specs.Prelude.{ℕ, ◌≡◌, ◌≢◌, ◌⊎◌, ◌<◌, ◌≤◌, List, [], ◌∷◌, ◌++◌, length, slice_index, codes, Option, Some}
-use Rattle.std.specs.Prelude.{None, Ok, Err, Bool, true, false, ⊤}
+use Rattle.std.specs.Prelude.{None, Result, Ok, Err, Bool, true, false, ⊤}
 use Rattle.std.specs.List.{flat_map}
-use Rattle.std.specs.Io.KnownBytes.{Consumes, IsAtEnd}
+use Rattle.std.specs.Io.KnownBytes.{Appends, Consumes, IsAtEnd}
 use Rattle.pool_machine.specs.State.{State}
 use Rattle.pool_machine.specs.Steps.{Answer, Run}
 use Rattle.pool_machine.specs.declared.request.Request.{Request}
@@ -48,36 +48,34 @@ abbrev pub HoldsOfAll : Option (List ℕ) → Option (List ℕ) → (List ℕ �
 HoldsOfAll left0 left Q = (given : List ℕ) × Consumes left0 left given
     × ((more : List ℕ) → (IsAtEnd left → more ≡ []) → Q (given ++ more))
 
--- P holds of the report of all bytes, which have this end
-abbrev pub Reports : Option (List ℕ) → Option (List ℕ) → (List ℕ → Type 0) → End → Type 0
-Reports left0 left P end = HoldsOfAll left0 left (λ bytes. ReportsTrace bytes P end)
-
 -- the beginning of a line of which it is not yet known that it is bad: it has no line feed, and at most 64 bytes
 abbrev pub IsPartial : List ℕ → Type 0
 IsPartial bytes = ((k : ℕ) → k < length bytes → slice_index bytes k ≢ 10) × (length bytes ≤ line_limit)
 
--- No bad line is known in the bytes, and P holds of the lines of the answers to all whole request lines; of no line
--- where not even a header line is whole.
-abbrev pub AnswersLines : List ℕ → (List ℕ → Type 0) → Type 0
-AnswersLines bytes P = (IsPartial bytes × P [])
+-- No bad line is known in the bytes, and the lines of the answers to all whole request lines were written; none where
+-- not even a header line is whole.
+abbrev pub AnswersLines : List ℕ → (old new : Option (List ℕ)) → Type 0
+AnswersLines bytes old new = (IsPartial bytes × Appends old new [])
     ⊎ ((whole : List ℕ) × (rest : List ℕ) × (bytes ≡ whole ++ rest) × IsPartial rest
-    × Answered whole Whole (λ requests lines now. (length requests ≡ request_limit → rest ≡ []) × P lines))
+    × Answered whole Whole (λ requests lines _. (length requests ≡ request_limit → rest ≡ []) × Appends old new lines))
 
--- Read: the lines of these answers were written, and no closing line. Write: P holds of the report of all bytes, whose
--- end is P's too.
-abbrev pub Fails : Option (List ℕ) → Option (List ℕ) → (List ℕ → Type 0) → (End → List ℕ → Type 0) → ReplayError
-    → Type 0
-Fails left0 left Wrote P Read = (given : List ℕ) × Consumes left0 left given × AnswersLines given Wrote
-Fails left0 left Wrote P Write = HoldsOfAll left0 left (λ bytes. (end : End) × ReportsTrace bytes (P end) end)
+-- What a replay comes to, by its answer. Ok: all bytes have this end, and their report was written. Read: the lines of
+-- these answers were, and no closing line. Write: a beginning of the report of all bytes was. And nothing else.
+abbrev pub Replays : (left0 left old new : Option (List ℕ)) → Result End ReplayError → Type 0
+Replays left0 left old new (Ok end) = HoldsOfAll left0 left (λ bytes. ReportsTrace bytes (Appends old new) end)
+Replays left0 left old new (Err Read) = (given : List ℕ) × Consumes left0 left given × AnswersLines given old new
+Replays left0 left old new (Err Write) =
+    HoldsOfAll left0 left (λ bytes. (end : End) × ReportsTrace bytes (Begins old new) end)
 
 abbrev pub error_number : ReplayError → ℕ
 error_number Read = 1
 error_number Write = 2
 
 -- which of the two failed
-abbrev pub Failures : Bool → Bool → ReplayError → Type 0
-Failures reader writer Read = (reader ≡ true) × (writer ≡ false)
-Failures reader writer Write = (reader ≡ false) × (writer ≡ true)
+abbrev pub Failures : {A : Type 0} → Bool → Bool → Result A ReplayError → Type 0
+Failures reader writer (Ok x) = (reader ≡ false) × (writer ≡ false)
+Failures reader writer (Err Read) = (reader ≡ true) × (writer ≡ false)
+Failures reader writer (Err Write) = (reader ≡ false) × (writer ≡ true)
 
 -- ---- with the line of an audit
 
@@ -98,7 +96,10 @@ IsAudited Whole audit = FindsNothing audit
 IsAudited (BadLine k) audit = ((k ≡ 1) × (audit ≡ None)) ⊎ ((1 < k) × FindsNothing audit)
 IsAudited NoRoom audit = audit ≡ None
 
--- a beginning of the report with the line of such an audit was written
-abbrev pub BeginsAudited : Option (List ℕ) → Option (List ℕ) → End → List ℕ → Type 0
-BeginsAudited out0 out end report = (audit : Option Verdict) × IsAudited end audit
-    × with_audit audit (Begins out0 out) report
+-- What a replay with an audit comes to: the same, with the line of such an audit behind the report.
+abbrev pub ReplaysAudited : (left0 left old new : Option (List ℕ)) → Result (End × Option Verdict) ReplayError → Type 0
+ReplaysAudited left0 left old new (Ok r) = IsAudited r.0 r.1
+    × HoldsOfAll left0 left (λ bytes. ReportsTrace bytes (with_audit r.1 (Appends old new)) r.0)
+ReplaysAudited left0 left old new (Err Read) = (given : List ℕ) × Consumes left0 left given × AnswersLines given old new
+ReplaysAudited left0 left old new (Err Write) = HoldsOfAll left0 left (λ bytes. (end : End) × (audit : Option Verdict)
+    × IsAudited end audit × ReportsTrace bytes (with_audit audit (Begins old new)) end)

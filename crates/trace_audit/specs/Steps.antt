@@ -17,8 +17,7 @@ use Rattle.trace_audit.specs.Limits.{held_limit, request_limit}
 use Rattle.trace_audit.specs.FloorCounts.{Tally, tally_lines, told}
 use Rattle.trace_audit.specs.Report.{answer_line, audit_line, bad_line, Verdict}
 use Rattle.trace_audit.specs.Trace.{BeginsWithHeader, BeginsWithRequest}
-use Rattle.trace_audit.specs.Replay.{AnswersLines, BeginsAudited, Failures, FindsNothing, IsAudited, IsPartial}
-use Rattle.trace_audit.specs.Replay.{ReportsTrace, with_audit}
+use Rattle.trace_audit.specs.Replay.{FindsNothing, IsAudited, IsPartial, Replays, ReplaysAudited}
 use Rattle.trace_audit.specs.Words.{Lacks, request_line}
 use Rattle.trace_audit.specs.Wire.{Begins}
 use Rattle.trace_audit.specs.declared.lines.Next.{Next}
@@ -57,19 +56,18 @@ abbrev pub IsBadFront : List ℕ → Type 0 → Type 0
 IsBadFront bytes at_end = ((more : List ℕ) → BeginsWithRequest (bytes ++ more) → ⊥)
     ⊎ (at_end × (BeginsWithRequest bytes → ⊥))
 
--- what one line came to: the floor goes from old to new, the writer's bytes from out0 to out
-abbrev pub Turned : List ℕ → List ℕ → Type 0 → FloorState → FloorState → Option (List ℕ) → Option (List ℕ) → Turn
-    → Type 0
-Turned bytes held at_end old new out0 out turns.Answered = (r : Request) × (x : Answer) × IsRequest r
+-- What one line came to, or where the reader or the writer failed within it: the floor goes from old to new, the
+-- writer's bytes from out0 to out.
+abbrev pub Turned : List ℕ → List ℕ → Type 0 → (old new : FloorState) → (out0 out : Option (List ℕ))
+    → Result Turn ReplayError → Type 0
+Turned bytes held at_end old new out0 out (Ok turns.Answered) = (r : Request) × (x : Answer) × IsRequest r
     × (bytes ≡ request_line r ++ held) × Applies old r x new × Appends out0 out (answer_line x)
-Turned bytes held at_end old new out0 out turns.Over = (bytes ≡ []) × (held ≡ []) × at_end × (new ≡ old) × (out ≡ out0)
-Turned bytes held at_end old new out0 out turns.Bad = (bytes ≢ []) × IsBadFront bytes at_end × (new ≡ old)
-    × (out ≡ out0)
-
--- where the reader or the writer failed within a line
-abbrev pub Broke : List ℕ → List ℕ → FloorState → FloorState → Option (List ℕ) → Option (List ℕ) → ReplayError → Type 0
-Broke bytes held old new out0 out Read = (bytes ≡ held) × IsPartial held × (new ≡ old) × (out ≡ out0)
-Broke bytes held old new out0 out Write = (r : Request) × (x : Answer) × IsRequest r
+Turned bytes held at_end old new out0 out (Ok turns.Over) =
+    (bytes ≡ []) × (held ≡ []) × at_end × (new ≡ old) × (out ≡ out0)
+Turned bytes held at_end old new out0 out (Ok turns.Bad) =
+    (bytes ≢ []) × IsBadFront bytes at_end × (new ≡ old) × (out ≡ out0)
+Turned bytes held at_end old new out0 out (Err Read) = (bytes ≡ held) × IsPartial held × (new ≡ old) × (out ≡ out0)
+Turned bytes held at_end old new out0 out (Err Write) = (r : Request) × (x : Answer) × IsRequest r
     × (bytes ≡ request_line r ++ held) × Applies old r x new × Begins out0 out (answer_line x)
 
 -- from each state that the first floor shows, the requests with these answers are a run to one that the other shows
@@ -98,19 +96,15 @@ EndsSo n rest at_end (BadLine k) = (n ≤ request_limit) × (rest ≢ []) × (k 
     × (IsBadFront rest at_end ⊎ (n ≡ request_limit))
 EndsSo n rest at_end NoRoom = ⊥
 
--- all request lines were read and answered, and how they end was found
-abbrev pub Driven : Option (List ℕ) → Option (List ℕ) → List ℕ → FloorState → FloorState → Option (List ℕ)
-    → Option (List ℕ) → End → Type 0
-Driven left0 left held0 start now out0 out end = (n : ℕ) × (rest : List ℕ)
+-- all request lines were read and answered, and how they end was found; or the reader or the writer failed before
+abbrev pub Driven : (left0 left : Option (List ℕ)) → List ℕ → (start now : FloorState) → (out0 out : Option (List ℕ))
+    → Result End ReplayError → Type 0
+Driven left0 left held0 start now out0 out (Ok end) = (n : ℕ) × (rest : List ℕ)
     × Played left0 left held0 rest start now n [] (Appends out0 out) × EndsSo n rest (IsAtEnd left) end
-
--- the reader or the writer failed before
-abbrev pub Stopped : Option (List ℕ) → Option (List ℕ) → List ℕ → FloorState → Option (List ℕ) → Option (List ℕ)
-    → ReplayError → Type 0
-Stopped left0 left held0 start out0 out Read = (now : FloorState) × (n : ℕ) × (rest : List ℕ)
+Driven left0 left held0 start now out0 out (Err Read) = (n : ℕ) × (rest : List ℕ)
     × Played left0 left held0 rest start now n [] (Appends out0 out) × (n ≤ request_limit) × IsPartial rest
     × (n ≡ request_limit → rest ≡ [])
-Stopped left0 left held0 start out0 out Write = (now : FloorState) × (n : ℕ) × (rest : List ℕ)
+Driven left0 left held0 start now out0 out (Err Write) = (n : ℕ) × (rest : List ℕ)
     × Played left0 left held0 rest start now n [] (Begins out0 out) × (n ≤ request_limit)
 
 -- what is answered of an audit that is asked for; nothing where none is
@@ -137,44 +131,28 @@ TellsAudit audits old new failed (Err e) = ((audit : Option Verdict) × IsTold a
     × Begins old new (audit_lines audit)) × (failed ≡ true)
 
 -- what stands behind the answers was written, or a beginning of it
-abbrev pub Finishes : Bool → FloorState → End → Option (List ℕ) → Option (List ℕ) → Bool
+abbrev pub Finishes : Bool → FloorState → End → (old new : Option (List ℕ))
     → Result (End × Option Verdict) ReplayError → Type 0
-Finishes audits floor end old new failed (Ok r) = (r.0 ≡ end) × (failed ≡ false) × IsTold audits r.1
+Finishes audits floor end old new (Ok r) = (r.0 ≡ end) × IsTold audits r.1
     × Appends old new (tail_text (told floor) end ++ audit_lines r.1)
-Finishes audits floor end old new failed (Err e) =
-    (e ≡ Write) × (failed ≡ true) × (audit : Option Verdict) × IsTold audits audit
+Finishes audits floor end old new (Err Read) = ⊥
+Finishes audits floor end old new (Err Write) = (audit : Option Verdict) × IsTold audits audit
     × Begins old new (tail_text (told floor) end ++ audit_lines audit)
 
--- a beginning of the report was written, with the line of an audit where that is asked for
-abbrev pub BeginsReport : Bool → Option (List ℕ) → Option (List ℕ) → End → List ℕ → Type 0
-BeginsReport true out0 out end report = BeginsAudited out0 out end report
-BeginsReport false out0 out end report = Begins out0 out report
-
--- Q holds of all bytes, those before the reader's first
-abbrev pub HoldsBehind : List ℕ → Option (List ℕ) → Option (List ℕ) → (List ℕ → Type 0) → Type 0
-HoldsBehind before left0 left Q = (given : List ℕ) × Consumes left0 left given
-    × ((more : List ℕ) → (IsAtEnd left → more ≡ []) → Q (before ++ (given ++ more)))
-
--- what was written where the reader or the writer failed, behind the bytes that were read before
-abbrev pub FailsBehind : List ℕ → Option (List ℕ) → Option (List ℕ) → (List ℕ → Type 0) → (End → List ℕ → Type 0)
-    → ReplayError → Type 0
-FailsBehind before left0 left Wrote P Read = (given : List ℕ) × Consumes left0 left given
-    × AnswersLines (before ++ given) Wrote
-FailsBehind before left0 left Wrote P Write =
-    HoldsBehind before left0 left (λ bytes. (end : End) × ReportsTrace bytes (P end) end)
-
--- What a replay comes to, behind the bytes that were read before: its report was written, or it failed. The flags say
--- which of reader and writer failed.
-abbrev pub Replayed : Bool → List ℕ → Option (List ℕ) → Option (List ℕ) → Option (List ℕ) → Option (List ℕ) → Bool
-    → Bool → Result (End × Option Verdict) ReplayError → Type 0
-Replayed audits before left0 left out0 out reader writer (Ok r) = (reader ≡ false) × (writer ≡ false)
-    × IsAsked audits r.0 r.1
-    × HoldsBehind before left0 left (λ bytes. ReportsTrace bytes (with_audit r.1 (Appends out0 out)) r.0)
-Replayed audits before left0 left out0 out reader writer (Err e) =
-    Failures reader writer e × FailsBehind before left0 left (Appends out0 out) (BeginsReport audits out0 out) e
-
 -- one line was written and no other, or a beginning of it
-abbrev pub WritesOnly : List ℕ → End → Option (List ℕ) → Option (List ℕ) → Bool
+abbrev pub WritesOnly : List ℕ → End → (old new : Option (List ℕ)) → Result (End × Option Verdict) ReplayError → Type 0
+WritesOnly text end old new (Ok r) = (r.0 ≡ end) × (r.1 ≡ None) × Appends old new text
+WritesOnly text end old new (Err Read) = ⊥
+WritesOnly text end old new (Err Write) = Begins old new text
+
+-- what a replay comes to, with an audit where that is asked for
+abbrev pub Replayed : Bool → (left0 left old new : Option (List ℕ)) → Result (End × Option Verdict) ReplayError → Type 0
+Replayed true left0 left old new r = ReplaysAudited left0 left old new r
+Replayed false left0 left old new (Ok r) = (r.1 ≡ None) × Replays left0 left old new (Ok r.0)
+Replayed false left0 left old new (Err e) = Replays left0 left old new (Err e)
+
+-- the same of a reader's bytes from the first on, of which `before` was read already
+abbrev pub ReplayedBehind : Bool → List ℕ → (left0 left old new : Option (List ℕ))
     → Result (End × Option Verdict) ReplayError → Type 0
-WritesOnly text end old new failed (Ok r) = (r.0 ≡ end) × (r.1 ≡ None) × Appends old new text × (failed ≡ false)
-WritesOnly text end old new failed (Err e) = (e ≡ Write) × Begins old new text × (failed ≡ true)
+ReplayedBehind audits before left0 left old new r =
+    (first : Option (List ℕ)) → Consumes first left0 before → Replayed audits first left old new r

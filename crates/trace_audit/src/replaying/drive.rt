@@ -1,7 +1,7 @@
 //! All lines behind the header.
-ghost use Rattle.std.specs.Prelude.{◌≡◌, false, IfOk, IfErr};
+ghost use Rattle.std.specs.Prelude.{◌≡◌, false};
 ghost use Rattle.trace_audit.specs.Replay.{Failures};
-ghost use Rattle.trace_audit.specs.Steps.{Driven, Stopped};
+ghost use Rattle.trace_audit.specs.Steps.{Driven};
 
 use super::turn::{Turn, one_line};
 use super::{End, ReplayError};
@@ -25,14 +25,9 @@ pub(crate) fn drive<R: Source, W: Sink>(
 ) -> Result<End, ReplayError>
     requires reader_down { R.has_failed reader.old ≡ false }
     requires writer_down { W.has_failed writer.old ≡ false }
-    ensures driven { IfOk result (λ end.
-        Driven (R.remaining reader.old) (R.remaining reader.new) held.old.items floor.old floor.new
-        (W.contents writer.old) (W.contents writer.new) end) }
-    ensures down { IfOk result (λ _. (R.has_failed reader.new ≡ false) × (W.has_failed writer.new ≡ false)) }
-    ensures stopped { IfErr result (λ e.
-        Stopped (R.remaining reader.old) (R.remaining reader.new) held.old.items floor.old (W.contents writer.old)
-        (W.contents writer.new) e) }
-    ensures up { IfErr result (λ e. Failures (R.has_failed reader.new) (W.has_failed writer.new) e) }
+    ensures driven { Driven (R.remaining reader.old) (R.remaining reader.new) held.old.items floor.old floor.new
+        (W.contents writer.old) (W.contents writer.new) result }
+    ensures flags { Failures (R.has_failed reader.new) (W.has_failed writer.new) result }
 {
     let mut line = Line::new();
     for number in 2..TOO_MANY {

@@ -2,7 +2,7 @@
 ghost use Rattle.std.specs.Prelude.{◌≡◌, false};
 ghost use Rattle.trace_audit.specs.FloorSlots.{ShowsPool};
 ghost use Rattle.trace_audit.specs.FloorCounts.{told};
-ghost use Rattle.trace_audit.specs.Replay.{error_number};
+ghost use Rattle.trace_audit.specs.Replay.{error_number, Failures};
 ghost use Rattle.trace_audit.specs.Steps.{tail_text, Finishes, TellsAudit, WritesOnly};
 ghost use Rattle.trace_audit.specs.Wire.{Writes};
 
@@ -98,8 +98,8 @@ pub(crate) fn finish<W: Sink>(
 ) -> Result<(End, Option<Result<(), Fault>>), ReplayError>
     requires down { W.has_failed writer.old ≡ false }
     requires shows { ShowsPool floor.now }
-    ensures { Finishes audits floor.now end (W.contents writer.old) (W.contents writer.new)
-        (W.has_failed writer.new) result }
+    ensures finished { Finishes audits floor.now end (W.contents writer.old) (W.contents writer.new) result }
+    ensures flags { Failures false (W.has_failed writer.new) result }
 {
     match close_behind(floor, writer, end) {
         Ok(()) => match tell_audit(alloc, floor, writer, audits) {
@@ -117,7 +117,8 @@ pub(crate) fn only<W: Sink>(
     end: End,
 ) -> Result<(End, Option<Result<(), Fault>>), ReplayError>
     requires { W.has_failed writer.old ≡ false }
-    ensures { WritesOnly text.now end (W.contents writer.old) (W.contents writer.new) (W.has_failed writer.new) result }
+    ensures written { WritesOnly text.now end (W.contents writer.old) (W.contents writer.new) result }
+    ensures flags { Failures false (W.has_failed writer.new) result }
 {
     match write_all(writer, text) {
         Ok(()) => Ok((end, None)),

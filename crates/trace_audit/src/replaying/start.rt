@@ -1,13 +1,11 @@
 //! From the header on.
-ghost use Rattle.std.specs.Prelude.{◌≡◌, ◌≤◌, ◌*◌, ◌↔◌, ◌++◌, [], length, false, IfOk, IfErr, IfSome, IsSome};
-ghost use Rattle.std.specs.Io.KnownBytes.{Appends};
+ghost use Rattle.std.specs.Prelude.{◌≡◌, ◌≤◌, ◌*◌, ◌↔◌, ◌++◌, length, false, IfOk, IfSome, IsSome};
 ghost use Rattle.region_cut.specs.Limits.{chunk_limit, chunk_size};
 ghost use Rattle.trace_audit.specs.FloorCounts.{Opens, digits_of};
 ghost use Rattle.trace_audit.specs.Grammar.{IsHeader};
-ghost use Rattle.trace_audit.specs.Replay.{BeginsAudited, Failures, Fails, IsAudited, Reports, with_audit};
-ghost use Rattle.trace_audit.specs.Steps.{Replayed};
+ghost use Rattle.trace_audit.specs.Replay.{Failures, Replays, ReplaysAudited};
+ghost use Rattle.trace_audit.specs.Steps.{Replayed, ReplayedBehind};
 ghost use Rattle.trace_audit.specs.Words.{header_line};
-ghost use Rattle.trace_audit.specs.Wire.{Begins};
 
 use super::drive::drive;
 use super::ending::{finish, only};
@@ -88,8 +86,9 @@ fn run<R: Source, W: Sink>(
     requires opens { Opens header floor.old }
     requires reader_down { R.has_failed reader.old ≡ false }
     requires writer_down { W.has_failed writer.old ≡ false }
-    ensures { Replayed audits (header_line header ++ held.old.items) (R.remaining reader.old) (R.remaining reader.new)
-        (W.contents writer.old) (W.contents writer.new) (R.has_failed reader.new) (W.has_failed writer.new) result }
+    ensures replayed { ReplayedBehind audits (header_line header ++ held.old.items) (R.remaining reader.old)
+        (R.remaining reader.new) (W.contents writer.old) (W.contents writer.new) result }
+    ensures flags { Failures (R.has_failed reader.new) (W.has_failed writer.new) result }
 {
     floors_tell_counts();
     runs_keep_numbers();
@@ -112,8 +111,9 @@ fn on_region<R: Source, W: Sink>(
     requires region { length region.old ≡ header.chunks * chunk_size }
     requires reader_down { R.has_failed reader.old ≡ false }
     requires writer_down { W.has_failed writer.old ≡ false }
-    ensures { Replayed audits (header_line header ++ held.old.items) (R.remaining reader.old) (R.remaining reader.new)
-        (W.contents writer.old) (W.contents writer.new) (R.has_failed reader.new) (W.has_failed writer.new) result }
+    ensures replayed { ReplayedBehind audits (header_line header ++ held.old.items) (R.remaining reader.old)
+        (R.remaining reader.new) (W.contents writer.old) (W.contents writer.new) result }
+    ensures flags { Failures (R.has_failed reader.new) (W.has_failed writer.new) result }
 {
     match floor_over(alloc, region, header) {
         Ok(made) => {
@@ -136,8 +136,9 @@ fn on_floor<R: Source, W: Sink>(
     requires header { IsHeader header }
     requires reader_down { R.has_failed reader.old ≡ false }
     requires writer_down { W.has_failed writer.old ≡ false }
-    ensures { Replayed audits (header_line header ++ held.old.items) (R.remaining reader.old) (R.remaining reader.new)
-        (W.contents writer.old) (W.contents writer.new) (R.has_failed reader.new) (W.has_failed writer.new) result }
+    ensures replayed { ReplayedBehind audits (header_line header ++ held.old.items) (R.remaining reader.old)
+        (R.remaining reader.new) (W.contents writer.old) (W.contents writer.new) result }
+    ensures flags { Failures (R.has_failed reader.new) (W.has_failed writer.new) result }
 {
     match region_of(alloc, header.chunks) {
         Ok(new) => {
@@ -165,8 +166,9 @@ fn play<R: Source, W: Sink>(
 ) -> Result<(End, Option<Result<(), Fault>>), ReplayError>
     requires reader_down { R.has_failed reader.old ≡ false }
     requires writer_down { W.has_failed writer.old ≡ false }
-    ensures { Replayed audits [] (R.remaining reader.old) (R.remaining reader.new) (W.contents writer.old)
-        (W.contents writer.new) (R.has_failed reader.new) (W.has_failed writer.new) result }
+    ensures replayed { Replayed audits (R.remaining reader.old) (R.remaining reader.new) (W.contents writer.old)
+        (W.contents writer.new) result }
+    ensures flags { Failures (R.has_failed reader.new) (W.has_failed writer.new) result }
 {
     let mut held = Held::new();
     match next_line(&mut held, reader) {
@@ -196,17 +198,11 @@ pub fn replay<R: Source, W: Sink>(
 ) -> Result<End, ReplayError>
     requires reader_down { R.has_failed reader.old ≡ false }
     requires writer_down { W.has_failed writer.old ≡ false }
-    // The reader's bytes are a trace with this end, and its report was written and nothing else.
-    ensures ended { IfOk result (λ end.
-        Reports (R.remaining reader.old) (R.remaining reader.new)
-        (Appends (W.contents writer.old) (W.contents writer.new)) end) }
-    ensures down { IfOk result (λ _. (R.has_failed reader.new ≡ false) × (W.has_failed writer.new ≡ false)) }
-    // The answers to all whole lines were written, or a beginning of the report.
-    ensures failed { IfErr result (λ e.
-        Fails (R.remaining reader.old) (R.remaining reader.new)
-        (Appends (W.contents writer.old) (W.contents writer.new))
-        (λ end. Begins (W.contents writer.old) (W.contents writer.new)) e) }
-    ensures up { IfErr result (λ e. Failures (R.has_failed reader.new) (W.has_failed writer.new) e) }
+    // The reader's bytes are a trace with this end, and its report was written and nothing else. At an error the
+    // answers to all whole lines were written, or a beginning of the report.
+    ensures replayed { Replays (R.remaining reader.old) (R.remaining reader.new) (W.contents writer.old)
+        (W.contents writer.new) result }
+    ensures flags { Failures (R.has_failed reader.new) (W.has_failed writer.new) result }
 {
     let (end, _audit) = play(alloc, reader, writer, false)?;
     Ok(end)
@@ -226,20 +222,11 @@ pub fn replay_audited<R: Source, W: Sink>(
 ) -> Result<(End, Option<Result<(), Fault>>), ReplayError>
     requires reader_down { R.has_failed reader.old ≡ false }
     requires writer_down { W.has_failed writer.old ≡ false }
-    // Behind closing lines the audit is there, and found nothing wrong unless it had no memory; else there is none.
-    ensures audit { IfOk result (λ r. IsAudited r.0 r.1) }
-    // The reader's bytes are a trace with this end, and its report was written, the line of the audit, and nothing
-    // else.
-    ensures ended { IfOk result (λ r.
-        Reports (R.remaining reader.old) (R.remaining reader.new)
-        (with_audit r.1 (Appends (W.contents writer.old) (W.contents writer.new))) r.0) }
-    ensures down { IfOk result (λ _. (R.has_failed reader.new ≡ false) × (W.has_failed writer.new ≡ false)) }
-    // The answers to all whole lines were written, or a beginning of the report with the line of its audit.
-    ensures failed { IfErr result (λ e.
-        Fails (R.remaining reader.old) (R.remaining reader.new)
-        (Appends (W.contents writer.old) (W.contents writer.new))
-        (BeginsAudited (W.contents writer.old) (W.contents writer.new)) e) }
-    ensures up { IfErr result (λ e. Failures (R.has_failed reader.new) (W.has_failed writer.new) e) }
+    // The same, with the line of the audit behind closing lines: it found nothing wrong unless it had no memory. Where
+    // there are none, there is no audit.
+    ensures replayed { ReplaysAudited (R.remaining reader.old) (R.remaining reader.new) (W.contents writer.old)
+        (W.contents writer.new) result }
+    ensures flags { Failures (R.has_failed reader.new) (W.has_failed writer.new) result }
 {
     play(alloc, reader, writer, true)
 }

@@ -1,9 +1,9 @@
 //! One line of a trace.
-ghost use Rattle.std.specs.Prelude.{◌≡◌, ℕ, List, ◌++◌, false, IfOk, IfErr};
+ghost use Rattle.std.specs.Prelude.{◌≡◌, ℕ, List, ◌++◌, false};
 ghost use Rattle.std.specs.Io.KnownBytes.{Consumes, IsAtEnd};
 ghost use Rattle.event_floor.specs.headline.Headline.{Applies};
 ghost use Rattle.trace_audit.specs.Replay.{Failures};
-ghost use Rattle.trace_audit.specs.Steps.{Turned, Broke};
+ghost use Rattle.trace_audit.specs.Steps.{Turned};
 
 use super::ReplayError;
 use crate::grammar::read_request;
@@ -43,16 +43,10 @@ pub(crate) fn one_line<R: Source, W: Sink>(
 ) -> Result<Turn, ReplayError>
     requires reader_down { R.has_failed reader.old ≡ false }
     requires writer_down { W.has_failed writer.old ≡ false }
-    ensures turn { IfOk result (λ turn.
-        (given : List ℕ) × Consumes (R.remaining reader.old) (R.remaining reader.new) given
+    ensures turned { (given : List ℕ) × Consumes (R.remaining reader.old) (R.remaining reader.new) given
         × Turned (held.old.items ++ given) held.new.items (IsAtEnd (R.remaining reader.new)) floor.old floor.new
-        (W.contents writer.old) (W.contents writer.new) turn) }
-    ensures down { IfOk result (λ _. (R.has_failed reader.new ≡ false) × (W.has_failed writer.new ≡ false)) }
-    ensures broke { IfErr result (λ e.
-        (given : List ℕ) × Consumes (R.remaining reader.old) (R.remaining reader.new) given
-        × Broke (held.old.items ++ given) held.new.items floor.old floor.new (W.contents writer.old)
-        (W.contents writer.new) e) }
-    ensures up { IfErr result (λ e. Failures (R.has_failed reader.new) (W.has_failed writer.new) e) }
+        (W.contents writer.old) (W.contents writer.new) result }
+    ensures flags { Failures (R.has_failed reader.new) (W.has_failed writer.new) result }
 {
     match next_line(held, reader) {
         Ok(Next::Text(count)) => match read_request(held.front(count)) {

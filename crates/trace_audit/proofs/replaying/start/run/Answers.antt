@@ -7,15 +7,12 @@ pub finish-requires-clause-shows : goal.finish-requires-clause-shows
 finish-requires-clause-shows g c =
     driven_shows c.runs_keep_numbers.ensures _ _ _ _ _ c.args.floor.now c.drive.new.floor c.in_ok-end.end (opened_shows c.args.header c.args.floor.now c.requires.header c.requires.opens) c.in_ok-end.ensures.driven
 
-pub returns : goal.returns
-returns g c =
+pub returns-clause-replayed : goal.returns-clause-replayed
+returns-clause-replayed g c =
     finished c.args.header c.requires.header c.args.floor.now c.requires.opens (record { counts = c.floors_tell_counts.ensures; numbers = c.runs_keep_numbers.ensures })
-    c.args.audits _ _ _ _ _ _ _ _ c.drive.new.floor c.in_ok-end.end c.finish.result c.in_ok-end.ensures.driven c.finish.ensures c.in_ok-end.ensures.down.0
+    c.args.audits _ _ _ _ _ _ c.drive.new.floor c.in_ok-end.end c.finish.result c.in_ok-end.ensures.driven c.finish.ensures.finished
 
-pub returns-in_err-end : goal.returns-in_err-end
-returns-in_err-end g c =
+pub returns-in_err-end-clause-replayed : goal.returns-in_err-end-clause-replayed
+returns-in_err-end-clause-replayed g c =
     let p = err_from_is_err_and c.from_residual.result c.from_residual.ensures.1 in
-    rw (p.1, p.2) (
-      c.in_err-end.ensures.up,
-      stopped c.args.header c.requires.header c.args.floor.now c.requires.opens c.requests_are_answered.ensures c.args.audits _ _ _ _ _ _ _ c.in_err-end.field-0.0 c.in_err-end.ensures.stopped c.in_err-end.ensures.up,
-    )
+    rw (p.1, p.2) (stopped c.args.header c.requires.header c.args.floor.now c.requires.opens c.requests_are_answered.ensures c.args.audits _ _ _ _ _ c.drive.new.floor c.in_err-end.field-0.0 c.in_err-end.ensures.driven)

@@ -3,8 +3,8 @@ use Rattle.std.specs.Io.KnownBytes.{Appends}
 use Rattle.trace_audit.proofs.Fronts.{bad_text, answered_line, begins_same, not_empty, longer, bad_front, taken_line}
 use Rattle.trace_audit.proofs.replaying.turn.one_line.Goals as goal
 
-pub returns-in-Err-write_all-clause-broke : goal.returns-in-Err-write_all-clause-broke
-returns-in-Err-write_all-clause-broke g c =
+pub returns-in-Err-write_all-clause-turned : goal.returns-in-Err-write_all-clause-turned
+returns-in-Err-write_all-clause-turned g c =
     let p = rw c.in-Ok-Text.field-0-is at c.in-Ok-Text.ensures.ok in (
       p.0,
       p.1,
@@ -18,8 +18,8 @@ returns-in-Err-write_all-clause-broke g c =
       ),
     )
 
-pub returns-in-None-clause-turn : goal.returns-in-None-clause-turn
-returns-in-None-clause-turn g c =
+pub returns-in-None-clause-turned : goal.returns-in-None-clause-turned
+returns-in-None-clause-turned g c =
     let p = rw c.in-Ok-Text.field-0-is at c.in-Ok-Text.ensures.ok in (
       p.0,
       p.1,
@@ -31,13 +31,13 @@ returns-in-None-clause-turn g c =
       ),
     )
 
-pub returns-in-Ok-Bad-clause-turn : goal.returns-in-Ok-Bad-clause-turn
-returns-in-Ok-Bad-clause-turn g c =
+pub returns-in-Ok-Bad-clause-turned : goal.returns-in-Ok-Bad-clause-turned
+returns-in-Ok-Bad-clause-turned g c =
     let p = rw c.in-Ok-Bad.field-0-is at c.in-Ok-Bad.ensures.ok in
     (p.0, p.1, bad_front _ _ _ p.2.0 p.2.1 p.2.2)
 
-pub returns-in-Ok-clause-turn : goal.returns-in-Ok-clause-turn
-returns-in-Ok-clause-turn g c =
+pub returns-in-Ok-clause-turned : goal.returns-in-Ok-clause-turned
+returns-in-Ok-clause-turned g c =
     let p = rw c.in-Ok-Text.field-0-is at c.in-Ok-Text.ensures.ok in (
       p.0,
       p.1,
@@ -52,12 +52,12 @@ returns-in-Ok-clause-turn g c =
       ),
     )
 
-pub returns-in-Ok-Over-clause-turn : goal.returns-in-Ok-Over-clause-turn
-returns-in-Ok-Over-clause-turn g c =
+pub returns-in-Ok-Over-clause-turned : goal.returns-in-Ok-Over-clause-turned
+returns-in-Ok-Over-clause-turned g c =
     let p = rw c.in-Ok-Over.field-0-is at c.in-Ok-Over.ensures.ok in
     (p.0, p.1, (p.2.0, p.2.1, p.2.2, refl, refl))
 
-pub returns-in-Err-clause-broke : goal.returns-in-Err-clause-broke
-returns-in-Err-clause-broke g c =
+pub returns-in-Err-clause-turned : goal.returns-in-Err-clause-turned
+returns-in-Err-clause-turned g c =
     let p = c.in-Err.ensures.err in
     (p.0, p.1, (sym p.2, p.3, refl, refl))
