@@ -72,59 +72,8 @@ fn floor_over<'r>(
     }
 }
 
-/// Drives the floor to the end of the trace, and writes what stands behind the answers.
-fn run<R: Source, W: Sink>(
-    alloc: Global,
-    header: Header,
-    floor: &mut Floor<'_>,
-    held: &mut Held,
-    reader: &mut R,
-    writer: &mut W,
-    audits: bool,
-) -> Result<(End, Option<Result<(), Fault>>), ReplayError>
-    requires header { IsHeader header }
-    requires opens { Opens header floor.old }
-    requires reader_down { R.has_failed reader.old ≡ false }
-    requires writer_down { W.has_failed writer.old ≡ false }
-    ensures replayed { ReplayedBehind audits (header_line header ++ held.old.items) (R.remaining reader.old)
-        (R.remaining reader.new) (W.contents writer.old) (W.contents writer.new) result }
-    ensures flags { Failures (R.has_failed reader.new) (W.has_failed writer.new) result }
-{
-    floors_tell_counts();
-    runs_keep_numbers();
-    requests_are_answered();
-    let end = drive(alloc, floor, held, reader, writer)?;
-    finish(alloc, floor, writer, end, audits)
-}
-
-/// Makes a floor over the region, drives it to the end of the trace, and writes what stands behind the answers.
-fn on_region<R: Source, W: Sink>(
-    alloc: Global,
-    header: Header,
-    region: &mut [u8],
-    held: &mut Held,
-    reader: &mut R,
-    writer: &mut W,
-    audits: bool,
-) -> Result<(End, Option<Result<(), Fault>>), ReplayError>
-    requires header { IsHeader header }
-    requires region { length region.old ≡ header.chunks * chunk_size }
-    requires reader_down { R.has_failed reader.old ≡ false }
-    requires writer_down { W.has_failed writer.old ≡ false }
-    ensures replayed { ReplayedBehind audits (header_line header ++ held.old.items) (R.remaining reader.old)
-        (R.remaining reader.new) (W.contents writer.old) (W.contents writer.new) result }
-    ensures flags { Failures (R.has_failed reader.new) (W.has_failed writer.new) result }
-{
-    match floor_over(alloc, region, header) {
-        Ok(made) => {
-            let mut floor = made;
-            run(alloc, header, &mut floor, held, reader, writer, audits)
-        }
-        Err(_) => only(writer, NO_MEMORY, End::NoRoom),
-    }
-}
-
-/// Makes the region, and a floor over it.
+/// Makes the floor of the header over a region of its own, drives it to the end of the trace, and writes what stands
+/// behind the answers.
 fn on_floor<R: Source, W: Sink>(
     alloc: Global,
     header: Header,
@@ -140,21 +89,17 @@ fn on_floor<R: Source, W: Sink>(
         (R.remaining reader.new) (W.contents writer.old) (W.contents writer.new) result }
     ensures flags { Failures (R.has_failed reader.new) (W.has_failed writer.new) result }
 {
-    match region_of(alloc, header.chunks) {
-        Ok(new) => {
-            let mut region = new;
-            on_region(
-                alloc,
-                header,
-                region.as_mut_slice(),
-                held,
-                reader,
-                writer,
-                audits,
-            )
-        }
-        Err(_) => only(writer, NO_MEMORY, End::NoRoom),
-    }
+    floors_tell_counts();
+    runs_keep_numbers();
+    requests_are_answered();
+    let Ok(mut region) = region_of(alloc, header.chunks) else {
+        return only(writer, NO_MEMORY, End::NoRoom);
+    };
+    let Ok(mut floor) = floor_over(alloc, region.as_mut_slice(), header) else {
+        return only(writer, NO_MEMORY, End::NoRoom);
+    };
+    let end = drive(alloc, &mut floor, held, reader, writer)?;
+    finish(alloc, &floor, writer, end, audits)
 }
 
 /// Reads the header, and what follows.
