@@ -42,7 +42,7 @@ NOT_WRITTEN_FOR_IT = {"work_tests"}
 # made by the same call as the one before, so refusing each in turn would take hours and look at one step again and
 # again. In place of all, the first `DEEP_FIRST` allocations are refused and `DEEP_SPREAD` spread evenly over all.
 DEEP = {
-    "chain_tests": "long::",
+    "chain_tests": "long::,a_long_list",
     "desk_tests": "deep::",
     "inbox_tests": "deep::",
     "link_tests": "deep::",
@@ -181,7 +181,7 @@ def main():
             words = [word for word in (words or WRITTEN_FOR_IT.get(name, "")).split(",") if word]
             program, tests = tests_of(TOP / "crates" / name)
             tests = [test for test in tests if not words or any(word in test for word in words)]
-            deep = [test for test in tests if name in DEEP and DEEP[name] in test]
+            deep = [test for test in tests if name in DEEP and any(word in test for word in DEEP[name].split(","))]
             with concurrent.futures.ThreadPoolExecutor(len(os.sched_getaffinity(0))) as pool:
                 jobs = [
                     pool.submit(
