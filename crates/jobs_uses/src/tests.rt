@@ -1,4 +1,4 @@
-//! Tests of allocators: alone, two that share a pool, and a workload whose posts are counted.
+//! Tests of allocators: alone, two that share a pool, and a workload whose posts are counted. The words of refusals.
 
 mod again;
 mod alone;
@@ -6,6 +6,7 @@ mod counted;
 mod passing;
 mod refused;
 mod unheard;
+mod words;
 
 ghost use Rattle.std.specs.Prelude.{◌≤◌};
 

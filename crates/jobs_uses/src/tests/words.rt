@@ -1,0 +1,37 @@
+//! The numbers and the texts of refusals.
+use pool_jobs::{JobError, PoolError};
+use std::alloc::Global;
+use std::fmt::Display;
+use std::process::Abort;
+
+// How a value is printed, also where memory for that is refused once.
+fn is_printed(rt: &impl Abort, alloc: Global, value: &impl Display, text: &str) {
+    let printed = match format!(in alloc; "{value}") {
+        Ok(printed) => printed,
+        Err(_) => format!(in alloc; "{value}").expect(rt, "memory is there again"),
+    };
+    assert!(rt; printed.as_str() == text, "{text}");
+}
+
+#[test]
+fn an_allocator_says_why_there_is_no_buffer(rt: HostRuntime) {
+    for (error, number, text) in [
+        (PoolError::TooLarge, 1, "too large"),
+        (PoolError::UsedUp, 2, "the pool is used up"),
+        (PoolError::NoMemory, 3, "no memory"),
+    ] {
+        assert_eq!(rt; error.number(), number);
+        is_printed(&rt, rt.alloc(), &error, text);
+    }
+}
+
+#[test]
+fn workers_say_why_there_is_no_tally(rt: HostRuntime) {
+    for (error, number, text) in [
+        (JobError::NoMemory, 1, "no memory"),
+        (JobError::NoThread, 2, "no thread"),
+    ] {
+        assert_eq!(rt; error.number(), number);
+        is_printed(&rt, rt.alloc(), &error, text);
+    }
+}
