@@ -4,7 +4,7 @@ use region_cut::{Class, Slot};
 use std::alloc::Global;
 use std::process::Abort;
 use std::test::Fail;
-use trace_audit::{Drawn, Fault, ReplayError, audit, write_audit};
+use trace_audit::{Drawn, Failed, Fault, ReplayError, audit, write_audit};
 
 /// Chunk 0 is drawn for the class of 512 bytes, 8 slots, and no other.
 fn one_chunk(rt: &impl Abort) -> Drawn {
@@ -231,4 +231,11 @@ fn tells_error(
 fn what_an_error_says(rt: HostRuntime) -> Result<(), Fail> {
     tells_error(&rt, ReplayError::Read, 1, "read failed")?;
     tells_error(&rt, ReplayError::Write, 2, "write failed")
+}
+
+/// What is said of a read or a write that failed, by whoever reads and writes.
+#[test]
+fn what_a_failure_says(rt: HostRuntime) -> Result<(), Fail> {
+    assert!(rt; format!(in rt.alloc(); "{}", Failed)?.as_str() == "a read or a write failed");
+    Ok(())
 }
