@@ -13,3 +13,4 @@ mod replays;
 mod rows;
 mod travel;
 mod travels;
+mod whole;

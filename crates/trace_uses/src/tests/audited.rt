@@ -11,7 +11,7 @@ use trace_audit::{End, ReplayError};
 pub(crate) const YES: &[u8] = b"audit yes\n";
 
 /// The trace is whole, and its audit finds nothing wrong.
-const WHOLE: Result<Audited, ReplayError> = Ok((End::Whole, Some(Ok(()))));
+pub(crate) const WHOLE: Result<Audited, ReplayError> = Ok((End::Whole, Some(Ok(()))));
 
 /// The audited replay of the trace has this answer, and its report is this text.
 fn gives(
