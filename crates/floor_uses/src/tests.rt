@@ -13,6 +13,7 @@ mod lending;
 mod limits;
 mod listing;
 mod profiles;
+mod refused;
 mod routing;
 
 type Answer = Result<Reply, Refusal>;

@@ -6,7 +6,7 @@ use std::alloc::Global;
 use std::process::Abort;
 
 /// Buffers of 7, 11 and 27 are freed at desk 0, and go home.
-const TRAVEL: [Row; 22] = [
+pub(super) const TRAVEL: [Row; 22] = [
     (Request::Adopt(0, 0), Ok(Reply::Done)),
     (Request::Adopt(7, 1), Ok(Reply::Done)),
     (Request::Adopt(11, 2), Ok(Reply::Done)),
@@ -32,7 +32,7 @@ const TRAVEL: [Row; 22] = [
 ];
 
 /// The desks with slots after `TRAVEL`.
-const TRAVELLED: [Closing; 3] = [(7, 8, 0, 0), (11, 8, 0, 0), (27, 8, 0, 0)];
+pub(super) const TRAVELLED: [Closing; 3] = [(7, 8, 0, 0), (11, 8, 0, 0), (27, 8, 0, 0)];
 
 #[test]
 fn a_buffer_is_passed_on_digit_by_digit(rt: HostRuntime) {
