@@ -192,32 +192,42 @@ fn plays(
     });
 }
 
+// Its text, also where memory for that is refused once.
+fn is_printed(rt: &impl Abort, alloc: Global, refusal: Refusal, text: &str) {
+    let printed = match format!(in alloc; "{refusal}") {
+        Ok(printed) => printed,
+        Err(_) => format!(in alloc; "{refusal}").expect(rt, "memory is there again"),
+    };
+    assert!(rt; printed.as_str() == text, "{text}");
+}
+
 fn is_named(rt: &impl Abort, refusal: Refusal, number: u32, name: &str) {
     assert!(rt; refusal.number() == number);
     assert!(rt; refusal.name() == name);
 }
 
 #[test]
-fn refusals_have_numbers_and_names(rt: HostRuntime) {
-    for (refusal, number, name) in [
-        (Refusal::NoDesk, 1, "NoDesk"),
-        (Refusal::Idle, 2, "Idle"),
-        (Refusal::TooLarge, 3, "TooLarge"),
-        (Refusal::NeedChunk, 4, "NeedChunk"),
-        (Refusal::NotNeeded, 5, "NotNeeded"),
-        (Refusal::NoChunk, 6, "NoChunk"),
-        (Refusal::NotLent, 7, "NotLent"),
-        (Refusal::NothingFor, 8, "NothingFor"),
-        (Refusal::NotAnOwner, 9, "NotAnOwner"),
-        (Refusal::ToSelf, 10, "ToSelf"),
-        (Refusal::NoBatch, 11, "NoBatch"),
-        (Refusal::Nothing, 12, "Nothing"),
-        (Refusal::Unsettled, 13, "Unsettled"),
-        (Refusal::Held, 14, "Held"),
-        (Refusal::NoMemory, 15, "NoMemory"),
-        (Refusal::BadClass, 16, "BadClass"),
-        (Refusal::Spent, 18, "Spent"),
+fn refusals_have_numbers_names_and_texts(rt: HostRuntime) {
+    for (refusal, number, name, text) in [
+        (Refusal::NoDesk, 1, "NoDesk", "R01 NoDesk"),
+        (Refusal::Idle, 2, "Idle", "R02 Idle"),
+        (Refusal::TooLarge, 3, "TooLarge", "R03 TooLarge"),
+        (Refusal::NeedChunk, 4, "NeedChunk", "R04 NeedChunk"),
+        (Refusal::NotNeeded, 5, "NotNeeded", "R05 NotNeeded"),
+        (Refusal::NoChunk, 6, "NoChunk", "R06 NoChunk"),
+        (Refusal::NotLent, 7, "NotLent", "R07 NotLent"),
+        (Refusal::NothingFor, 8, "NothingFor", "R08 NothingFor"),
+        (Refusal::NotAnOwner, 9, "NotAnOwner", "R09 NotAnOwner"),
+        (Refusal::ToSelf, 10, "ToSelf", "R10 ToSelf"),
+        (Refusal::NoBatch, 11, "NoBatch", "R11 NoBatch"),
+        (Refusal::Nothing, 12, "Nothing", "R12 Nothing"),
+        (Refusal::Unsettled, 13, "Unsettled", "R13 Unsettled"),
+        (Refusal::Held, 14, "Held", "R14 Held"),
+        (Refusal::NoMemory, 15, "NoMemory", "R15 NoMemory"),
+        (Refusal::BadClass, 16, "BadClass", "R16 BadClass"),
+        (Refusal::Spent, 18, "Spent", "R18 Spent"),
     ] {
         is_named(&rt, refusal, number, name);
+        is_printed(&rt, rt.alloc(), refusal, text);
     }
 }
