@@ -18,9 +18,9 @@ pub use crossing::{
     batch_crosses, inbox_is_shared, rest_crosses, send_seat_crosses, take_seat_crosses,
 };
 pub use handling::take_and_handle;
-pub use posting::{Posting, add_sender, deliver, post_all};
+pub use posting::{Posting, deliver, post_all};
 pub use seating::{put_seat, take_last_seat};
 pub use supply::{OWNER, Supply, region};
-pub use taking::Taking;
+pub use taking::{Taking, take_all};
 pub use tally::{Tally, mark, mark_of};
-pub use workers::{Worker, run_all, run_beside, run_both};
+pub use workers::{Worker, add_sender, run_all, run_beside, run_both};

@@ -1,10 +1,9 @@
 //! What a sender does with its seat.
-ghost use Rattle.std.specs.Prelude.{◌≡◌, [], ◌∷◌, ◌++◌, All, MatchResult, OnOk};
+ghost use Rattle.std.specs.Prelude.{◌≡◌, [], ◌∷◌, ◌++◌, MatchResult};
 
 use crate::Worker;
 use batch_inbox::{Inbox, SendSeat};
 use digit_route::Batch;
-use slot_chain::NoMemory;
 use std::sync::Wait;
 use std::sync::atomic::{AtomicU64, Ordering};
 
@@ -81,17 +80,4 @@ impl<'r, 's> Worker for Posting<'r, 's> {
         finished.fetch_add(1, Ordering::SeqCst);
         (seat, posted)
     }
-}
-
-/// Adds a sender to those that are to run.
-pub fn add_sender<'r, 's>(
-    senders: &mut Vec<Posting<'r, 's>>,
-    sender: Posting<'r, 's>,
-) -> Result<(), NoMemory>
-    requires senders { All (λ p. p.seat.inbox ≡ p.inbox.now) senders.old.items }
-    requires sender { sender.seat.inbox ≡ sender.inbox.now }
-    ensures { OnOk result (All (λ p. p.seat.inbox ≡ p.inbox.now) senders.new.items) }
-{
-    senders.push(sender)?;
-    Ok(())
 }

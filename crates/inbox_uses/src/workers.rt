@@ -1,6 +1,7 @@
 //! Work in threads of their own. A worker names no lifetime, so that it is known in every thread.
-ghost use Rattle.std.specs.Prelude.{All};
+ghost use Rattle.std.specs.Prelude.{All, OnOk};
 
+use slot_chain::NoMemory;
 use std::alloc::AllocError;
 use std::sync::Wait;
 use std::thread;
@@ -19,6 +20,16 @@ pub trait Worker {
     fn run<R: Wait>(self, rt: &R) -> Self::Done
         requires { ready self }
         ensures { gives self result };
+}
+
+/// Adds a sender to those that are to run.
+pub fn add_sender<W: Worker + Drop>(senders: &mut Vec<W>, sender: W) -> Result<(), NoMemory>
+    requires senders { All W.ready senders.old.items }
+    requires sender { W.ready sender }
+    ensures { OnOk result (All W.ready senders.new.items) }
+{
+    senders.push(sender)?;
+    Ok(())
 }
 
 /// Runs each worker in a thread of its own, and joins them all.

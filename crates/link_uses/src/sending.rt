@@ -1,10 +1,9 @@
 //! What a sender does with its seat.
-ghost use Rattle.std.specs.Prelude.{◌≡◌, None, [], ◌∷◌, ◌++◌, All, MatchResult, OnOk};
+ghost use Rattle.std.specs.Prelude.{◌≡◌, None, [], ◌∷◌, ◌++◌, MatchResult};
 
 use digit_route::Batch;
 use inbox_uses::Worker;
 use link_inbox::{LinkInbox, SendSeat};
-use slot_chain::NoMemory;
 use std::sync::Wait;
 use std::sync::atomic::{AtomicU64, Ordering};
 use std::thread;
@@ -98,18 +97,4 @@ impl<'r, 's> Worker for Sending<'r, 's> {
         finished.fetch_add(1, Ordering::SeqCst);
         seat
     }
-}
-
-/// Adds a sender to those that are to run.
-pub fn add_sender<'r, 's>(
-    senders: &mut Vec<Sending<'r, 's>>,
-    sender: Sending<'r, 's>,
-) -> Result<(), NoMemory>
-    requires senders { All (λ p. (p.seat.inbox ≡ p.inbox.now) × (p.seat.half ≡ None)) senders.old.items }
-    requires sender { (sender.seat.inbox ≡ sender.inbox.now) × (sender.seat.half ≡ None) }
-    ensures { OnOk result
-        (All (λ p. (p.seat.inbox ≡ p.inbox.now) × (p.seat.half ≡ None)) senders.new.items) }
-{
-    senders.push(sender)?;
-    Ok(())
 }

@@ -1,9 +1,8 @@
 //! What a receiver does with its seat.
-use inbox_uses::{Tally, Worker};
+use inbox_uses::{Tally, Worker, take_all};
 use link_inbox::{LinkInbox, TakeSeat};
 use std::sync::Wait;
-use std::sync::atomic::{AtomicU64, Ordering};
-use std::thread;
+use std::sync::atomic::AtomicU64;
 
 /// A receiver that takes until all senders have finished and nothing is left.
 #[derive(Drop)]
@@ -32,14 +31,7 @@ impl<'r, 's> Worker for Taking<'r, 's> {
             senders,
             mut tally,
         } = self;
-        for _ in rt.forever() {
-            let all = finished.load(Ordering::SeqCst) == senders;
-            match inbox.take(&mut seat) {
-                Some(batch) => tally.add(batch),
-                None if all => break,
-                None => thread::yield_now(),
-            }
-        }
+        take_all(rt, inbox, &mut seat, finished, senders, &mut tally);
         (seat, tally)
     }
 }
