@@ -285,7 +285,9 @@ def main():
     parser.add_argument("--jobs", type=int, default=len(os.sched_getaffinity(0)))
     parser.add_argument("crates", nargs="*", metavar="CRATE[:EDIT,..]")
     given = parser.parse_args()
-    wanted = {name: set(filter(None, names.split(","))) for name, _, names in (it.partition(":") for it in given.crates)}
+    wanted = {}
+    for name, _, names in (it.partition(":") for it in given.crates):
+        wanted.setdefault(name, set()).update(filter(None, names.split(",")))
     of_crate, bad = collections.defaultdict(list), 0
     for path in sorted(it for folder in FOLDERS for it in TOP.glob(f"crates/*/{folder}/*.edit")):
         crate = path.parent.parent.name
