@@ -5,7 +5,7 @@ ghost use Rattle.region_cut.specs.Parts.{AreNumbered, name_of, bytes_of};
 ghost use Rattle.digit_route.specs.Limits.{largest_limit};
 ghost use Rattle.event_floor.specs.Floors.{desk_count};
 ghost use Rattle.event_floor.specs.Steps.{Answers};
-ghost use Rattle.event_floor.specs.headline.Bytes.{Holds, KeepsBytes, EndsAsHeld};
+ghost use Rattle.event_floor.specs.headline.Bytes.{Holds, HoldsSome, KeepsBytes, EndsAsHeld};
 ghost use Rattle.event_floor.specs.headline.Headline.{Applies, Headline, Shows};
 ghost use Rattle.event_floor.specs.headline.EndsKnown.{EndsKnown};
 ghost use Rattle.event_floor.specs.headline.Listing.{listing_of};
@@ -37,13 +37,14 @@ impl<'r> Model for Floor<'r> {
 
     ghost Value = { FloorState };
 
+    ghost use Rattle.event_floor.specs.headline.Bytes.{HoldsSome};
     ghost use Rattle.event_floor.specs.headline.Headline.{Shows};
     ghost use Rattle.event_floor.specs.headline.Names.{IsNamed};
     ghost use Rattle.event_floor.specs.headline.Whole.{IsWhole};
 
     ghost view = { λ f. f.lists };
 
-    ghost invariant = { λ f. IsWhole f.lists × Shows f.lists × IsNamed f.lists };
+    ghost invariant = { λ f. IsWhole f.lists × Shows f.lists × IsNamed f.lists × HoldsSome f.lists };
 }
 
 impl<'r> Floor<'r> {
@@ -179,6 +180,7 @@ impl<'r> Floor<'r> {
     fn keeps(&self)
         ensures shows { Shows self.now }
         ensures named { IsNamed self.now }
+        ensures held { HoldsSome self.now }
     {
         let _lists = &self.lists;
     }

@@ -8,6 +8,8 @@ mod asking;
 #[cfg(test)]
 mod ending;
 #[cfg(test)]
+mod handing;
+#[cfg(test)]
 mod opening;
 #[cfg(test)]
 mod tests;
@@ -16,5 +18,7 @@ mod tests;
 pub use asking::ask;
 #[cfg(test)]
 pub use ending::{Answers, Life, leaves_as_it_was, lives};
+#[cfg(test)]
+pub use handing::hand_out;
 #[cfg(test)]
 pub use opening::open;

@@ -1,5 +1,5 @@
 -- No request changes a byte.
-use Rattle.std.proofs.Common.{◌≡◌, ◌≢◌, ℕ, zero, suc, ◌+◌, ◌*◌, ◌<◌, ◌⊎◌, List, [], ◌∷◌, ◌++◌, map, flat_map, length, take, drop, get_or, All, Ok, Err, inl, inr, refl, sym, ap, ◌∙◌, subst, arith, ⊎_elim, IsPermutation}
+use Rattle.std.proofs.Common.{◌≡◌, ◌≢◌, ℕ, zero, suc, ◌+◌, ◌*◌, ◌<◌, ◌⊎◌, List, [], ◌∷◌, ◌++◌, map, flat_map, length, take, drop, get_or, All, Ok, Err, inl, inr, refl, sym, ap, ap₂, ◌∙◌, subst, arith, ⊎_elim, IsPermutation}
 use Rattle.std.specs.Borrow.{GName}
 use Rattle.std.specs.List.{slice_get}
 use Rattle.std.proofs.Math.Nat.{suc-mul}
@@ -13,6 +13,7 @@ use Rattle.region_cut.specs.Carved.{Carved}
 use Rattle.region_cut.specs.Classes.{size_of, slots_of}
 use Rattle.region_cut.specs.Laws.{StandsAt}
 use Rattle.region_cut.specs.Parts.{bytes_of}
+use Rattle.region_cut.specs.Ranges.{start_of}
 use Rattle.region_cut.specs.declared.part.Part.{Part}
 use Rattle.slot_chain.specs.Buffer.{Buffer}
 use Rattle.pool_desk.specs.Homes.{AtHome, Unused, TakesNext, taken_next, unused_from}
@@ -30,7 +31,7 @@ use Rattle.event_floor.specs.declared.any_desk.AnyDesk.{AnyDesk}
 use Rattle.digit_route.specs.Digits.{Scheme}
 use Rattle.event_floor.specs.Steps.{Answers}
 use Rattle.event_floor.specs.Steps.{Does, DrawsChunk, LendsSlot}
-use Rattle.event_floor.specs.headline.Bytes.{LieAt, RestLies, Holds, IsKept, KeepsBytes}
+use Rattle.event_floor.specs.headline.Bytes.{LieAt, RestLies, Holds, HoldsSome, IsKept, KeepsBytes, FreshBytesStay}
 use Rattle.event_floor.specs.headline.EndsKnown.{buffers_of, fresh_of}
 use Rattle.event_floor.specs.headline.Names.{HasName, HasNoName, IsNamedHome, AreNames, IsNamed}
 use Rattle.event_floor.proofs.headline.Everywhere.{Everywhere, OfDesk, IsHome, everywhere, buffers_everywhere, fresh_everywhere, chunks_everywhere, adopt_everywhere, retire_everywhere, link_everywhere, send_everywhere, free_everywhere, take_everywhere, claim_everywhere, alloc_everywhere}
@@ -289,11 +290,28 @@ unfolding IsNamed
 stays_held v w q (Ok r) region n d h = does_hold region n.0 v w q r n.1 h d
 stays_held v w q (Err r) region n d h = subst (λ f. Holds f region) (sym d.1) h
 
-pub keeps_bytes : (old w : FloorState) → KeptSince old w → ((region : List ℕ) → Holds old region → Holds w region) → KeepsBytes old w
-keeps_bytes old w h f = record { buffers = buffers_everywhere (IsKept (buffers_of old)) (HasNone (buffers_of old)) AnyChunk w h.kept; region = f }
+pub stays_held_some : (v w : FloorState) (q : Request) (y : Answer) → IsNamed v → Answers v q y w → HoldsSome v → HoldsSome w
+unfolding HoldsSome
+stays_held_some v w q y n d h = (h.0, stays_held v w q y h.0 n d h.1)
 
-pub step_keeps_bytes : (v w : FloorState) (q : Request) (y : Answer) → IsNamed v → Answers v q y w → KeepsBytes v w
-step_keeps_bytes v w q y n d = keeps_bytes v w (stays_kept v v w q y n (start_kept v n) d) (λ region h. stays_held v w q y region n d h)
+pub keeps_bytes : (old w : FloorState) → KeptSince old w → HoldsSome old → ((region : List ℕ) → Holds old region → Holds w region) → KeepsBytes old w
+keeps_bytes old w h s f = record {
+  buffers = buffers_everywhere (IsKept (buffers_of old)) (HasNone (buffers_of old)) AnyChunk w h.kept;
+  held = s;
+  region = f;
+}
+
+pub step_keeps_bytes : (v w : FloorState) (q : Request) (y : Answer) → IsNamed v → HoldsSome v → Answers v q y w → KeepsBytes v w
+step_keeps_bytes v w q y n s d = keeps_bytes v w (stays_kept v v w q y n (start_kept v n) d) s (λ region h. stays_held v w q y region n d h)
+
+same_range : (region xs ys : List ℕ) (s t : Slot) (c d : ℕ) → LieAt region s c xs → LieAt region t d ys → s ≡ t → c ≡ d → length xs ≡ length ys → xs ≡ ys
+same_range region xs ys s t c d h g e f n =
+    sym h ∙ (ap (λ k. take k (drop (start_of s c) region)) n ∙ (ap₂ (λ x k. take (length ys) (drop (start_of x k) region)) e f ∙ g))
+
+pub fresh_stay : FreshBytesStay
+unfolding HoldsSome
+fresh_stay old new h = λ i d l. λ j x m. λ e f n.
+    same_range h.held.0 _ _ _ _ _ _ ((h.region h.held.0 h.held.1).buffers j x m) (h.held.1.fresh i d l) e f n
 
 -- ---- a new floor
 
@@ -326,3 +344,7 @@ opening_holds desks parts digits limit tail =
       rests = chunks_everywhere (BufferLies region) (FreshLies region) (RestLies region) v e;
       undrawn = subst (λ bs. StandsAt bs 0 region) (sym (flat_of_map parts)) (stands_there (flat_map bytes_of parts) tail);
     }
+
+pub opening_holds_some : (desks : ℕ) (parts : List Part) (digits : Scheme) (limit : ℕ) → HoldsSome (opening desks parts digits limit)
+unfolding HoldsSome
+opening_holds_some desks parts digits limit = (flat_map bytes_of parts ++ [], opening_holds desks parts digits limit [])

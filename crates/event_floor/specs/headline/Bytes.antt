@@ -29,6 +29,10 @@ pub record Holds (v : FloorState) (region : List ℕ) : Type 0 where
   pub rests : All (RestLies region) (flat_map chunks_of v.desks)
   pub undrawn : StandsAt (flat_map (λ (bs : List ℕ). bs) v.undrawn) (chunk_size * length v.drawn) region
 
+-- the floor holds the bytes of some region
+unfoldable pub HoldsSome : FloorState → Type 0
+HoldsSome v = (region : List ℕ) × Holds v region
+
 -- the same slot of the same class and owner, and the same slice: its bytes now, and its name
 abbrev pub IsSameSlice : Buffer → Buffer → Type 0
 IsSameSlice b c = (c.slot ≡ b.slot) × (c.class ≡ b.class) × (c.owner ≡ b.owner) × (c.bytes ≡ b.bytes)
@@ -37,11 +41,21 @@ IsSameSlice b c = (c.slot ≡ b.slot) × (c.class ≡ b.class) × (c.owner ≡ b
 abbrev pub IsKept : List Buffer → Buffer → Type 0
 IsKept olds b = Any (IsSameSlice b) olds ⊎ All (λ (c : Buffer). c.slot ≢ b.slot) olds
 
--- No byte is changed: each buffer is one of the old ones, or that of a slot that was never handed out, and the floor
--- still holds the bytes of whatever region it held.
+-- No byte is changed: each buffer is one of the old ones, or that of a slot that was never handed out; the floor held
+-- the bytes of some region, and still holds those of whatever region it held.
 pub record KeepsBytes (old new : FloorState) : Type 0 where
   pub buffers : All (IsKept (buffers_of old)) (buffers_of new)
+  pub held : HoldsSome old
   pub region : (region : List ℕ) → Holds old region → Holds new region
+
+-- a buffer of this slot, of its class and as long, has the bytes that lay there
+abbrev pub HasWhatLay : Unused → Buffer → Type 0
+HasWhatLay u b = b.slot ≡ u.slot → b.class ≡ u.class → length b.bytes.now ≡ length u.bytes → b.bytes.now ≡ u.bytes
+
+-- so it is of each slot that was never handed out before
+abbrev pub FreshBytesStay : Type 0
+FreshBytesStay = (old new : FloorState) → KeepsBytes old new
+    → All (λ (u : Unused). All (HasWhatLay u) (buffers_of new)) (fresh_of old)
 
 -- Once the floor is ended, its parts, joined in order, are the beginning of whatever region it held.
 abbrev pub EndsAsHeld : FloorState → List Ended → Type 0

@@ -1,6 +1,7 @@
 //! Which way batches go. Desks 0, 7, 11 and 27 are read in digits of 2 bits as 0,0,0, 3,1,0, 3,2,0 and 3,2,1, the least
 //! digit first; in digits of 4 bits desks 17 and 33 are 1,1 and 1,2.
 use super::{Answer, Closing, Row, closes, is_answer, on_floor, plays, pool, slot};
+use crate::hand_out;
 use event_floor::{Floor, Refusal, Reply, Request};
 use std::alloc::Global;
 use std::process::Abort;
@@ -134,11 +135,11 @@ fn are_answers(rt: &impl Abort, answers: &[Answer], rows: &[Row]) -> bool {
 
 // All at once. Where there was no memory for the answers, nothing is asked, and the next try works.
 fn run(rt: &impl Abort, alloc: Global, floor: &mut Floor<'_>, requests: &[Request]) -> Vec<Answer> {
-    match floor.run(alloc, requests) {
+    match hand_out(alloc, floor, requests) {
         Ok(answers) => answers,
         Err(_) => {
             closes(rt, floor, 64, &[], (0, 0));
-            let answers = floor.run(alloc, requests).ok();
+            let answers = hand_out(alloc, floor, requests).ok();
             answers.expect(rt, "memory is there again")
         }
     }

@@ -1,7 +1,7 @@
 use Rattle.std.proofs.Common.{◌≡◌, ◌≤◌, ◌++◌, length, flat_map, sym, subst, ap, ◌∙◌}
 use Rattle.region_cut.specs.Parts.{bytes_of}
 use Rattle.event_floor.specs.Floors.{FloorState, IsFloor, desk_count, opening}
-use Rattle.event_floor.specs.headline.Bytes.{Holds}
+use Rattle.event_floor.specs.headline.Bytes.{Holds, HoldsSome}
 use Rattle.event_floor.specs.headline.Headline.{Shows}
 use Rattle.event_floor.specs.headline.Listing.{listing_of}
 use Rattle.event_floor.specs.headline.Names.{IsNamed}
@@ -11,7 +11,7 @@ use Rattle.pool_machine.specs.State.{opening as machine_opening}
 use Rattle.event_floor.proofs.ChunkLaws.{numbered_few}
 use Rattle.event_floor.proofs.FloorLaws.{new_desks_length}
 use Rattle.event_floor.proofs.headline.Keeping.{opening_named}
-use Rattle.event_floor.proofs.headline.Kept.{opening_holds}
+use Rattle.event_floor.proofs.headline.Kept.{opening_holds, opening_holds_some}
 use Rattle.event_floor.proofs.headline.Runs.{opening_shows}
 use Rattle.event_floor.proofs.headline.Wholes.{opening_whole, shows_opening}
 use Rattle.event_floor.proofs.floor.Floor.over.Goals as goal
@@ -21,11 +21,12 @@ invariant_of-result c =
     let parts = c.args.parts.items in
     let e : c.in_ok-lists.lists ≡ opening c.args.desks parts c.args.digits c.args.limit = c.in_ok-lists.ensures.opening in
     let few : length parts ≤ 1024 = numbered_few parts c.requires.parts in
-    subst (λ (v : FloorState). IsWhole v × Shows v × IsNamed v) (sym e) (
+    subst (λ (v : FloorState). IsWhole v × Shows v × IsNamed v × HoldsSome v) (sym e) (
       opening_whole c.args.desks parts c.args.digits c.args.limit few
           (subst (λ (v : FloorState). IsFloor v.digits v.limit v.chunks v.desks v.lent v.inboxes v.next) e c.keeps.ensures),
       opening_shows c.args.desks parts c.args.digits c.args.limit c.profile-profile.ensures.scheme c.requires.few,
       opening_named c.args.desks parts c.args.digits c.args.limit,
+      opening_holds_some c.args.desks parts c.args.digits c.args.limit,
     )
 
 pub returns-clause-shows : goal.returns-clause-shows

@@ -48,7 +48,7 @@ returns-clause-headline c =
     (subst (λ qs. AppliesAll c.args.self.now qs c.loop-request.answers.items c.loop-request.self) (take_all c.loop-request.request-index c.args.requests.now c.loop-request-test.false) c.loop-request.invariant.applied)
 
 pub returns-clause-bytes : goal.returns-clause-bytes
-returns-clause-bytes c = keeps_bytes c.args.self.now c.loop-request.self c.loop-request.invariant.kept c.loop-request.invariant.held
+returns-clause-bytes c = keeps_bytes c.args.self.now c.loop-request.self c.loop-request.invariant.kept c.keeps.ensures.held c.loop-request.invariant.held
 
 pub returns-in_err-answers-clause-bytes : goal.returns-in_err-answers-clause-bytes
-returns-in_err-answers-clause-bytes c = keeps_bytes c.args.self.now c.args.self.now (start_kept c.args.self.now c.keeps.ensures.named) (λ region h. h)
+returns-in_err-answers-clause-bytes c = keeps_bytes c.args.self.now c.args.self.now (start_kept c.args.self.now c.keeps.ensures.named) c.keeps.ensures.held (λ region h. h)

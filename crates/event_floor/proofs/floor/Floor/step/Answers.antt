@@ -4,6 +4,7 @@ use Rattle.event_floor.specs.Steps.{Answers}
 use Rattle.event_floor.specs.headline.Headline.{Applies}
 use Rattle.event_floor.proofs.StepLaws.{answers_of}
 use Rattle.event_floor.proofs.headline.Keeping.{stays_named}
+use Rattle.event_floor.proofs.headline.Kept.{stays_held_some}
 use Rattle.event_floor.proofs.headline.Runs.{step_applies, step_shows}
 use Rattle.event_floor.proofs.headline.Wholes.{stays_whole, stays_over}
 use Rattle.event_floor.proofs.floor.Floor.step.Goals as goal
@@ -19,6 +20,7 @@ invariant_of-self c =
       stays_whole v w c.args.request y k.0 m c.keeps.ensures,
       step_shows v w c.args.request y (step_applies v w c.args.request y k.0 m) k.1,
       stays_named v w c.args.request y k.1 k.2 m,
+      stays_held_some v w c.args.request y k.2 m k.3,
     )
 
 pub returns-clause-applies : goal.returns-clause-applies
