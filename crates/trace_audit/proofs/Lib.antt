@@ -3,6 +3,7 @@ mod Numbers
 mod Closings
 mod Cuts
 mod Fronts
+mod FirstLines
 mod Openings
 mod Plays
 mod Finishes

@@ -9,18 +9,11 @@ use Rattle.pool_machine.specs.State.{State}
 use Rattle.trace_audit.specs.Trace.{EndsTrace, BeginsWithRequest, BeginsWithHeader}
 use Rattle.trace_audit.specs.Report.{bad_line}
 use Rattle.trace_audit.specs.Replay.{Answered, HoldsOfAll, ReportsTrace}
-use Rattle.trace_audit.specs.Steps.{EndsSo, IsBadFront, IsBadHeader}
+use Rattle.trace_audit.specs.Steps.{EndsSo, IsBadFront}
 use Rattle.trace_audit.specs.declared.grammar.header.Header.{Header}
 use Rattle.trace_audit.specs.declared.replaying.ending.End.{End}
 use Rattle.trace_audit.specs.declared.replaying.ending.End.TheVariants.{Whole, BadLine, NoRoom}
-
-bad_whole : (bytes more : List ℕ) (at_end : Type 0) → (at_end → more ≡ []) → IsBadFront bytes at_end → BeginsWithRequest (bytes ++ more) → ⊥
-bad_whole bytes more at_end none (inl f) b = f more b
-bad_whole bytes more at_end none (inr (ends, f)) b = f (subst BeginsWithRequest (ap (λ w. bytes ++ w) (none ends) ∙ append-nil bytes) b)
-
-bad_header_whole : (bytes more : List ℕ) (at_end : Type 0) → (at_end → more ≡ []) → IsBadHeader bytes at_end → BeginsWithHeader (bytes ++ more) → ⊥
-bad_header_whole bytes more at_end none (inl f) b = f more b
-bad_header_whole bytes more at_end none (inr (ends, f)) b = f (subst BeginsWithHeader (ap (λ w. bytes ++ w) (none ends) ∙ append-nil bytes) b)
+use Rattle.trace_audit.proofs.FirstLines.{bad_whole}
 
 some_more : (xs ys : List ℕ) → (xs ≡ [] → ⊥) → xs ++ ys ≡ [] → ⊥
 some_more [] ys h e = h refl
@@ -29,7 +22,7 @@ some_more (x ∷ xs) ys h e = cc
 -- how a trace ends, from how what was read ends
 pub trace_ends : (n : ℕ) (rest more : List ℕ) (at_end : Type 0) (end : End) → (at_end → more ≡ []) → EndsSo n rest at_end end → EndsTrace n (rest ++ more) end
 trace_ends n rest more at_end Whole none (low, over, ends) = ap₂ (λ (x y : List ℕ). x ++ y) over (none ends)
-trace_ends n rest more at_end (BadLine k) none (low, some, number, inl bad) = (some_more rest more some, number, inl (bad_whole rest more at_end none bad))
+trace_ends n rest more at_end (BadLine k) none (low, some, number, inl bad) = (some_more rest more some, number, inl (bad_whole BeginsWithRequest rest more at_end none bad))
 trace_ends n rest more at_end (BadLine k) none (low, some, number, inr full) = (some_more rest more some, number, inr full)
 trace_ends n rest more at_end NoRoom none h = h
 
@@ -55,9 +48,9 @@ as_report bytes P n rest (BadLine k) e r = inl r
 as_report bytes P n rest NoRoom e r = absurd e
 
 -- no good header line stands first
-pub bad_header : (left0 left : Option (List ℕ)) (given : List ℕ) → Consumes left0 left given → IsBadHeader given (IsAtEnd left) → (P : List ℕ → Type 0) → P (bad_line 1)
+pub bad_header : (left0 left : Option (List ℕ)) (given : List ℕ) → Consumes left0 left given → IsBadFront BeginsWithHeader given (IsAtEnd left) → (P : List ℕ → Type 0) → P (bad_line 1)
     → HoldsOfAll left0 left (λ bytes. ReportsTrace bytes P (BadLine 1))
-bad_header left0 left given read bad P p = (given, read, λ more none. inr (refl, (λ b. bad_header_whole given more (IsAtEnd left) none bad b), p))
+bad_header left0 left given read bad P p = (given, read, λ more none. inr (refl, (λ b. bad_whole BeginsWithHeader given more (IsAtEnd left) none bad b), p))
 
 -- a good one does, and there is no room for the pool
 pub no_room : (first left : Option (List ℕ)) (h : Header) (held : List ℕ) → IsHeader h → Consumes first left (header_line h ++ held) → (P : List ℕ → Type 0) → P (codes "R15 NoMemory" ++ 10 ∷ [])

@@ -16,7 +16,7 @@ use Rattle.region_cut.specs.declared.slot.Slot.{Slot}
 use Rattle.trace_audit.specs.Limits.{held_limit, request_limit}
 use Rattle.trace_audit.specs.FloorCounts.{Tally, tally_lines, told}
 use Rattle.trace_audit.specs.Report.{answer_line, audit_line, bad_line, Verdict}
-use Rattle.trace_audit.specs.Trace.{BeginsWithHeader, BeginsWithRequest}
+use Rattle.trace_audit.specs.Trace.{BeginsWithRequest}
 use Rattle.trace_audit.specs.Replay.{FindsNothing, IsAudited, IsPartial, Replays, ReplaysAudited}
 use Rattle.trace_audit.specs.Words.{Lacks, request_line}
 use Rattle.trace_audit.specs.Wire.{Begins}
@@ -46,15 +46,9 @@ Took bytes held at_end Over = (bytes ≡ []) × (held ≡ []) × at_end
 Took bytes held at_end Bad = (bytes ≡ held) × Lacks 10 held
     × ((held_limit ≤ length held) ⊎ ((0 < length held) × at_end))
 
--- no good header line stands at the front, however the input goes on, or as it ends here
-abbrev pub IsBadHeader : List ℕ → Type 0 → Type 0
-IsBadHeader bytes at_end = ((more : List ℕ) → BeginsWithHeader (bytes ++ more) → ⊥)
-    ⊎ (at_end × (BeginsWithHeader bytes → ⊥))
-
--- no good request line stands at the front, however the input goes on, or as it ends here
-abbrev pub IsBadFront : List ℕ → Type 0 → Type 0
-IsBadFront bytes at_end = ((more : List ℕ) → BeginsWithRequest (bytes ++ more) → ⊥)
-    ⊎ (at_end × (BeginsWithRequest bytes → ⊥))
+-- no good line stands at the front, however the input goes on, or as it ends here
+abbrev pub IsBadFront : (Good : List ℕ → Type 0) → List ℕ → Type 0 → Type 0
+IsBadFront Good bytes at_end = ((more : List ℕ) → Good (bytes ++ more) → ⊥) ⊎ (at_end × (Good bytes → ⊥))
 
 -- What one line came to, or where the reader or the writer failed within it: the floor goes from old to new, the
 -- writer's bytes from out0 to out.
@@ -65,7 +59,7 @@ Turned bytes held at_end old new out0 out (Ok turns.Answered) = (r : Request) ×
 Turned bytes held at_end old new out0 out (Ok turns.Over) =
     (bytes ≡ []) × (held ≡ []) × at_end × (new ≡ old) × (out ≡ out0)
 Turned bytes held at_end old new out0 out (Ok turns.Bad) =
-    (bytes ≢ []) × IsBadFront bytes at_end × (new ≡ old) × (out ≡ out0)
+    (bytes ≢ []) × IsBadFront BeginsWithRequest bytes at_end × (new ≡ old) × (out ≡ out0)
 Turned bytes held at_end old new out0 out (Err Read) = (bytes ≡ held) × IsPartial held × (new ≡ old) × (out ≡ out0)
 Turned bytes held at_end old new out0 out (Err Write) = (r : Request) × (x : Answer) × IsRequest r
     × (bytes ≡ request_line r ++ held) × Applies old r x new × Begins out0 out (answer_line x)
@@ -93,7 +87,7 @@ pub record Played (left0 left : Option (List ℕ)) (held0 rest : List ℕ) (star
 abbrev pub EndsSo : ℕ → List ℕ → Type 0 → End → Type 0
 EndsSo n rest at_end Whole = (n ≤ request_limit) × (rest ≡ []) × at_end
 EndsSo n rest at_end (BadLine k) = (n ≤ request_limit) × (rest ≢ []) × (k ≡ n + 2)
-    × (IsBadFront rest at_end ⊎ (n ≡ request_limit))
+    × (IsBadFront BeginsWithRequest rest at_end ⊎ (n ≡ request_limit))
 EndsSo n rest at_end NoRoom = ⊥
 
 -- all request lines were read and answered, and how they end was found; or the reader or the writer failed before

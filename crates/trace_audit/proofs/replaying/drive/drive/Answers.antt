@@ -2,7 +2,7 @@ use Rattle.std.proofs.Common.{rules, arith, inl, inr, [], refl, ◌∙◌, appen
 use Rattle.std.specs.Io.KnownBytes.{IsAtEnd}
 use Rattle.std.proofs.KnownBytes.{Appends-trans}
 use Rattle.std.proofs.lemmas.Result.{err_from_is_err_and}
-use Rattle.trace_audit.proofs.Fronts.{not_empty}
+use Rattle.trace_audit.proofs.FirstLines.{not_empty}
 use Rattle.trace_audit.proofs.Plays.{played_start, played_more, driven_end, stopped_by, stopped_last}
 use Rattle.trace_audit.specs.Report.{answer_line}
 use Rattle.trace_audit.specs.declared.replaying.ending.End.TheVariants.{Whole, BadLine}
