@@ -19,7 +19,8 @@ use Rattle.region_cut.proofs.endings.Endings.TheLaws as EnLaws
 use Rattle.region_cut.specs.Endings.{Ended, EndingsState}
 use Rattle.region_cut.proofs.Telling.{noted_ends}
 use Rattle.desk_uses.specs.Used.{filled}
-use Rattle.desk_uses.proofs.Given.{none_of, ends_so}
+use Rattle.cut_uses.proofs.Made.{none_of}
+use Rattle.desk_uses.proofs.Given.{ends_so}
 use Rattle.desk_uses.specs.contracts.living.ended as f
 use Rattle.desk_uses.proofs.living.ended.Statement.{statement}
 use Rattle.desk_uses.proofs.living.ended.Code as code
