@@ -97,19 +97,27 @@ def take_proofs(crate, to):
         shutil.copyfile(stamp, taken)
 
 
-def rattle_program(name, words):
-    """Proves and builds a Rattle program, and runs it once with these words."""
+def lay_out(name, at):
+    """Copies a Rattle program, and the sources of the crates that it stands on, to a folder. Gives these crates, by
+    where their copies lie."""
     lines = listed(TOP / "crates.txt") | listed(HERE / "crates.txt.in")
-    names = needed(name, lines)
+    names, ours = needed(name, lines), {}
     for it in names:
         is_ours = (HERE / it).is_dir()
-        crate, to = HERE / it if is_ours else TOP / "crates" / it, WORK / "crates" / it
+        crate, to = HERE / it if is_ours else TOP / "crates" / it, at / "crates" / it
         for part in ("src", "specs", "proofs"):
             renew(crate / part, to / part)
         if not is_ours:
-            take_proofs(crate, to)
-    (WORK / "crates.txt").write_text("".join(f"{lines[it]}\n" for it in names))
-    shutil.copyfile(TOP / "HANDLES", WORK / "HANDLES")
+            ours[to] = crate
+    (at / "crates.txt").write_text("".join(f"{lines[it]}\n" for it in names))
+    shutil.copyfile(TOP / "HANDLES", at / "HANDLES")
+    return ours
+
+
+def rattle_program(name, words):
+    """Proves and builds a Rattle program, and runs it once with these words."""
+    for to, crate in lay_out(name, WORK).items():
+        take_proofs(crate, to)
     print(f"bench: building {name} in {WORK}; the first time proves it, which takes minutes", file=sys.stderr)
     with open(OUT / f"{name}.log", "w") as log:
         command = ["rt", "run", "--jobs", "1", "--", *words]
