@@ -1,12 +1,12 @@
 -- Slots that are added to a list one by one.
 use Rattle.std.proofs.Common.{◌≡◌, ℕ, zero, suc, ◌+◌, ◌-◌, ◌<◌, ◌≤◌, List, [], ◌∷◌, ◌++◌, true, refl, sym, ap, ◌∙◌, subst, arith}
-use Rattle.std.proofs.Common.{append_assoc, append-nil, IsPermutation, map, take, length, get_or, reverse}
+use Rattle.std.proofs.Common.{append_assoc, append-nil, IsPermutation, map, take, length, get_or}
 use Rattle.std.specs.Prelude.{Result, Ok, Err, OnOk, is_ok}
 use Rattle.std.specs.Result.{IsErr}
 use Rattle.std.specs.Borrow.{GName}
 use Rattle.std.specs.List.{flat_map}
 use Rattle.std.proofs.lemmas.List.Sorted.{IsPermutation-refl, IsPermutation-append}
-use Rattle.std.proofs.lemmas.List.{map-append, take_more, take_all, reverse-append}
+use Rattle.std.proofs.lemmas.List.{map-append, take_more, take_all}
 use Rattle.std.proofs.lemmas.Grind.{flat_map-append}
 use Rattle.slot_chain.specs.Slots.{AddsSlots, slot_of}
 use Rattle.pool_desk.specs.HomesState.{slots_at}

@@ -1,8 +1,6 @@
 -- The slots that a floor lists are those that the machine has there.
-use Rattle.std.proofs.Common.{◌≡◌, ℕ, zero, suc, ◌+◌, ◌<◌, ◌≤◌, Bool, cond, List, [], ◌∷◌, ◌++◌, map, filter, length, get_or, sum_by, flat_map, option_map, IsPermutation, refl, sym, ap, ap₂, ◌∙◌, subst, arith, ⊎_elim}
+use Rattle.std.proofs.Common.{◌≡◌, ℕ, zero, suc, ◌+◌, ◌<◌, cond, List, [], ◌∷◌, ◌++◌, map, length, get_or, sum_by, flat_map, option_map, IsPermutation, refl, sym, ap, ap₂, ◌∙◌, subst, arith}
 use Rattle.std.specs.List.{range_with_len}
-use Rattle.std.proofs.Math.ListN.{get_or-eq_default}
-use Rattle.std.proofs.lemmas.Bool.{cases_lt}
 use Rattle.std.proofs.lemmas.List.{length-map, map-append}
 use Rattle.std.proofs.lemmas.List.Sorted.{IsPermutation-refl, IsPermutation-append}
 use Rattle.std.proofs.lemmas.List.Sums.{sum_by-append, sum_by-cons}
@@ -16,7 +14,7 @@ use Rattle.pool_machine.proofs.Located.{inbox_listing}
 use Rattle.pool_machine.specs.Listing.{DeskListing, BatchListing, slots_seen, as_waiting, Shown}
 use Rattle.region_cut.specs.Slots.{same_slot, times}
 use Rattle.pool_machine.specs.Slots.{one_if}
-use Rattle.pool_machine.specs.State.{State, Waiting, owner_of, is_slot, slots, OnLoan, InCache, InBatch, slots_at}
+use Rattle.pool_machine.specs.State.{State, Waiting, is_slot, OnLoan, InCache, InBatch, slots_at}
 use Rattle.pool_machine.specs.SlotLists.{home_slots, queued_slots}
 use Rattle.event_floor.specs.declared.any_desk.AnyDesk.{AnyDesk}
 use Rattle.event_floor.specs.declared.any_desk.AnyDesk.TheVariants.{Idle, Held}
@@ -30,7 +28,6 @@ use Rattle.pool_machine.proofs.Joined.{located_once}
 use Rattle.pool_machine.proofs.Shown.{located}
 use Rattle.event_floor.proofs.headline.Apart.{home_slots as home_seen}
 use Rattle.event_floor.proofs.headline.Views.{desk_seen, inbox_seen}
-use Rattle.pool_machine.proofs.Words.{at_home_with}
 
 -- ---- the slots of each list
 

@@ -1,5 +1,5 @@
 -- What a floor may be refused for want of memory.
-use Rattle.std.specs.Prelude.{ℕ, ⊤}
+use Rattle.std.specs.Prelude.{⊤}
 use Rattle.pool_desk.specs.Desks.{DeskState}
 use Rattle.pool_desk.specs.Steps.{AllocFault}
 use Rattle.pool_desk.specs.declared.error.DeskError.TheVariants.{NoMemory}

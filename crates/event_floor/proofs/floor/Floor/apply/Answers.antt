@@ -1,5 +1,4 @@
-use Rattle.std.proofs.Common.{subst, Err}
-use Rattle.pool_machine.specs.declared.refusal.Refusal.TheVariants.{NoMemory}
+use Rattle.std.proofs.Common.{subst}
 use Rattle.event_floor.specs.Steps.{Answers}
 use Rattle.event_floor.proofs.headline.Lacks.{may_lack}
 use Rattle.event_floor.proofs.headline.Kept.{step_keeps_bytes}

@@ -1,7 +1,7 @@
-use Rattle.std.proofs.Common.{◌<◌, length, ◌≡◌, [], ap, ◌∙◌}
+use Rattle.std.proofs.Common.{◌<◌, length, ap, ◌∙◌}
 use Rattle.std.specs.List.{flat_map}
 use Rattle.pool_desk.specs.Homes.{HomeState}
-use Rattle.pool_desk.specs.HomesState.{home_at, slots_at, HasClass}
+use Rattle.pool_desk.specs.HomesState.{slots_at, HasClass}
 use Rattle.pool_desk.proofs.ByClassLaws.{lacking, lacks_joined, claim_keeps, claim_slots, claim_drawn}
 use Rattle.pool_desk.proofs.SetLaws.{put_back, put_claimed, put_drawn, taken_up}
 use Rattle.pool_desk.proofs.homes.Homes.claim.Goals as goal

@@ -1,4 +1,4 @@
-use Rattle.std.proofs.Common.{◌≡◌, ◌≢◌, ◌<◌, length, ◌↔◌, IsTrue, [], ◌∙◌, subst}
+use Rattle.std.proofs.Common.{◌≢◌, ◌<◌, length, ◌↔◌, IsTrue, [], ◌∙◌, subst}
 use Rattle.pool_desk.specs.Homes.{HomeState}
 use Rattle.pool_desk.specs.HomesState.{home_at}
 use Rattle.pool_desk.proofs.ByClassLaws.{some_joined, joined_some}

@@ -1,4 +1,4 @@
-use Rattle.std.proofs.Common.{◌≡◌, ◌<◌, ◌++◌, map, refl, sym, ap, ◌∙◌, arith, subst, IsPermutation}
+use Rattle.std.proofs.Common.{◌<◌, ◌++◌, map, refl, sym, ap, ◌∙◌, arith, subst, IsPermutation}
 use Rattle.std.proofs.lemmas.List.Sorted.{IsPermutation-trans, IsPermutation-append_comm}
 use Rattle.digit_route.specs.States.{BatchState}
 use Rattle.pool_desk.specs.Desks.{DeskState}
