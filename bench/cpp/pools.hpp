@@ -93,7 +93,7 @@ struct InSlots {
 // each slot has a boxed node with room for pointers to a few others: of so many and one, a list that goes to another
 // thread links one, which names the others, so that most nodes are only read there; at home each is linked
 struct InGroups {
-  static constexpr size_t OTHERS = 3;
+  static constexpr size_t OTHERS = 15;
 
   struct Node {
     uint32_t slot;

@@ -13,10 +13,10 @@ ghost use Rattle.digit_route.specs.Route.{GivesBucket};
 
 use crate::counter::{bytes_left, bytes_without};
 use crate::row::Row;
-use crate::{Batch, BatchSink, Digits, Posting, RouteError, Takers};
+use crate::{Batch, BatchSink, Digits, Posting, RouteError};
 use region_cut::Slot;
 use region_cut::endings::Endings;
-use slot_chain::{Buf, NoMemory};
+use slot_chain::{Buf, NoMemory, Takers};
 use std::marker::Model;
 use std::{fmt, mem};
 

@@ -8,11 +8,10 @@ ghost use Rattle.slot_chain.specs.Counts.{capped, sizes};
 ghost use Rattle.digit_route.specs.Limits.{width_limit};
 ghost use Rattle.slot_chain.specs.Slots.{AddsSlots, slot_of};
 
-use crate::Takers;
 use arrayvec::ArrayVec;
 use region_cut::Slot;
 use region_cut::endings::Endings;
-use slot_chain::{Buf, Chain, NoMemory};
+use slot_chain::{Buf, Chain, NoMemory, Takers};
 use std::mem;
 
 // The most values of a digit.

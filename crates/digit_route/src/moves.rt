@@ -5,9 +5,9 @@ ghost use Rattle.arrayvec.specs.ArrayVec.{array_vec_len};
 ghost use Rattle.slot_chain.specs.Counts.{capped};
 ghost use Rattle.digit_route.specs.Rows.{IsByDigit, Splits};
 
+use crate::Digits;
 use crate::chains::{Chains, push_at};
-use crate::{Digits, Takers};
-use slot_chain::Chain;
+use slot_chain::{Chain, Takers};
 
 /// Moves each buffer of `chain` into the chain of its owner's digit `round`, and counts them.
 pub(crate) fn scatter<'r>(

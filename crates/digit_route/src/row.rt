@@ -15,10 +15,10 @@ use crate::chains::{
 };
 use crate::moves::{scatter, scatter_all, split};
 use crate::walks::{fault_in, some_owner};
-use crate::{Batch, Digits, RouteError, Takers};
+use crate::{Batch, Digits, RouteError};
 use region_cut::Slot;
 use region_cut::endings::Endings;
-use slot_chain::{Buf, Chain, NoMemory};
+use slot_chain::{Buf, Chain, NoMemory, Takers};
 use std::marker::Model;
 
 /// Buffers of other desks that share the digits below `round` with the desk `number`, each in the

@@ -12,7 +12,7 @@ use crate::DeskError;
 use crate::listing::add_unused;
 use region_cut::endings::{Endings, Ties};
 use region_cut::{Bump, Class, Part, Slot};
-use slot_chain::{Buf, Chain, NoMemory, Room};
+use slot_chain::{Buf, Chain, NoMemory, Takers};
 use std::alloc::Global;
 use std::marker::Model;
 
@@ -22,6 +22,7 @@ use std::marker::Model;
 pub(crate) struct Home<'r> {
     owner: u16,
     class: Class,
+    takers: Takers,
     list: Chain<'r>,
     bump: Option<Bump<'r>>,
     ties: Ties,
@@ -54,18 +55,20 @@ impl Default for Home<'_> {
     ghost is_default = { λ h. h ≡ no_home };
 
     fn default() -> Self {
-        Home::new(0, Class::FIRST)
+        Home::new(0, Class::FIRST, Takers::SameThread)
     }
 }
 
 impl<'r> Home<'r> {
-    pub(crate) fn new(owner: u16, class: Class) -> Home<'r>
+    /// Nothing is at home. `takers` are those of the desk's lists.
+    pub(crate) fn new(owner: u16, class: Class, takers: Takers) -> Home<'r>
         requires { owner < owner_limit }
         ensures { result ≡ record { owner = owner; class = class; slots = []; drawn = [] } }
     {
         Home {
             owner,
             class,
+            takers,
             list: Chain::new(),
             bump: None,
             ties: Ties::new(),
@@ -114,7 +117,7 @@ impl<'r> Home<'r> {
         let Some(bump) = &mut self.bump else {
             return Err(DeskError::NeedChunk(self.class));
         };
-        next_slot(bump, alloc, self.class, self.owner)
+        next_slot(bump, alloc, self.takers, self.class, self.owner)
     }
 
     /// Takes an own buffer home.
@@ -158,6 +161,7 @@ impl<'r> Home<'r> {
         let Home {
             owner: _,
             class: _,
+            takers: _,
             list,
             bump,
             ties,
@@ -176,6 +180,7 @@ impl<'r> Home<'r> {
 fn next_slot<'r>(
     bump: &mut Bump<'r>,
     alloc: Global,
+    takers: Takers,
     class: Class,
     owner: u16,
 ) -> Result<Buf<'r>, DeskError>
@@ -187,7 +192,7 @@ fn next_slot<'r>(
     if bump.left() == 0 {
         return Err(DeskError::NeedChunk(class));
     }
-    let Ok(room) = Room::new(alloc) else {
+    let Ok(room) = takers.room(alloc) else {
         return Err(DeskError::NoMemory);
     };
     let Some(piece) = bump.next() else {

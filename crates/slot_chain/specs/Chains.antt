@@ -1,7 +1,8 @@
 -- The list of a chain's buffers.
-use Rattle.std.specs.Prelude.{◌≡◌, ℕ, ◌≤◌, List, [], ◌∷◌, ◌++◌, length, take}
-use Rattle.slot_chain.specs.declared.beside.Others.{Others}
-use Rattle.slot_chain.specs.declared.beside.Others.TheVariants as Beside
+use Rattle.std.specs.Prelude.{◌≡◌, ℕ, ◌≤◌, Box, List, [], ◌∷◌, ◌++◌, length, map, take, All}
+use Rattle.std.specs.Mem.{manually_drop_value}
+use Rattle.std.specs.declared.alloc.Global.{Global}
+use Rattle.std.specs.declared.mem.ManuallyDrop.{ManuallyDrop}
 use Rattle.slot_chain.specs.declared.chain.Top.{Top}
 use Rattle.slot_chain.specs.declared.chain.Top.TheVariants.{Empty, Alone, Group}
 use Rattle.slot_chain.specs.declared.node.Node.{Node}
@@ -15,18 +16,16 @@ buffer_of n = record { slot = n.slot; class = n.class; owner = n.owner; forwards
 abbrev pub IsAlone : Node → Type 0
 IsAlone n = IsBuffer (buffer_of n) × (n.below ≡ []) × (n.beside ≡ [])
 
--- those that a node names besides its own, in the order in which they came
-abbrev pub others_of : Others → List Buffer
-others_of Beside.Empty = []
-others_of (Beside.One p) = buffer_of p.value ∷ []
-others_of (Beside.Two p q) = buffer_of p.value ∷ buffer_of q.value ∷ []
-others_of (Beside.Three p q r) = buffer_of p.value ∷ buffer_of q.value ∷ buffer_of r.value ∷ []
+-- the node in a box that is not dropped by itself
+abbrev pub node_of : ManuallyDrop (Box Node Global) → Node
+node_of p = (manually_drop_value {X = Box Node Global} p).value
 
-abbrev pub others_are_alone : Others → Type 0
-others_are_alone Beside.Empty = Unit {0}
-others_are_alone (Beside.One p) = IsAlone p.value
-others_are_alone (Beside.Two p q) = IsAlone p.value × IsAlone q.value
-others_are_alone (Beside.Three p q r) = IsAlone p.value × IsAlone q.value × IsAlone r.value
+-- those that a node names besides its own, in the order in which they came
+abbrev pub others_of : List (ManuallyDrop (Box Node Global)) → List Buffer
+others_of ps = map (λ p. buffer_of (node_of p)) ps
+
+abbrev pub others_are_alone : List (ManuallyDrop (Box Node Global)) → Type 0
+others_are_alone ps = All (λ p. IsAlone (node_of p)) ps
 
 -- those below a node, its own, and those beside it, which came after it
 abbrev pub buffers_from : Node → List Buffer

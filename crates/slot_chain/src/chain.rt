@@ -126,15 +126,19 @@ impl<'r> Chain<'r> {
     /// constant time.
     ///
     /// `push` writes to the box of each buffer. Where a buffer then goes to another thread, the
-    /// cache line of its box has to move from core to core. Here the box on top names up to three
-    /// more buffers, whose own boxes are not written to: of four buffers only one is. For a list that
-    /// stays, `push` is better: [`Chain::pop`] takes fewer steps where a box names no others.
+    /// cache line of its box has to move from core to core. Here the box on top names up to fifteen
+    /// more buffers, whose own boxes are not written to: of sixteen buffers only one is. A box with
+    /// no room for others ([`crate::Room::for_one_thread`]) names none. For a list that stays, `push`
+    /// is better: [`Chain::pop`] takes fewer steps where a box names no others.
     pub fn push_beside(&mut self, buf: Buf<'r>)
         ensures { self.new ≡ self.old ++ buf.entry ∷ [] }
     {
-        match &mut self.top {
-            Top::Group(node) if node.beside.has_room() => node.beside.push(buf),
-            _ => self.begin_group(buf),
+        let left = match &mut self.top {
+            Top::Group(node) => node.beside.offer(buf),
+            _ => Some(buf),
+        };
+        if let Some(buf) = left {
+            self.begin_group(buf);
         }
     }
 
@@ -154,29 +158,56 @@ impl<'r> Chain<'r> {
     {
         match mem::replace(&mut self.top, Top::Empty) {
             Top::Empty => None,
-            Top::Alone(mut taken) => {
-                mem::swap(&mut taken.below, self);
-                Some(Buf { node: taken })
-            }
-            Top::Group(taken) => Some(self.pop_of_group(taken)),
+            Top::Alone(node) => Some(self.unlink(node)),
+            Top::Group(node) => Some(self.pop_of_group(node)),
+        }
+    }
+
+    /// Takes the buffer on top, as [`Chain::pop`] does: for a list that [`Chain::push_beside`] made,
+    /// of which most buffers are named by another's box. Such a one is taken by one write. Takes
+    /// constant time.
+    pub fn pop_beside(&mut self) -> Option<Buf<'r>>
+        ensures { MatchOption result ((self.old ≡ []) × (self.new ≡ [])) (λ b. self.old ≡ self.new ++ b ∷ []) }
+    {
+        if let Top::Group(node) = &mut self.top
+            && let Some(named) = node.beside.pop()
+        {
+            return Some(named);
+        }
+        match mem::replace(&mut self.top, Top::Empty) {
+            Top::Empty => None,
+            Top::Alone(node) | Top::Group(node) => Some(self.unlink(node)),
         }
     }
 
     // Takes the last buffer of the group that was on top, and puts back the rest.
     #[inline(never)]
-    fn pop_of_group(&mut self, group: Box<Node<'r>>) -> Buf<'r>
+    fn pop_of_group(&mut self, node: Box<Node<'r>>) -> Buf<'r>
         requires taken { self.old ≡ [] }
-        requires buffer { IsBuffer (buffer_of group.value) }
-        ensures { buffers_from group.entry.value ≡ self.new ++ result ∷ [] }
+        requires buffer { IsBuffer (buffer_of node.value) }
+        ensures { buffers_from node.entry.value ≡ self.new ++ result ∷ [] }
     {
-        let mut group = group;
-        if group.beside.is_empty() {
-            mem::swap(&mut group.below, self);
-            return Buf { node: group };
+        let mut node = node;
+        match node.beside.pop() {
+            None => self.unlink(node),
+            Some(last) => {
+                self.set_top(Top::Group(node));
+                last
+            }
         }
-        let last = group.beside.take_last();
-        self.set_top(Top::Group(group));
-        last
+    }
+
+    // Parts the box that was on top, and names no others, from what is below it.
+    #[inline]
+    fn unlink(&mut self, node: Box<Node<'r>>) -> Buf<'r>
+        requires taken { self.old ≡ [] }
+        requires buffer { IsBuffer (buffer_of node.value) }
+        requires alone { node.value.beside ≡ [] }
+        ensures { buffers_from node.entry.value ≡ self.new ++ result ∷ [] }
+    {
+        let mut taken = node;
+        mem::swap(&mut taken.below, self);
+        Buf { node: taken }
     }
 
     // Moves the top buffer, and says whether there was one.
@@ -219,7 +250,9 @@ impl<'r> Chain<'r> {
             match &at.top {
                 Top::Empty => return count,
                 Top::Alone(node) | Top::Group(node) => {
-                    count = count.saturating_add(1 + node.beside.len() as u64);
+                    count = count
+                        .saturating_add(1)
+                        .saturating_add(node.beside.len() as u64);
                     at = &node.below;
                 }
             }

@@ -17,8 +17,11 @@ pub(crate) struct Node<'r> {
     pub(crate) owner: u16,
     pub(crate) forwards: u32,
     pub(crate) lease: Lease<'r>,
-    pub(crate) below: Chain<'r>,
     pub(crate) beside: Beside<'r>,
+    // Nothing reads it. The link changes from list to list, and what stands above is read by each
+    // thread that has the buffer: 80 bytes from the beginning on, the two share no cache line of 64.
+    pub(crate) apart: [u64; 3],
+    pub(crate) below: Chain<'r>,
 }
 
 impl<'r> Node<'r> {
@@ -48,8 +51,9 @@ impl<'r> Node<'r> {
             owner: _,
             forwards: _,
             lease,
-            below,
             beside,
+            apart: _,
+            below,
         } = self;
         (lease, below, beside)
     }

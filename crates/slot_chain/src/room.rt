@@ -1,5 +1,5 @@
 //! The room that a buffer takes in memory.
-ghost use Rattle.std.specs.Prelude.{◌≡◌, ◌<◌, length};
+ghost use Rattle.std.specs.Prelude.{◌≡◌, [], ◌<◌, length};
 ghost use Rattle.region_cut.specs.Classes.{size_of};
 ghost use Rattle.region_cut.specs.Pieces.{place_of, slice_of};
 ghost use Rattle.slot_chain.specs.Buffer.{owner_limit};
@@ -34,16 +34,31 @@ impl<'r> Model for Room<'r> {
 }
 
 impl<'r> Room<'r> {
-    /// Makes an empty room. [`NoMemory`] is answered only where the allocator refused the box.
+    /// Makes an empty room: a box of 96 bytes, and in memory of its own 120 bytes for the names of
+    /// fifteen others. [`NoMemory`] is answered only where the allocator refused one of the two.
     pub fn new(alloc: Global) -> Result<Room<'r>, NoMemory> {
+        Room::beside(alloc, Beside::with_room(alloc)?)
+    }
+
+    /// The same without the names of others, for lists that stay with one thread. On a list that
+    /// goes to another, such a box is linked.
+    pub fn for_one_thread(alloc: Global) -> Result<Room<'r>, NoMemory> {
+        Room::beside(alloc, Beside::new(alloc))
+    }
+
+    // A box that names others so.
+    fn beside(alloc: Global, beside: Beside<'r>) -> Result<Room<'r>, NoMemory>
+        requires { beside ≡ [] }
+    {
         let node = Node {
             slot: Slot { chunk: 0, index: 0 },
             class: Class::FIRST,
             owner: 0,
             forwards: 0,
             lease: Lease::new(Default::default()),
+            beside,
+            apart: [0; 3],
             below: Chain::new(),
-            beside: Beside::none(),
         };
         Ok(Room {
             node: Box::new(alloc, node)?,

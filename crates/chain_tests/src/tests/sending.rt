@@ -44,6 +44,26 @@ fn a_list_to_another_keeps_its_order(rt: HostRuntime) {
     }
 }
 
+// All 256 slots of the chunk, in sixteen groups, come as they do by `pop`.
+fn take_groups(rt: &impl Abort, alloc: Global) -> Result<(), NoMemory> {
+    let class = class_for(16).expect(rt, "a class of 16 bytes");
+    let mut region = Vec::from_elem(alloc, 0u8, CHUNK)?;
+    let mut list = turned(filled(alloc, &mut region, class, 1)?);
+    for index in 0..256 {
+        let buf = list.pop_beside().expect(rt, "a buffer");
+        same(rt, "the index", u64::from(buf.slot().index), index);
+    }
+    assert!(rt; list.pop_beside().is_none());
+    Ok(())
+}
+
+#[test]
+fn groups_are_taken_in_order(rt: HostRuntime) {
+    if take_groups(&rt, rt.alloc()).is_err() {
+        assert!(rt; take_groups(&rt, rt.alloc()).is_ok());
+    }
+}
+
 fn drop_long(rt: &impl Abort, alloc: Global) -> Result<(), NoMemory> {
     let class = class_for(16).expect(rt, "a class of 16 bytes");
     let mut region = Vec::from_elem(alloc, 0u8, 400 * CHUNK)?;
