@@ -151,13 +151,14 @@ impl<'r> Row<'r> {
         end_all(chains, endings);
     }
 
-    /// Adds a buffer.
+    /// Adds a buffer to a row by the first digit.
     pub(crate) fn push(&mut self, item: Buf<'r>)
-        requires { IsLeft self.old.digits self.old.number self.old.round item }
+        requires round { self.old.round ≡ 0 }
+        requires left { IsLeft self.old.digits self.old.number self.old.round item }
         ensures same { self.new ≡ record self.old { items = self.new.items } }
         ensures items { IsPermutation (self.old.items ++ item.entry ∷ []) self.new.items }
     {
-        let k = self.digits.digit(item.owner(), self.round);
+        let k = self.digits.digit(item.owner(), 0);
         push_at(&mut self.chains, k as usize, item, self.takers);
     }
 
