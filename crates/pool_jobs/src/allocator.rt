@@ -17,9 +17,9 @@ use std::fmt;
 use std::marker::Model;
 use std::sync::Wait;
 
-// How many buffers are allocated between two looks into the inbox, where slots of each class are at
-// home all the while.
-const LOOK_EVERY: u32 = 64;
+// How many calls go by between two looks into the inbox, where slots of each class are at home all
+// the while.
+const LOOK_EVERY: u64 = 64;
 
 /// The allocator of one worker: a station of the fabric that all workers share.
 ///
@@ -33,8 +33,8 @@ pub struct Allocator<'a, 'r, M: Mailbox, T: Receiver, S: Sender, G: Gate, J: Nam
     alloc: Global,
     worker: u32,
     calls: u64,
-    // How many buffers were asked for since it looked into its inbox.
-    since_look: u32,
+    // The number of calls there had been when it last looked into its inbox for their number alone.
+    looked: u64,
     // While fewer bytes are cached, nothing is posted: 0 but after a post that was refused.
     post_from: u64,
     station: HeldStation<'r, T, S, J>,
@@ -65,7 +65,7 @@ impl<
     fn next_call(&mut self) -> u64
         ensures { self.new ≡ self.old }
     {
-        self.calls = self.calls.saturating_add(1);
+        self.calls = self.calls.wrapping_add(1);
         self.calls
     }
 
@@ -73,11 +73,10 @@ impl<
     fn is_to_look(&mut self) -> bool
         ensures { self.new ≡ self.old }
     {
-        self.since_look = self.since_look.saturating_add(1);
-        if self.since_look < LOOK_EVERY {
+        if self.calls.wrapping_sub(self.looked) < LOOK_EVERY {
             return false;
         }
-        self.since_look = 0;
+        self.looked = self.calls;
         true
     }
 
@@ -152,8 +151,8 @@ impl<
     /// Gives a buffer of at least `size` bytes. Nothing of it is cleared.
     ///
     /// It asks its desk, then takes at most 64 batches from its inbox and asks again, then claims a
-    /// chunk of the stock and asks again. At each 64th call it takes first, so that no sender waits
-    /// for it to run out of a class. It is [`PoolError::UsedUp`] only where the stock was empty then;
+    /// chunk of the stock and asks again. Once 64 calls have gone by it takes first, so that no sender
+    /// waits for it to run out of a class. It is [`PoolError::UsedUp`] only where the stock was empty then;
     /// [`PoolError::NoMemory`] only where the system refused the memory for a new buffer.
     #[inline(always)]
     pub fn alloc<R: Wait>(&mut self, rt: &R, size: usize) -> Result<Buffer<'r, J>, PoolError>
@@ -228,7 +227,7 @@ impl<
             alloc: _,
             worker,
             calls: _,
-            since_look: _,
+            looked: _,
             post_from: _,
             mut station,
         } = self;
@@ -309,7 +308,7 @@ impl<
             alloc,
             worker,
             calls: 0,
-            since_look: 0,
+            looked: 0,
             post_from: 0,
             station,
         }
