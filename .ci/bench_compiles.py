@@ -8,6 +8,7 @@ line for each program. The exit status is 1 where one has an error of its own.""
 import concurrent.futures
 import os
 import pathlib
+import re
 import subprocess
 import sys
 import tempfile
@@ -16,6 +17,9 @@ sys.dont_write_bytecode = True
 TOP = pathlib.Path(__file__).resolve().parent.parent
 sys.path.insert(0, str(TOP / "bench"))
 from harness import programs
+
+# How the compiler's errors begin, as in `src/main.rt:1:1: error[mismatched-types]: ..`; a module may be called `error` too.
+ERROR = re.compile(r"\berror(\[[a-z-]+\])?: ")
 
 WRONG = "\nfn no_number() -> u32 {\n    true\n}\n"
 
@@ -32,7 +36,7 @@ def errors(name):
             main.write(WRONG)
         command = ["rt", "check", "--jobs", "1", "--only", ""]
         run = subprocess.run(command, cwd=crate, capture_output=True, text=True)
-    return [line for line in (run.stdout + run.stderr).splitlines() if "error" in line]
+    return [line for line in (run.stdout + run.stderr).splitlines() if ERROR.search(line)]
 
 
 def main():
