@@ -1,10 +1,9 @@
 -- The list of a chain's buffers.
-use Rattle.std.specs.Prelude.{◌≡◌, ℕ, ◌≤◌, Box, List, [], ◌∷◌, ◌++◌, length, map, take, All}
+use Rattle.std.specs.Prelude.{◌≡◌, ℕ, ◌≤◌, Box, List, [], ◌∷◌, ◌++◌, length, map, take, All, Option, Some, None}
 use Rattle.std.specs.Mem.{manually_drop_value}
 use Rattle.std.specs.declared.alloc.Global.{Global}
 use Rattle.std.specs.declared.mem.ManuallyDrop.{ManuallyDrop}
-use Rattle.slot_chain.specs.declared.chain.Top.{Top}
-use Rattle.slot_chain.specs.declared.chain.Top.TheVariants.{Empty, Alone, Group}
+use Rattle.slot_chain.specs.declared.link.Link.{Link}
 use Rattle.slot_chain.specs.declared.node.Node.{Node}
 use Rattle.slot_chain.specs.Buffer.{Buffer, IsBuffer}
 
@@ -31,25 +30,32 @@ others_are_alone ps = All (λ p. IsAlone (node_of p)) ps
 abbrev pub buffers_from : Node → List Buffer
 buffers_from n = n.below ++ buffer_of n ∷ n.beside
 
-abbrev pub buffers_of : Top → List Buffer
-buffers_of Empty = []
-buffers_of (Alone p) = buffers_from p.value
-buffers_of (Group p) = buffers_from p.value
+abbrev pub buffers_at : Option Node → List Buffer
+buffers_at None = []
+buffers_at (Some n) = buffers_from n
 
--- a node that is alone on top has nothing beside it
-abbrev pub top_is_buffer : Top → Type 0
-top_is_buffer Empty = Unit {0}
-top_is_buffer (Alone p) = IsBuffer (buffer_of p.value) × (p.value.beside ≡ [])
-top_is_buffer (Group p) = IsBuffer (buffer_of p.value)
+abbrev pub buffers_of : Link Node → List Buffer
+buffers_of l = buffers_at l.value
 
--- what a walk has still to show: of those beside the top node the first n, and all the others
-abbrev pub to_show : Top → ℕ → List Buffer
-to_show Empty n = []
-to_show (Alone p) n = p.value.below ++ buffer_of p.value ∷ take n p.value.beside
-to_show (Group p) n = p.value.below ++ buffer_of p.value ∷ take n p.value.beside
+abbrev pub node_is_buffer : Option Node → Type 0
+node_is_buffer None = Unit {0}
+node_is_buffer (Some n) = IsBuffer (buffer_of n)
 
--- beside the top node are n at least
-abbrev pub has_beside : Top → ℕ → Type 0
-has_beside Empty n = Unit {0}
-has_beside (Alone p) n = n ≤ length p.value.beside
-has_beside (Group p) n = n ≤ length p.value.beside
+abbrev pub top_is_buffer : Link Node → Type 0
+top_is_buffer l = node_is_buffer l.value
+
+-- what a walk has still to show: of those beside the top node the first k, and all the others
+abbrev pub shown_at : Option Node → ℕ → List Buffer
+shown_at None k = []
+shown_at (Some n) k = n.below ++ buffer_of n ∷ take k n.beside
+
+abbrev pub to_show : Link Node → ℕ → List Buffer
+to_show l k = shown_at l.value k
+
+-- beside the top node are k at least
+abbrev pub has_at : Option Node → ℕ → Type 0
+has_at None k = Unit {0}
+has_at (Some n) k = k ≤ length n.beside
+
+abbrev pub has_beside : Link Node → ℕ → Type 0
+has_beside l k = has_at l.value k

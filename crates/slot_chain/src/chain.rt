@@ -1,5 +1,5 @@
 //! Lists of buffers, linked through the boxes that they lie in.
-ghost use Rattle.std.specs.Prelude.{◌≡◌, [], ◌∷◌, ◌++◌, length, map, MatchOption, MatchBool, IsTrue, ◌↔◌, OnOk, OnErr};
+ghost use Rattle.std.specs.Prelude.{◌≡◌, ◌<◌, [], ◌∷◌, ◌++◌, length, map, MatchOption, MatchBool, IsTrue, ◌↔◌, OnOk, OnErr};
 ghost use Rattle.slot_chain.specs.Buffer.{Buffer, IsBuffer, ended_of};
 ghost use Rattle.slot_chain.specs.Chains.{buffer_of, buffers_from, buffers_of, top_is_buffer};
 ghost use Rattle.slot_chain.specs.Counts.{capped, sizes};
@@ -7,6 +7,7 @@ ghost use Rattle.slot_chain.specs.Slots.{AddsSlots, slot_of};
 
 use crate::buf::Buf;
 use crate::error::NoMemory;
+use crate::link::Link;
 use crate::node::Node;
 use crate::walk::Walk;
 use region_cut::Slot;
@@ -22,19 +23,7 @@ use std::{fmt, mem};
 #[must_use]
 #[cycle(chain)]
 pub struct Chain<'r> {
-    pub(crate) top: Top<'r>,
-}
-
-// What is on top of a chain. Its variant tells whether others may be beside the box on top, so that
-// a list that stays with its thread needs no look at that.
-#[derive(Drop)]
-#[cycle(chain)]
-pub(crate) enum Top<'r> {
-    Empty,
-    // a box that names no others
-    Alone(Box<Node<'r>>),
-    // a box that may name others
-    Group(Box<Node<'r>>),
+    pub(crate) top: Link<Node<'r>>,
 }
 
 impl<'r> Model for Chain<'r> {
@@ -59,18 +48,13 @@ impl<'r> Model for Chain<'r> {
 // A loop, so that a long chain takes no depth.
 impl Drop for Chain<'_> {
     fn drop(mut self) {
-        loop {
-            let Chain { top } = self;
-            match top {
-                Top::Empty => return,
-                Top::Alone(node) | Top::Group(node) => {
-                    let (lease, below, beside) = Box::into_inner(node).into_parts();
-                    drop(lease);
-                    drop(beside);
-                    self = below;
-                }
-            }
+        while !self.top.is_empty() {
+            let (lease, below, beside) = Box::into_inner(self.into_box()).into_parts();
+            drop(lease);
+            drop(beside);
+            self = below;
         }
+        self.close();
     }
 }
 
@@ -87,7 +71,27 @@ impl<'r> Chain<'r> {
     pub fn new() -> Chain<'r>
         ensures { result ≡ [] }
     {
-        Chain { top: Top::Empty }
+        Chain { top: Link::empty() }
+    }
+
+    #[inline]
+    fn into_top(self) -> Link<Node<'r>>
+        ensures list { buffers_of result ≡ self.entry }
+        ensures buffer { top_is_buffer result }
+    {
+        let Chain { top } = self;
+        top
+    }
+
+    // The box on top, with all that is below it.
+    #[inline]
+    fn into_box(self) -> Box<Node<'r>>
+        requires { 0 < length self }
+        ensures list { buffers_from result.value ≡ self.entry }
+        ensures buffer { IsBuffer (buffer_of result.value) }
+    {
+        let alloc = self.top.get().alloc;
+        self.into_top().into_box(alloc)
     }
 
     /// Lets an empty chain go.
@@ -95,21 +99,18 @@ impl<'r> Chain<'r> {
     pub(crate) fn close(self)
         requires { self ≡ [] }
     {
-        let Chain { top } = self;
-        match top {
-            Top::Empty => {}
-            _ => unreachable!(),
-        }
+        self.into_top().close();
     }
 
     // Gives an empty chain its top. There is nothing to drop, and none is looked for.
     #[inline]
-    fn set_top(&mut self, top: Top<'r>)
+    fn set_top(&mut self, node: Box<Node<'r>>)
         requires empty { self.old ≡ [] }
-        requires buffer { top_is_buffer top }
-        ensures { self.new ≡ buffers_of top.entry }
+        requires buffer { IsBuffer (buffer_of node.value) }
+        ensures { self.new ≡ buffers_from node.entry.value }
     {
-        mem::forget(mem::replace(&mut self.top, top));
+        let top = Link::of(node);
+        mem::replace(self, Chain { top }).close();
     }
 
     /// Puts a buffer on top, in a box of its own: for a list that stays with its thread. Takes
@@ -119,7 +120,7 @@ impl<'r> Chain<'r> {
     {
         let Buf { mut node } = buf;
         mem::swap(&mut node.below, self);
-        self.set_top(Top::Alone(node));
+        self.set_top(node);
     }
 
     /// Puts a buffer on top, as [`Chain::push`] does: for a list that goes to another thread. Takes
@@ -133,22 +134,25 @@ impl<'r> Chain<'r> {
     pub fn push_beside(&mut self, buf: Buf<'r>)
         ensures { self.new ≡ self.old ++ buf.entry ∷ [] }
     {
-        let left = match &mut self.top {
-            Top::Group(node) => node.beside.offer(buf),
-            _ => Some(buf),
-        };
-        if let Some(buf) = left {
-            self.begin_group(buf);
+        if let Some(buf) = self.offer(buf) {
+            self.push(buf);
         }
     }
 
-    // Puts a buffer on top, in a box beside which others may come.
-    fn begin_group(&mut self, buf: Buf<'r>)
-        ensures { self.new ≡ self.old ++ buf.entry ∷ [] }
+    // Lets the box on top name a buffer, where there is one with room.
+    #[inline]
+    fn offer(&mut self, buf: Buf<'r>) -> Option<Buf<'r>>
+        ensures { MatchOption result
+            (self.new ≡ self.old ++ buf.entry ∷ [])
+            (λ b. (b ≡ buf.entry) × (self.new ≡ self.old)) }
     {
-        let Buf { node: mut first } = buf;
-        mem::swap(&mut first.below, self);
-        self.set_top(Top::Group(first));
+        if self.is_empty() {
+            return Some(buf);
+        }
+        let mut node = mem::replace(self, Chain::new()).into_box();
+        let left = node.beside.offer(buf);
+        self.set_top(node);
+        left
     }
 
     /// Takes the buffer on top, which came last, or `None` where there is none. Takes constant
@@ -156,58 +160,20 @@ impl<'r> Chain<'r> {
     pub fn pop(&mut self) -> Option<Buf<'r>>
         ensures { MatchOption result ((self.old ≡ []) × (self.new ≡ [])) (λ b. self.old ≡ self.new ++ b ∷ []) }
     {
-        match mem::replace(&mut self.top, Top::Empty) {
-            Top::Empty => None,
-            Top::Alone(node) => Some(self.unlink(node)),
-            Top::Group(node) => Some(self.pop_of_group(node)),
+        if self.is_empty() {
+            return None;
         }
-    }
-
-    /// Takes the buffer on top, as [`Chain::pop`] does: for a list that [`Chain::push_beside`] made,
-    /// of which most buffers are named by another's box. Such a one is taken by one write. Takes
-    /// constant time.
-    pub fn pop_beside(&mut self) -> Option<Buf<'r>>
-        ensures { MatchOption result ((self.old ≡ []) × (self.new ≡ [])) (λ b. self.old ≡ self.new ++ b ∷ []) }
-    {
-        if let Top::Group(node) = &mut self.top
-            && let Some(named) = node.beside.pop()
-        {
-            return Some(named);
-        }
-        match mem::replace(&mut self.top, Top::Empty) {
-            Top::Empty => None,
-            Top::Alone(node) | Top::Group(node) => Some(self.unlink(node)),
-        }
-    }
-
-    // Takes the last buffer of the group that was on top, and puts back the rest.
-    #[inline(never)]
-    fn pop_of_group(&mut self, node: Box<Node<'r>>) -> Buf<'r>
-        requires taken { self.old ≡ [] }
-        requires buffer { IsBuffer (buffer_of node.value) }
-        ensures { buffers_from node.entry.value ≡ self.new ++ result ∷ [] }
-    {
-        let mut node = node;
+        let mut node = mem::replace(self, Chain::new()).into_box();
         match node.beside.pop() {
-            None => self.unlink(node),
-            Some(last) => {
-                self.set_top(Top::Group(node));
-                last
+            None => {
+                mem::swap(&mut node.below, self);
+                Some(Buf { node })
+            }
+            Some(named) => {
+                self.set_top(node);
+                Some(named)
             }
         }
-    }
-
-    // Parts the box that was on top, and names no others, from what is below it.
-    #[inline]
-    fn unlink(&mut self, node: Box<Node<'r>>) -> Buf<'r>
-        requires taken { self.old ≡ [] }
-        requires buffer { IsBuffer (buffer_of node.value) }
-        requires alone { node.value.beside ≡ [] }
-        ensures { buffers_from node.entry.value ≡ self.new ++ result ∷ [] }
-    {
-        let mut taken = node;
-        mem::swap(&mut taken.below, self);
-        Buf { node: taken }
     }
 
     // Moves the top buffer, and says whether there was one.
@@ -246,17 +212,14 @@ impl<'r> Chain<'r> {
     {
         let mut count = 0u64;
         let mut at = self;
-        loop {
-            match &at.top {
-                Top::Empty => return count,
-                Top::Alone(node) | Top::Group(node) => {
-                    count = count
-                        .saturating_add(1)
-                        .saturating_add(node.beside.len() as u64);
-                    at = &node.below;
-                }
-            }
+        while !at.top.is_empty() {
+            let node = at.top.get();
+            count = count
+                .saturating_add(1)
+                .saturating_add(node.beside.len() as u64);
+            at = &node.below;
         }
+        count
     }
 
     /// The sum of the sizes of the buffers in bytes, each that of its class, or the greatest `u64`
@@ -277,10 +240,7 @@ impl<'r> Chain<'r> {
     pub fn is_empty(&self) -> bool
         ensures { IsTrue result ↔ (self.now ≡ []) }
     {
-        match self.top {
-            Top::Empty => true,
-            _ => false,
-        }
+        self.top.is_empty()
     }
 
     /// Lets go all buffers: it is then known what each ends as. Takes a walk over them.
@@ -297,9 +257,10 @@ impl<'r> Chain<'r> {
     pub fn walk(&self) -> Walk<'_, 'r>
         ensures { result ≡ self.now }
     {
-        let others = match &self.top {
-            Top::Empty | Top::Alone(_) => 0,
-            Top::Group(node) => node.beside.len(),
+        let others = if self.top.is_empty() {
+            0
+        } else {
+            self.top.get().beside.len()
         };
         Walk {
             at: &self.top,

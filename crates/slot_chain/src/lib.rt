@@ -15,6 +15,7 @@ mod chain;
 mod error;
 mod into_iter;
 mod lease;
+mod link;
 mod node;
 mod room;
 mod takers;

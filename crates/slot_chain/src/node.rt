@@ -6,6 +6,7 @@ use crate::chain::Chain;
 use crate::lease::Lease;
 use crate::walk::Tag;
 use region_cut::{Class, Slot};
+use std::alloc::Global;
 
 // One buffer, the chain below it, and the buffers beside it, which came after it. A node belongs to
 // its buffer, also while that is in no chain or beside another: then nothing is below and nothing
@@ -17,11 +18,14 @@ pub(crate) struct Node<'r> {
     pub(crate) owner: u16,
     pub(crate) forwards: u32,
     pub(crate) lease: Lease<'r>,
-    pub(crate) beside: Beside<'r>,
-    // Nothing reads it. The link changes from list to list, and what stands above is read by each
-    // thread that has the buffer: 80 bytes from the beginning on, the two share no cache line of 64.
-    pub(crate) apart: [u64; 3],
+    // Nothing reads it. What stands behind changes from list to list, and what stands before is read
+    // by each thread that has the buffer: with 80 bytes between the two beginnings they share no cache
+    // line of 64, wherever a box lies.
+    pub(crate) apart: [u64; 6],
     pub(crate) below: Chain<'r>,
+    pub(crate) beside: Beside<'r>,
+    // by which the box goes back. It takes no bytes
+    pub(crate) alloc: Global,
 }
 
 impl<'r> Node<'r> {
@@ -51,9 +55,10 @@ impl<'r> Node<'r> {
             owner: _,
             forwards: _,
             lease,
-            beside,
             apart: _,
             below,
+            beside,
+            alloc: _,
         } = self;
         (lease, below, beside)
     }

@@ -34,7 +34,7 @@ impl<'r> Model for Room<'r> {
 }
 
 impl<'r> Room<'r> {
-    /// Makes an empty room: a box of 96 bytes, and in memory of its own 120 bytes for the names of
+    /// Makes an empty room: a box of 112 bytes, and in memory of its own 120 bytes for the names of
     /// fifteen others. [`NoMemory`] is answered only where the allocator refused one of the two.
     pub fn new(alloc: Global) -> Result<Room<'r>, NoMemory> {
         Room::beside(alloc, Beside::with_room(alloc)?)
@@ -56,9 +56,10 @@ impl<'r> Room<'r> {
             owner: 0,
             forwards: 0,
             lease: Lease::new(Default::default()),
-            beside,
-            apart: [0; 3],
+            apart: [0; 6],
             below: Chain::new(),
+            beside,
+            alloc,
         };
         Ok(Room {
             node: Box::new(alloc, node)?,

@@ -1,5 +1,6 @@
 //! Walks over chains that only look.
-use crate::chain::Top;
+use crate::link::Link;
+use crate::node::Node;
 use region_cut::{Class, Slot};
 use std::fmt;
 use std::marker::Model;
@@ -20,7 +21,7 @@ pub struct Tag {
 #[derive(Drop)]
 pub struct Walk<'a, 'r> {
     // the top of the chain that is still to be shown
-    pub(crate) at: &'a Top<'r>,
+    pub(crate) at: &'a Link<Node<'r>>,
     // how many of those beside that node are to be shown
     pub(crate) others: usize,
 }
@@ -49,18 +50,19 @@ impl<'a, 'r> Iterator for Walk<'a, 'r> {
     ghost remaining = { item_count (λ buffers. buffers) };
 
     fn next(&mut self) -> Option<Tag> {
-        match self.at {
-            Top::Empty => None,
-            Top::Alone(node) | Top::Group(node) => match node.beside.last_of(self.others) {
-                Some(other) => {
-                    self.others -= 1;
-                    Some(other.tag())
-                }
-                None => {
-                    *self = node.below.walk();
-                    Some(node.tag())
-                }
-            },
+        if self.at.is_empty() {
+            return None;
+        }
+        let node = self.at.get();
+        match node.beside.last_of(self.others) {
+            Some(other) => {
+                self.others -= 1;
+                Some(other.tag())
+            }
+            None => {
+                *self = node.below.walk();
+                Some(node.tag())
+            }
         }
     }
 }

@@ -50,10 +50,10 @@ fn take_groups(rt: &impl Abort, alloc: Global) -> Result<(), NoMemory> {
     let mut region = Vec::from_elem(alloc, 0u8, CHUNK)?;
     let mut list = turned(filled(alloc, &mut region, class, 1)?);
     for index in 0..256 {
-        let buf = list.pop_beside().expect(rt, "a buffer");
+        let buf = list.pop().expect(rt, "a buffer");
         same(rt, "the index", u64::from(buf.slot().index), index);
     }
-    assert!(rt; list.pop_beside().is_none());
+    assert!(rt; list.pop().is_none());
     Ok(())
 }
 
