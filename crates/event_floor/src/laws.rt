@@ -17,8 +17,8 @@ pub fn floors_list_slots()
     ensures { FloorsListSlots }
 {}
 
-/// A buffer of a slot that was never handed out before a call of `Floor::run` or `Floor::apply` has, after it, the bytes
-/// that lay there: both are those of the region that the floor holds.
+/// A buffer of a slot that was never handed out before a call of `Floor::run` or `Floor::apply` has,
+/// after it, the bytes that lay there: both are those of the region that the floor holds.
 pub fn fresh_bytes_stay()
     ensures { FreshBytesStay }
 {}

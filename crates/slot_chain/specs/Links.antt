@@ -1,4 +1,5 @@
--- What a link owns: where it leads to a value, that value in a block of the heap and the right to free the block. Else it is null, and owns nothing.
+-- What a link owns: where it leads to a value, that value in a block of the heap and the right to free the block. Else
+-- it is null, and owns nothing.
 use Rattle.std.specs.Prelude.{Option, Some, None}
 use base.Fml.{Lft, Fml, ftrue, feq, fex, fsep}
 use denote.RattleType.{RattleType}

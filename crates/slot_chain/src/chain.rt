@@ -1,5 +1,6 @@
 //! Lists of buffers, linked through the boxes that they lie in.
-ghost use Rattle.std.specs.Prelude.{◌≡◌, ◌<◌, [], ◌∷◌, ◌++◌, length, map, MatchOption, MatchBool, IsTrue, ◌↔◌, OnOk, OnErr};
+ghost use Rattle.std.specs.Prelude.{◌≡◌, ◌<◌, ◌↔◌, [], ◌∷◌, ◌++◌, length, map, IsTrue};
+ghost use Rattle.std.specs.Prelude.{MatchOption, MatchBool, OnOk, OnErr};
 ghost use Rattle.slot_chain.specs.Buffer.{Buffer, IsBuffer, ended_of};
 ghost use Rattle.slot_chain.specs.Chains.{buffer_of, buffers_from, buffers_of, top_is_buffer};
 ghost use Rattle.slot_chain.specs.Counts.{capped, sizes};

@@ -41,7 +41,8 @@ abbrev parts : Former {0} → Former {0}
 parts g = pair (const Ptr) (or (const (Unit {0})) g)
 
 abbrev pub the_former : Former {0} → Former {0}
-the_former g = via (parts g) (λ X. Link (g.Of X)) (λ X d. (d.at, cases d.value)) (λ X v. record { at = v.0; value = joined v.1 })
+the_former g = via (parts g) (λ X. Link (g.Of X)) (λ X d. (d.at, cases d.value))
+    (λ X v. record { at = v.0; value = joined v.1 })
     (λ X d i. record { at = d.at; value = joined-cases d.value i }) (λ X v i. (v.0, cases-joined v.1 i))
 
 abbrev pub the_weighed : {g : Former {0}} → Weighed g → Weighed (the_former g)
@@ -62,22 +63,33 @@ module _ (R S : RattleType) (h : R.Denot → S.Denot) where
   abbrev mapped : Link R.Denot → Link S.Denot
   mapped = (the_former this).map R.Denot S.Denot h
 
-  owned : Alike R S h → (p : Ptr) (o : Option R.Denot) → link_owns S p (mapped (record { at = p; value = o })).value ≡ link_owns R p o
-  owned a p None = refl
-  owned a p (Some x) = λ i. fsep (testable p) (fsep (lies_placed R S h a full_share p x i) (frees (raw (lone (a.mir_same i))) p))
+  abbrev linked : Ptr → Option R.Denot → Link R.Denot
+  linked p o = record { at = p; value = o }
 
-  lent : Alike R S h → (p : Ptr) (o : Option R.Denot) → link_lent S p (mapped (record { at = p; value = o })).value ≡ link_lent R p o
+  owned : Alike R S h → (p : Ptr) (o : Option R.Denot)
+      → link_owns S p (mapped (linked p o)).value ≡ link_owns R p o
+  owned a p None = refl
+  owned a p (Some x) =
+      λ i. fsep (testable p) (fsep (lies_placed R S h a full_share p x i) (frees (raw (lone (a.mir_same i))) p))
+
+  lent : Alike R S h → (p : Ptr) (o : Option R.Denot)
+      → link_lent S p (mapped (linked p o)).value ≡ link_lent R p o
   lent a p None = refl
   lent a p (Some x) = λ i. beside (said (testable p)) (lent_at_placed R S h a p x i)
+
+  -- the link's one field, without what it owns behind it
+  abbrev plain : RattleType
+  plain = Struct (shape (C.the_type R))
 
   pub the_places : Alike R S h → Alike (C.the_row R) (C.the_row S) mapped
   the_places a = record {
     mir_same = refl;
-    own_same = λ d i vs. fsep ((Struct (shape (C.the_type R))).own_val (to (C.the_type R) d) vs) (owned a d.at d.value i);
-    shr_same = λ d i b o. beside ((Struct (shape (C.the_type R))).shr_at (to (C.the_type R) d) b o) (lent a d.at d.value i);
+    own_same = λ d i vs. fsep (plain.own_val (to (C.the_type R) d) vs) (owned a d.at d.value i);
+    shr_same = λ d i b o. beside (plain.shr_at (to (C.the_type R) d) b o) (lent a d.at d.value i);
   }
 
-  codes : Recodes R S h → (p : Ptr) (o : Option R.Denot) → (C.the_row S).coded.code (mapped (record { at = p; value = o })) ≡ (C.the_row R).coded.code (record { at = p; value = o })
+  codes : Recodes R S h → (p : Ptr) (o : Option R.Denot)
+      → (C.the_row S).coded.code (mapped (linked p o)) ≡ (C.the_row R).coded.code (linked p o)
   codes e p None = refl
   codes e p (Some x) = second (first (second (e x)))
 
