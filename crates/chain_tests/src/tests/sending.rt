@@ -44,7 +44,7 @@ fn a_list_to_another_keeps_its_order(rt: HostRuntime) {
     }
 }
 
-// All 256 slots of the chunk, in sixteen groups, come as they do by `pop`.
+// All 256 slots of the chunk, in sixteen groups, come from the first to the last.
 fn take_groups(rt: &impl Abort, alloc: Global) -> Result<(), NoMemory> {
     let class = class_for(16).expect(rt, "a class of 16 bytes");
     let mut region = Vec::from_elem(alloc, 0u8, CHUNK)?;
