@@ -18,7 +18,7 @@ const SIZE: usize = 16;
 pub struct Frees {
     /// How many buffers before the owner takes from its inbox.
     pub early: usize,
-    /// Whether the stranger asks for a buffer then, twice.
+    /// Whether the stranger asks for a buffer then.
     pub asks: bool,
     /// How many buffers after that.
     pub late: usize,
@@ -78,8 +78,6 @@ fn allocate_and_free<'a, 'r, J: Naming, R: Wait>(
     free_some(rt, stranger, &mut buffers, frees.early);
     let _asked = ask(rt, owner);
     if frees.asks {
-        // at the first it is time for a look, the second finds no slot at home
-        let _due = ask(rt, stranger);
         let _asked = ask(rt, stranger);
     }
     free_some(rt, stranger, &mut buffers, frees.late);

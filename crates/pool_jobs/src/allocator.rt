@@ -35,7 +35,8 @@ pub struct Allocator<'a, 'r, M: Mailbox, T: Receiver, S: Sender, G: Gate, J: Nam
     calls: u64,
     // The number of calls there had been when it last looked into its inbox for their number alone.
     looked: u64,
-    // While fewer bytes are cached, nothing is posted: 0 but after a post that was refused.
+    // While fewer bytes are cached, nothing is posted: 0 but after a post that was refused, until
+    // the next claim.
     post_from: u64,
     station: HeldStation<'r, T, S, J>,
 }
@@ -107,7 +108,8 @@ impl<
         }
     }
 
-    // Claims a part of the stock for the class, and asks again.
+    // Claims a part of the stock for the class, and asks again. Neither at home nor in the inbox was
+    // a slot, so a post that was refused is tried again with the next buffer that is freed.
     #[cold]
     #[inline(never)]
     fn ask_after_claiming<R: Wait>(
@@ -120,6 +122,7 @@ impl<
         requires needed { LacksClass class self.old.desk.home }
         ensures { Serves J.names self.old size result self.new }
     {
+        self.post_from = 0;
         let _number = self.station.number();
         if self.station.claim(rt, self.fabric, class) {
             self.ask(size)
@@ -167,10 +170,7 @@ impl<
         }
         match self.ask(size) {
             Ok(buffer) => Ok(buffer),
-            Err(PoolError::UsedUp) => {
-                self.post_from = 0;
-                self.ask_after_taking(rt, class, size)
-            }
+            Err(PoolError::UsedUp) => self.ask_after_taking(rt, class, size),
             Err(error) => Err(error),
         }
     }
@@ -197,8 +197,8 @@ impl<
     ///
     /// Where an inbox refuses a batch, the rest stays cached, and the worker goes on. It tries again
     /// when the cache is due and has grown by a quarter, or once [`Allocator::alloc`] found no slot at
-    /// home and looked into its own inbox: so the posts that are refused cost a constant time a
-    /// buffer, over many.
+    /// home and none in its own inbox: so the posts that are refused cost a constant time a buffer,
+    /// over many.
     #[inline(always)]
     pub fn free<R: Wait>(&mut self, rt: &R, buffer: Buffer<'r, J>)
         ensures desk { SameDesk J.names self.old self.new }

@@ -36,9 +36,10 @@ fn few_posts_are_tried_again(rt: HostRuntime) -> Result<(), Fail> {
     Ok(())
 }
 
-// The first of the later buffers goes with all that is cached, the others alone.
+// The stranger finds no slot, neither at home nor in its inbox. So the first of the later buffers goes
+// with all that is cached, the others alone.
 #[test]
-fn a_take_lets_it_try_again(rt: HostRuntime) -> Result<(), Fail> {
+fn a_want_of_slots_lets_it_try_again(rt: HostRuntime) -> Result<(), Fail> {
     let frees = Frees {
         early: 16 + 148,
         asks: true,
