@@ -1,38 +1,13 @@
 -- `bytes_mut` asks `words` for the place and the length, and lends what they stand for. Assumes `Logic`.
-use Rattle.std.proofs.Common.{◌≡◌, ℕ, ◌<◌, ◌^◌, ◌*◌, List, [], ◌∷◌, ◌++◌, length, refl, ap, subst, ◌∙◌, w64}
-use Rattle.std.proofs.raw_atomic.Walks.{proved}
-use Rattle.std.proofs.VecSteps.Shapes.{after}
-use base.Fraction.{full_share}
+use Rattle.slot_chain.proofs.Names.{◌≡◌, ℕ, ◌<◌, ◌^◌, ◌*◌, List, [], ◌∷◌, ◌++◌, length, refl, ap, subst, ◌∙◌, w64, proved, after, full_share, SProp, emp, sep, wand, id⊢, apply∗, ftrue, flft, fres, fdead, GName, Incl-trans, meet_⊑_left, meet_⊑_right, fact, fact_i, named, vint, vstruct, of_list, tables, ‵, raw, ◌⊛◌, some, later, at_ret, ◌$◌, ◌∵◌, !, qed, done, move, keep, drop, use0, use1, use2, use3, split, split3, join, fsplit, fsplit3, fjoin, fpick, feq_l, flt_l, await, pick, rewrite, suffices, frame, whole, sub, agg, enter, of_opd, addr, stop, fld, no_more, and_then, first, blocks, exec, returns, alloc_all, pass_all, free_all, look_at, get, get_in, through, sets, sets_last, lands_as, env, Array, u8, RefMutOf, no, Ptr, block_ptr, ptr_val, MutRef, mut_vals, mut_Tells, plain, named_lft, MutSlice, slice_val, nothing, heard, only, calls_at, lasts, triple_of, framed, Stays, walk_of, says, stay_dropped, ends_at}
 use base.FractionLaws.{common}
 use base.Share
-use base.Logic.{SProp, emp, sep, wand, id⊢, apply∗}
-use base.Fml.{ftrue, flft, fres, fdead, GName, Incl-trans}
-use contract.BorrowLft.{meet_⊑_left, meet_⊑_right}
-use contract.Monad.{fact, fact_i}
-use mir.Syntax.{named}
-use mir.Val.{vint, vstruct, of_list}
-use contract.Running.{tables}
-use types.Kit.{‵, raw, ◌⊛◌, some, later, at_ret, ◌$◌, ◌∵◌, !, qed, done, move, keep, drop, use0, use1, use2, use3, split, split3, join, fsplit, fsplit3, fjoin, fpick, feq_l, flt_l, await, pick, rewrite, suffices, frame}
-use types.Part.{whole, sub, agg}
-use types.Run.{enter, of_opd, addr, stop, fld, no_more, and_then, first, blocks, exec, returns}
-use types.ByLocal.{alloc_all, pass_all, free_all, look_at, get, get_in, through, sets, sets_last, lands_as, env}
 use types.Tokens.{lft_new, lft_end, lft-common}
-use denote.Array.{Array}
-use denote.Builtin.{u8, RefMutOf}
-use denote.Exit.{no}
 use denote.Follow.{follows}
 use denote.Lend.{lends_again, comes_back, LentAgain}
-use denote.RawPtr.{Ptr, block_ptr, ptr_val}
-use denote.Ref.{MutBor, MutRef, mut_vals, mut_Tells}
-use denote.Signature.{plain, named_lft}
-use denote.Slice.{MutSlice, slice_val}
-use denote.Steps.{nothing, heard, only}
+use denote.Ref.{MutBor}
 use denote.Through.{renamed}
-use denote.Triple.Call.{calls_at}
-use denote.Triple.Clauses.{lasts}
-use denote.Triple.Spec.{triple_of}
-use denote.Triple.Table.{framed}
-use denote.Triple.Walked.{Stays, walk_of, says, stay_dropped, Goes-spent_ref, ends_at}
+use denote.Triple.Walked.{Goes-spent_ref}
 use Rattle.region_cut.specs.Classes.{size_of}
 use Rattle.slot_chain.specs.Buffer.{Buffer}
 use Rattle.slot_chain.specs.Loans.{with_buffer}

@@ -1,27 +1,5 @@
 -- `into_bytes` puts the two words together again, and what the lease owns is the slice. Assumes `Logic`.
-use Rattle.std.proofs.Common.{◌≡◌, List, [], ◌∷◌, ◌++◌, length, refl, ap, ◌∙◌}
-use Rattle.std.proofs.raw_atomic.Walks.{proved_at, leaves}
-use Rattle.std.proofs.VecSteps.Shapes.{after}
-use base.Logic.{SProp, emp}
-use base.Fml.{ftrue}
-use contract.Monad.{fact, fact_i}
-use contract.Running.{tables}
-use mir.Syntax.{named}
-use mir.Val.{Val}
-use prog.Wp.{WpFn}
-use types.Kit.{‵, raw, ◌⊛◌, prop, at_ret, ◌$◌, ◌∵◌, !, qed, by, move, drop, use0, split, join, fsplit, fjoin, regoal, rewrite}
-use types.Part.{whole, sub, agg}
-use types.Run.{enter, of_opd, stop, fld, no_more, and_then, first, blocks, exec, returns}
-use types.ByLocal.{alloc_all, pass_all, free_all, look_at, get, get_in, sets, sets_last, env}
-use denote.Builtin.{u8}
-use denote.Laws.{shows}
-use denote.RattleType.{RattleType, owns}
-use denote.RawPtr.{Ptr, block_ptr}
-use denote.Signature.{plain, named_lft, types_at}
-use denote.Slice.{MutSlice}
-use denote.Steps.{nothing, peeks}
-use denote.Triple.Entry.{alive}
-use denote.Triple.Walked.{Stays, stay_dropped, Goes-dropped, walk_of}
+use Rattle.slot_chain.proofs.Names.{◌≡◌, List, [], ◌∷◌, ◌++◌, length, refl, ap, ◌∙◌, proved_at, leaves, after, SProp, emp, ftrue, fact, fact_i, tables, named, Val, WpFn, ‵, raw, ◌⊛◌, prop, at_ret, ◌$◌, ◌∵◌, !, qed, by, move, drop, use0, split, join, fsplit, fjoin, regoal, rewrite, whole, sub, agg, enter, of_opd, stop, fld, no_more, and_then, first, blocks, exec, returns, alloc_all, pass_all, free_all, look_at, get, get_in, sets, sets_last, env, u8, shows, RattleType, owns, Ptr, block_ptr, plain, named_lft, types_at, MutSlice, nothing, peeks, alive, Stays, stay_dropped, Goes-dropped, walk_of}
 use Rattle.slot_chain.specs.Leases.{slice_word, lease_owns}
 use Rattle.slot_chain.specs.contracts.lease.Lease as lease_type
 use Rattle.slot_chain.proofs.Words.{lease_val, lease_told, place_told}
