@@ -1,7 +1,7 @@
 -- What the proofs of a link cite beside the names of this crate.
---     heap_handle, boxes     the heap's handle and a box of the heap, at which the library's steps go.        found     the value, where there is one
---     told     what a `&` to a link says of its pointer: it may be compared with null, which it is where there is no value
-use Rattle.slot_chain.proofs.Names.{◌≡◌, [], ◌∷◌, refl, sym, ap, subst, lit<, w64, ftrue, vint, no, RattleType, layout, ◌↔◌, Option, Some, None, IsTrue, is_some, true≢false, Lft, dnil, impl, tnil, tcons, ptr_same, Ptr, Testable, block_ptr, null_ptr, ptr_val, shadow}
+--     heap_handle, boxes     the heap's handle, and boxes of the heap.        found     the value, where there is one
+--     told     what a `&` to a link says of its pointer: it may be compared with null, which tells if there is a value
+use Rattle.slot_chain.proofs.Names.{InBlock, ◌≡◌, [], ◌∷◌, refl, sym, ap, subst, lit<, w64, ftrue, vint, no, RattleType, layout, ◌↔◌, Option, Some, None, IsTrue, is_some, true≢false, Lft, dnil, impl, tnil, tcons, ptr_same, Ptr, Testable, block_ptr, null_ptr, ptr_val, shadow}
 pub use mir.Raw.{raw as bare}
 pub use mir.MapTy.{inst_fn}
 pub use denote.Struct.OwningLaws.{Tells-lowered}
@@ -15,32 +15,30 @@ pub use Rattle.std.proofs.alloc.Calls.{Al, handle_tells, Goes-blank}
 pub use Rattle.std.proofs.impls.GlobalAllocator.TheImpl.Met.{passed}
 pub use Rattle.slot_chain.specs.Links.{frees, testable, link_owns, link_lent}
 pub use Rattle.slot_chain.specs.contracts.link.Link.{the_row as Lk, the_type as the_link}
-pub use Rattle.std.specs.contracts.alloc.Global.{the_row as heap_row}
+pub use Rattle.std.specs.contracts.alloc.Global.{the_row as heap}
 use Rattle.std.proofs.alloc.Global.TheLaws as heap_laws
 use Rattle.std.specs.contracts.boxed.Box as box
 use Rattle.std.proofs.boxed.Box.TheLaws as box_laws
 
 abbrev pub heap_handle : Al
 heap_handle =
-    let row = arg (bare (layout heap_row)) no heap_row in
-    let laws = arg_laws (bare (layout heap_row)) no heap_row heap_laws.the_row_laws refl in
+    let bits = bare (layout heap) in let row = arg bits no heap in
     let drops = impl ("slot_chain::Destruct++none::drop" ∷ []) (tcons (layout row) tnil) dnil in
-    record { row = row; laws = laws; g = ghosts; d = dict; drops = drops }
+    record { row = row; laws = arg_laws bits no heap heap_laws.the_row_laws refl; g = ghosts; d = dict; drops = drops }
 
 abbrev pub boxes : (T : RattleType) → Laws T → Al
 boxes T L =
-    let laws = box_laws.the_row_laws T heap_row ghosts L heap_laws.the_row_laws in
-    record heap_handle { row = box.the_row T heap_row ghosts; laws = laws; g = record { dealloc_token = λ a σ p. ftrue } }
+    let laws = box_laws.the_row_laws T heap ghosts L heap_laws.the_row_laws in
+    record heap_handle { row = box.the_row T heap ghosts; laws = laws; g = record { dealloc_token = λ a σ p. ftrue } }
 
 pub found : {X : Type 0} (m : Option X) → ¬ (m ≡ None) → (x : X) × (m ≡ Some x)
 found None n = absurd (n refl)
 found (Some x) n = (x, refl)
 
-abbrev Told : {X : Type 0} → Ptr → Option X → Type 0
-Told p m = Testable p × (IsTrue (ptr_same (ptr_val p) (vint w64 0)) ↔ (m ≡ None))
-
-pub told : (R : RattleType) (p : Ptr) (m : Option R.Denot) (κ : Lft) → shadow (link_lent R p m κ) → Told p m
-told R p None κ e = subst (λ q. Told {X = R.Denot} q None) (sym e) (lit< tt, (λ _. refl, λ _. refl))
+pub told : (R : RattleType) (p : Ptr) (m : Option R.Denot) (κ : Lft) → shadow (link_lent R p m κ)
+    → Testable p × (IsTrue (ptr_same (ptr_val p) (vint w64 0)) ↔ (m ≡ None))
+told R null_ptr None κ e = (lit< tt, (λ _. refl, λ _. refl))
+told R (block_ptr b o) None κ e = absurd (subst InBlock e tt)
 told R (block_ptr b o) (Some x) κ s =
     (s.0.0, (λ e. absurd (true≢false (sym e)), λ e. absurd (true≢false (ap is_some e))))
 told R null_ptr (Some x) κ s = absurd s.1.0

@@ -1,6 +1,6 @@
 -- `into_box` makes the box again. Assumes `Logic`.
 use Rattle.slot_chain.proofs.Names.{vstruct, vcons, vnil, ptr_val, ◌≡◌, List, [], ◌∷◌, ◌++◌, refl, sym, ap, ◌∙◌, subst, Option, Some, None, proved_at, after, a_type, Val, vptr, full_share, SProp, ent, emp, never, id⊢, fst∗, ftrue, flft, WpFn, sem, ‵, raw, ◌⊛◌, some, later, at_ret, ◌$◌, ◌∵◌, !, qed, done, group, move, keep, drop, split, split3, join, fsplit, fjoin, pick, suffices, use0, use1, await, rewrite, feq_i, stop, fld, of_opd, no_more, and_then, first, blocks, exec, returns, enter, alloc_all, pass_all, free_all, look_at, get, get_in, sets, lands_last, env, sub, whole, fact, fact_i, tables, ◌⊑◌, ⊑_static, yes, no, RattleType, owns, types_at, plain, RawPtr-laws, Ptr, block_ptr, null_ptr, in_a_block, nothing, heard, layout, Lasts, lasts, triple_of, calls_at_last, framed, Stays, stay_dropped, walk_of, says, ends_at, Goes-dropped, peeks, shows}
-use Rattle.slot_chain.proofs.LinkSteps.{heap_row, bare, inst_fn, param, layouts, glues, box_owns, frees, link_owns, handle_tells, passed, Lk, the_link, Tells-lowered, found, heap_handle, boxes, param_laws}
+use Rattle.slot_chain.proofs.LinkSteps.{heap, bare, inst_fn, param, layouts, glues, box_owns, frees, link_owns, handle_tells, passed, Lk, the_link, Tells-lowered, found, heap_handle, boxes, param_laws}
 use Rattle.std.proofs.boxed.Box.from_raw.Met.{met}
 use Rattle.std.specs.contracts.boxed.Box.from_raw as callee
 use Rattle.slot_chain.specs.contracts.link.Link.into_box as f
@@ -11,7 +11,7 @@ pub into_box_spec : {M : Type 1} → statement M
 unfolding Rattle.slot_chain.proofs.Destruct++none.drop.Code.code
 into_box_spec {M = M} 𝓤 𝓛 𝓜 𝓡 wired T L =
     let 𝓣 = tables 𝓤 𝓛.H 𝓜 𝓡 𝓡.env in let R : RattleType = param 0 T in let A = heap_handle in let Z = boxes R (param_laws 0 T L) in let En = f.ended T in let c = f.clauses T 𝓛 𝓜.mem 𝓡.returns in
-    let inst = layouts (a_type ∷ []) (T, tt) in let fn = inst_fn inst code.function in let self = plain (λ _. Lk R) in let handle = plain (λ _. heap_row) in
+    let inst = layouts (a_type ∷ []) (T, tt) in let fn = inst_fn inst code.function in let self = plain (λ _. Lk R) in let handle = plain (λ _. heap) in
     let hs : Stays En.signature.params En.kept = (stay_dropped self no, (stay_dropped handle yes, tt)) in
     let known = met 𝓤 𝓛 𝓜 𝓡 (code.calls-std_alloc::boxed::Box::from_raw 𝓡.env wired) T A.row L A.laws A.g A.d A.drops
     (passed 𝓡.env (code.calls-std_heap::GlobalAllocator::allocate 𝓡.env wired) (code.calls-std_heap::GlobalAllocator::deallocate 𝓡.env wired) (code.calls-std_heap::GlobalAllocator::grow 𝓡.env wired) (code.calls-std_heap::GlobalAllocator::shrink 𝓡.env wired) M 𝓤 𝓛 𝓜 𝓡)
