@@ -2,7 +2,7 @@
 use denote.Ref.{NamedLft}
 use denote.Param.Send.{IsSend, sendable}
 use Rattle.std.proofs.Crossing.{crosses}
-use Rattle.slot_chain.proofs.beside.Beside.TheLaws.TheKnot.{send-Beside, send-Chain, send-Node}
+use Rattle.slot_chain.proofs.below.Below.TheLaws.TheKnot.{send-Below, send-Beside, send-Node}
 use Rattle.slot_chain.proofs.lease.Lease.TheSendSync.{the_send as lease_send}
 use Rattle.slot_chain.proofs.link.Link.TheSendSync.{the_send as link_send}
 use Rattle.slot_chain.specs.contracts.chain.Chain as Chain
@@ -11,10 +11,10 @@ use Rattle.digit_route.specs.contracts.batch.Batch as Batch
 use Rattle.digit_route.specs.contracts.cache.Cache as Cache
 
 pub chain_send : (a : NamedLft) → IsSend (Chain.the_row a)
-chain_send a = search (sendable, crosses, send-Chain, link_send, lease_send) depth 40 fits 6000
+chain_send a = search (sendable, crosses, send-Node, send-Below, send-Beside, link_send, lease_send) depth 40 fits 6000
 
 pub buf_send : (a : NamedLft) → IsSend (Buf.the_row a)
-buf_send a = search (sendable, crosses, send-Node, send-Beside, chain_send, link_send, lease_send) depth 40 fits 6000
+buf_send a = search (sendable, crosses, send-Node, send-Below, send-Beside, link_send, lease_send) depth 40 fits 6000
 
 pub batch_send : (a : NamedLft) → IsSend (Batch.the_row a)
 batch_send a = search (sendable, crosses, chain_send) depth 40 fits 6000

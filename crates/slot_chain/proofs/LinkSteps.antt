@@ -1,6 +1,7 @@
 -- What the proofs of a link cite beside the names of this crate.
 --     heap_handle, boxes     the heap's handle, and boxes of the heap.        found     the value, where there is one
---     told     what a `&` to a link says of its pointer: it may be compared with null, which tells if there is a value
+--     told     what a `&` to a link says of its pointer, which is null where there is no value: it may be compared with
+--     null, and that tells if there is one
 use Rattle.slot_chain.proofs.Names.{InBlock, ◌≡◌, [], ◌∷◌, refl, sym, ap, subst, lit<, w64, ftrue, vint, no, RattleType, layout, ◌↔◌, Option, Some, None, IsTrue, is_some, true≢false, Lft, dnil, impl, tnil, tcons, ptr_same, Ptr, Testable, block_ptr, null_ptr, ptr_val, shadow}
 pub use mir.Raw.{raw as bare}
 pub use mir.MapTy.{inst_fn}
@@ -35,10 +36,10 @@ pub found : {X : Type 0} (m : Option X) → ¬ (m ≡ None) → (x : X) × (m �
 found None n = absurd (n refl)
 found (Some x) n = (x, refl)
 
-pub told : (R : RattleType) (p : Ptr) (m : Option R.Denot) (κ : Lft) → shadow (link_lent R p m κ)
+pub told : (R : RattleType) (p : Ptr) (m : Option R.Denot) (κ : Lft) → (m ≡ None → p ≡ null_ptr) → shadow (link_lent R p m κ)
     → Testable p × (IsTrue (ptr_same (ptr_val p) (vint w64 0)) ↔ (m ≡ None))
-told R null_ptr None κ e = (lit< tt, (λ _. refl, λ _. refl))
-told R (block_ptr b o) None κ e = absurd (subst InBlock e tt)
-told R (block_ptr b o) (Some x) κ s =
+told R null_ptr None κ null s = (lit< tt, (λ _. refl, λ _. refl))
+told R (block_ptr b o) None κ null s = absurd (subst InBlock (null refl) tt)
+told R (block_ptr b o) (Some x) κ null s =
     (s.0.0, (λ e. absurd (true≢false (sym e)), λ e. absurd (true≢false (ap is_some e))))
-told R null_ptr (Some x) κ s = absurd s.1.0
+told R null_ptr (Some x) κ null s = absurd s.1.0

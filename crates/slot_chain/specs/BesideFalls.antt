@@ -5,8 +5,8 @@ use Rattle.std.specs.declared.alloc.Global.{Global}
 use Rattle.std.specs.declared.mem.ManuallyDrop.{ManuallyDrop}
 use denote.Param.Weighed.{most}
 use Rattle.slot_chain.specs.declared.node.Node.{Node}
-use Rattle.slot_chain.specs.declared.beside.Beside.TheDeep.{deep-Node}
-use Rattle.slot_chain.specs.declared.beside.Beside.TheShapes.{weighed-Beside-others-at-2}
+use Rattle.slot_chain.specs.declared.below.Below.TheDeep.{deep-Node}
+use Rattle.slot_chain.specs.declared.below.Below.TheShapes.{weighed-Beside-others-at-2}
 use Rattle.slot_chain.specs.Chains.{others_of, others_are_alone, node_of, IsAlone}
 
 abbrev pub Named : Type 0

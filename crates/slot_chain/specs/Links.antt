@@ -1,9 +1,9 @@
 -- What a link owns: where it leads to a value, that value in a block of the heap and the right to free the block. Else
--- it is null, and owns nothing.
+-- it owns nothing, whatever its pointer is.
 use Rattle.std.specs.Prelude.{Option, Some, None}
-use base.Fml.{Lft, Fml, ftrue, feq, fex, fsep}
+use base.Fml.{Lft, Fml, ftrue, fex, fsep}
 use denote.RattleType.{RattleType}
-use denote.RawPtr.{Ptr, null_ptr, Testable}
+use denote.RawPtr.{Ptr, Testable}
 use denote.Sharing.{said, beside}
 use denote.Struct.Lending.{lent_at}
 use mir.Syntax.{Ty}
@@ -19,10 +19,10 @@ abbrev pub testable : Ptr → Fml
 testable p = fex (Testable p) (λ _. ftrue)
 
 abbrev pub link_owns : (R : RattleType) → Ptr → Option R.Denot → Fml
-link_owns R p None = feq Ptr p null_ptr
+link_owns R p None = ftrue
 link_owns R p (Some x) = fsep (testable p) (box_owns frees R p x)
 
 -- what a `&` to it holds
 abbrev pub link_lent : (R : RattleType) → Ptr → Option R.Denot → Lft → Fml
-link_lent R p None = said (feq Ptr p null_ptr)
+link_lent R p None = said ftrue
 link_lent R p (Some x) = beside (said (testable p)) (lent_at R p x)

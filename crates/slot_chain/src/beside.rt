@@ -1,6 +1,6 @@
 //! The buffers that a node of a chain names besides its own.
 ghost use Rattle.std.specs.Prelude.{◌≡◌, [], ◌∷◌, ◌++◌, ◌-◌, ◌<◌, ◌≤◌, length, take, MatchOption, IfOk};
-ghost use Rattle.slot_chain.specs.Chains.{buffer_of};
+ghost use Rattle.slot_chain.specs.Chains.{buffer_of, held};
 
 use crate::buf::Buf;
 use crate::error::NoMemory;
@@ -50,7 +50,7 @@ impl Drop for Beside<'_> {
 }
 
 fn let_go(node: Box<Node<'_>>)
-    requires below { node.value.below ≡ [] }
+    requires below { held node.value.below ≡ [] }
     requires beside { node.value.beside ≡ [] }
 {
     drop(Box::into_inner(node).into_lease());

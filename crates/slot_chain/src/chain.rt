@@ -1,8 +1,8 @@
 //! Lists of buffers, linked through the boxes that they lie in.
-ghost use Rattle.std.specs.Prelude.{◌≡◌, ◌<◌, ◌↔◌, [], ◌∷◌, ◌++◌, length, map, IsTrue};
+ghost use Rattle.std.specs.Prelude.{◌≡◌, ◌≢◌, ◌<◌, ◌↔◌, [], ◌∷◌, ◌++◌, length, map, IsTrue, None};
 ghost use Rattle.std.specs.Prelude.{MatchOption, MatchBool, OnOk, OnErr};
-ghost use Rattle.slot_chain.specs.Buffer.{Buffer, IsBuffer, ended_of};
-ghost use Rattle.slot_chain.specs.Chains.{buffer_of, buffers_from, buffers_of, top_is_buffer};
+ghost use Rattle.slot_chain.specs.Buffer.{Buffer, ended_of};
+ghost use Rattle.slot_chain.specs.Chains.{IsListed, buffers_from, buffers_of, is_list};
 ghost use Rattle.slot_chain.specs.Counts.{capped, sizes};
 ghost use Rattle.slot_chain.specs.Slots.{AddsSlots, slot_of};
 
@@ -13,8 +13,8 @@ use crate::node::Node;
 use crate::walk::Walk;
 use region_cut::Slot;
 use region_cut::endings::Endings;
+use std::fmt;
 use std::marker::Model;
-use std::{fmt, mem};
 
 /// A list of buffers. In contracts a chain is that list; its last buffer is on top, where
 /// [`Chain::push`], [`Chain::push_beside`] and [`Chain::pop`] work.
@@ -22,28 +22,21 @@ use std::{fmt, mem};
 /// A chain is one pointer. No call takes memory, none can fail, and none changes or copies a
 /// buffer. A chain may be dropped, with all its buffers, however long it is.
 #[must_use]
-#[cycle(chain)]
 pub struct Chain<'r> {
     pub(crate) top: Link<Node<'r>>,
 }
 
 impl<'r> Model for Chain<'r> {
-    ghost use Rattle.std.specs.Prelude.{ℕ, List, length};
+    ghost use Rattle.std.specs.Prelude.{List};
     ghost use Rattle.slot_chain.specs.Buffer.{Buffer};
 
     ghost Value = { List Buffer };
 
-    ghost use Rattle.slot_chain.specs.Chains.{buffers_of, top_is_buffer};
+    ghost use Rattle.slot_chain.specs.Chains.{buffers_of, is_list};
 
     ghost view = { λ a. buffers_of a.top };
 
-    ghost invariant = { λ a. top_is_buffer a.top };
-
-    ghost size = { length };
-
-    ghost use Rattle.std.proofs.Common.{arith, length-append};
-
-    ghost size_decreases = { λ a h. Prim.grind (arith, length-append) };
+    ghost invariant = { λ a. is_list a.top };
 }
 
 // A loop, so that a long chain takes no depth.
@@ -53,7 +46,7 @@ impl Drop for Chain<'_> {
             let (lease, below, beside) = Box::into_inner(self.into_box()).into_parts();
             drop(lease);
             drop(beside);
-            self = below;
+            self = below.into_chain();
         }
         self.close();
     }
@@ -75,10 +68,11 @@ impl<'r> Chain<'r> {
         Chain { top: Link::empty() }
     }
 
+    /// Its top alone.
     #[inline]
-    fn into_top(self) -> Link<Node<'r>>
+    pub(crate) fn into_top(self) -> Link<Node<'r>>
         ensures list { buffers_of result ≡ self.entry }
-        ensures buffer { top_is_buffer result }
+        ensures listed { is_list result }
     {
         let Chain { top } = self;
         top
@@ -89,29 +83,18 @@ impl<'r> Chain<'r> {
     fn into_box(self) -> Box<Node<'r>>
         requires { 0 < length self }
         ensures list { buffers_from result.value ≡ self.entry }
-        ensures buffer { IsBuffer (buffer_of result.value) }
+        ensures listed { IsListed result.value }
     {
         let alloc = self.top.get().alloc;
         self.into_top().into_box(alloc)
     }
 
-    /// Lets an empty chain go.
-    #[inline]
-    pub(crate) fn close(self)
+    // Lets an empty chain go.
+    #[tactic(auto, using(crate::proofs::Tops::empty_is_none))]
+    fn close(self)
         requires { self ≡ [] }
     {
         self.into_top().close();
-    }
-
-    // Gives an empty chain its top. There is nothing to drop, and none is looked for.
-    #[inline]
-    fn set_top(&mut self, node: Box<Node<'r>>)
-        requires empty { self.old ≡ [] }
-        requires buffer { IsBuffer (buffer_of node.value) }
-        ensures { self.new ≡ buffers_from node.entry.value }
-    {
-        let top = Link::of(node);
-        mem::replace(self, Chain { top }).close();
     }
 
     /// Puts a buffer on top, in a box of its own: for a list that stays with its thread. Takes
@@ -120,8 +103,10 @@ impl<'r> Chain<'r> {
         ensures { self.new ≡ self.old ++ buf.entry ∷ [] }
     {
         let Buf { mut node } = buf;
-        mem::swap(&mut node.below, self);
-        self.set_top(node);
+        node.below.set(Chain {
+            top: self.top.leave(),
+        });
+        self.top.set(Link::of(node));
     }
 
     /// Puts a buffer on top, as [`Chain::push`] does: for a list that goes to another thread. Takes
@@ -150,9 +135,12 @@ impl<'r> Chain<'r> {
         if self.is_empty() {
             return Some(buf);
         }
-        let mut node = mem::replace(self, Chain::new()).into_box();
+        let mut node = Chain {
+            top: self.top.leave(),
+        }
+        .into_box();
         let left = node.beside.offer(buf);
-        self.set_top(node);
+        self.top.set(Link::of(node));
         left
     }
 
@@ -164,14 +152,17 @@ impl<'r> Chain<'r> {
         if self.is_empty() {
             return None;
         }
-        let mut node = mem::replace(self, Chain::new()).into_box();
+        let mut node = Chain {
+            top: self.top.leave(),
+        }
+        .into_box();
         match node.beside.pop() {
             None => {
-                mem::swap(&mut node.below, self);
+                self.top.set(node.below.leave().into_top());
                 Some(Buf { node })
             }
             Some(named) => {
-                self.set_top(node);
+                self.top.set(Link::of(node));
                 Some(named)
             }
         }
@@ -212,13 +203,13 @@ impl<'r> Chain<'r> {
         ensures { result ≡ capped (length self.now) }
     {
         let mut count = 0u64;
-        let mut at = self;
-        while !at.top.is_empty() {
-            let node = at.top.get();
+        let mut at = &self.top;
+        while !at.is_empty() {
+            let node = at.get();
             count = count
                 .saturating_add(1)
                 .saturating_add(node.beside.len() as u64);
-            at = &node.below;
+            at = node.below.get();
         }
         count
     }
@@ -238,6 +229,7 @@ impl<'r> Chain<'r> {
     }
 
     /// Whether there is no buffer. Takes constant time.
+    #[tactic(auto, using(crate::proofs::Tops::empty_is_none))]
     pub fn is_empty(&self) -> bool
         ensures { IsTrue result ↔ (self.now ≡ []) }
     {
@@ -258,15 +250,7 @@ impl<'r> Chain<'r> {
     pub fn walk(&self) -> Walk<'_, 'r>
         ensures { result ≡ self.now }
     {
-        let others = if self.top.is_empty() {
-            0
-        } else {
-            self.top.get().beside.len()
-        };
-        Walk {
-            at: &self.top,
-            others,
-        }
+        Walk::from(&self.top)
     }
 
     /// Adds the slot of each buffer to the end of `slots`, in no order. Where memory for that is

@@ -9,6 +9,7 @@
 //! more buffers, so that of a list that goes to another thread few boxes are written to.
 #![tactic(auto)]
 
+mod below;
 mod beside;
 mod buf;
 mod chain;

@@ -1,13 +1,15 @@
 //! A box, or nothing, in one word.
 ghost use Rattle.std.specs.Prelude.{◌≡◌, Option, Some, None, IsTrue, ◌↔◌};
+ghost use denote.RawPtr.{null_ptr};
 ghost use Rattle.slot_chain.specs.Links.{link_owns, link_lent};
 
 use std::alloc::Global;
 use std::marker::{Model, Send};
-use std::ptr;
+use std::{mem, ptr};
 
-// `Option<Box<T>>` takes two words. Here a pointer is null where there is no box. The box is one of
-// the heap that `Global` stands for, so the link needs no allocator.
+// `Option<Box<T>>` takes two words. Here a pointer is null where there is no box, or what it was when
+// the box was moved out. The box is one of the heap that `Global` stands for, so the link needs no
+// allocator.
 pub(crate) struct Link<T> {
     at: *const T,
     pub(crate) ghost value: { Option T },
@@ -23,11 +25,35 @@ impl<T> Model for Link<T> {
 unsafe impl<T: Send> Send for Link<T> {}
 
 impl<T> Link<T> {
-    /// No box.
+    /// No box, and null.
     pub(crate) fn empty() -> Link<T>
-        ensures { result.value ≡ None }
+        ensures { result ≡ record { at = null_ptr; value = None } }
     {
         Link { at: ptr::null() }
+    }
+
+    // This pointer, with no box.
+    fn left(at: *const T) -> Link<T>
+        ensures { result ≡ record { at = at; value = None } }
+    {
+        Link { at }
+    }
+
+    // Its pointer.
+    fn at(&self) -> *const T
+        ensures { result ≡ self.now.at }
+    {
+        self.at
+    }
+
+    /// Moves out what is in it. The pointer stays as it was, so nothing is written.
+    #[inline]
+    pub(crate) fn leave(&mut self) -> Link<T>
+        ensures moved { result ≡ self.old }
+        ensures left { self.new.value ≡ None }
+    {
+        let left = Link::left(self.at());
+        mem::replace(self, left)
     }
 
     /// The box, given up.
@@ -41,6 +67,16 @@ impl<T> Link<T> {
         }
     }
 
+    /// Puts a link in the place of one that has no box. There is nothing to drop, and none is looked
+    /// for.
+    #[inline]
+    pub(crate) fn set(&mut self, link: Link<T>)
+        requires { self.old.value ≡ None }
+        ensures { self.new ≡ link }
+    {
+        mem::replace(self, link).close();
+    }
+
     /// The box again. Its caller knows that there is one.
     pub(crate) fn into_box(self, alloc: Global) -> Box<T>
         requires { ¬ (self.value ≡ None) }
@@ -50,8 +86,9 @@ impl<T> Link<T> {
         unsafe { Box::from_raw(alloc, at.cast_mut()) }
     }
 
-    /// Whether there is no box.
+    /// Whether there is no box. Its caller knows that it is null then.
     pub(crate) fn is_empty(&self) -> bool
+        requires { (self.now.value ≡ None) → (self.now.at ≡ null_ptr) }
         ensures { IsTrue result ↔ (self.now.value ≡ None) }
     {
         self.at.is_null()
@@ -69,6 +106,11 @@ impl<T> Link<T> {
     pub(crate) fn close(self)
         requires { self.value ≡ None }
     {
+        self.forget();
+    }
+
+    /// Lets go of the pointer alone.
+    pub(crate) fn forget(self) {
         let Link { at: _ } = self;
     }
 }

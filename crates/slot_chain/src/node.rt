@@ -1,8 +1,9 @@
 //! What a box of a chain holds.
 ghost use Rattle.std.specs.Prelude.{◌≡◌, []};
+ghost use Rattle.slot_chain.specs.Chains.{held};
 
+use crate::below::Below;
 use crate::beside::Beside;
-use crate::chain::Chain;
 use crate::lease::Lease;
 use crate::walk::Tag;
 use region_cut::{Class, Slot};
@@ -22,7 +23,7 @@ pub(crate) struct Node<'r> {
     // by each thread that has the buffer: with 80 bytes between the two beginnings they share no cache
     // line of 64, wherever a box lies.
     pub(crate) apart: [u64; 6],
-    pub(crate) below: Chain<'r>,
+    pub(crate) below: Below<'r>,
     pub(crate) beside: Beside<'r>,
     // by which the box goes back. It takes no bytes
     pub(crate) alloc: Global,
@@ -44,7 +45,7 @@ impl<'r> Node<'r> {
 
     /// Takes it apart: the bytes of the buffer, the chain below it, and the buffers beside it.
     #[inline]
-    pub(crate) fn into_parts(self) -> (Lease<'r>, Chain<'r>, Beside<'r>)
+    pub(crate) fn into_parts(self) -> (Lease<'r>, Below<'r>, Beside<'r>)
         ensures lease { result.0 ≡ self.entry.lease }
         ensures below { result.1 ≡ self.entry.below }
         ensures beside { result.2 ≡ self.entry.beside }
@@ -66,7 +67,7 @@ impl<'r> Node<'r> {
     /// Takes it apart where nothing is below it and nothing beside it: the bytes of the buffer.
     #[inline]
     pub(crate) fn into_lease(self) -> Lease<'r>
-        requires below { self.below ≡ [] }
+        requires below { held self.below ≡ [] }
         requires beside { self.beside ≡ [] }
         ensures { result ≡ self.entry.lease }
     {
@@ -77,12 +78,13 @@ impl<'r> Node<'r> {
     }
 }
 
-// By hand, so that it is proved here once, and not again in each crate that lets a buffer go.
+// By hand, so that it is proved here once, and not again in each crate that lets a buffer go. What is
+// below is not looked at: it may have been moved out. A chain that is let go takes its nodes apart.
 impl Drop for Node<'_> {
     fn drop(self) {
         let (lease, below, beside) = self.into_parts();
         drop(lease);
-        drop(below);
+        below.forget();
         drop(beside);
     }
 }

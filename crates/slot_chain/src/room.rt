@@ -4,9 +4,9 @@ ghost use Rattle.region_cut.specs.Classes.{size_of};
 ghost use Rattle.region_cut.specs.Pieces.{place_of, slice_of};
 ghost use Rattle.slot_chain.specs.Buffer.{owner_limit};
 
+use crate::below::Below;
 use crate::beside::Beside;
 use crate::buf::Buf;
-use crate::chain::Chain;
 use crate::error::NoMemory;
 use crate::lease::Lease;
 use crate::node::Node;
@@ -25,12 +25,13 @@ pub struct Room<'r> {
 
 impl<'r> Model for Room<'r> {
     ghost use Rattle.std.specs.Prelude.{◌≡◌, []};
+    ghost use Rattle.slot_chain.specs.Chains.{held};
 
     ghost Value = { Unit {0} };
 
     ghost view = { λ _. tt };
 
-    ghost invariant = { λ a. (a.node.value.below ≡ []) × (a.node.value.beside ≡ []) };
+    ghost invariant = { λ a. (held a.node.value.below ≡ []) × (a.node.value.beside ≡ []) };
 }
 
 impl<'r> Room<'r> {
@@ -57,7 +58,7 @@ impl<'r> Room<'r> {
             forwards: 0,
             lease: Lease::new(Default::default()),
             apart: [0; 6],
-            below: Chain::new(),
+            below: Below::new(),
             beside,
             alloc,
         };

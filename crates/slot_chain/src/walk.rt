@@ -1,4 +1,7 @@
 //! Walks over chains that only look.
+ghost use Rattle.std.specs.Prelude.{◌≡◌};
+ghost use Rattle.slot_chain.specs.Chains.{buffers_of, is_list};
+
 use crate::link::Link;
 use crate::node::Node;
 use region_cut::{Class, Slot};
@@ -32,11 +35,26 @@ impl<'a, 'r> Model for Walk<'a, 'r> {
 
     ghost Value = { List Buffer };
 
-    ghost use Rattle.slot_chain.specs.Chains.{to_show, has_beside};
+    ghost use Rattle.slot_chain.specs.Chains.{to_show, has_beside, is_list};
 
     ghost view = { λ w. to_show w.at.now w.others };
 
-    ghost invariant = { λ w. has_beside w.at.now w.others };
+    ghost invariant = { λ w. is_list w.at.now × has_beside w.at.now w.others };
+}
+
+impl<'a, 'r> Walk<'a, 'r> {
+    /// A walk over the list of that top.
+    pub(crate) fn from(at: &'a Link<Node<'r>>) -> Walk<'a, 'r>
+        requires { is_list at.now }
+        ensures { result ≡ buffers_of at.now }
+    {
+        let others = if at.is_empty() {
+            0
+        } else {
+            at.get().beside.len()
+        };
+        Walk { at, others }
+    }
 }
 
 impl<'a, 'r> Iterator for Walk<'a, 'r> {
@@ -60,7 +78,7 @@ impl<'a, 'r> Iterator for Walk<'a, 'r> {
                 Some(other.tag())
             }
             None => {
-                *self = node.below.walk();
+                *self = Walk::from(node.below.get());
                 Some(node.tag())
             }
         }

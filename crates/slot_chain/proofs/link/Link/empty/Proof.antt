@@ -14,5 +14,5 @@ empty_spec 𝓤 𝓛 𝓜 𝓡 wired T L =
     enter ! _ _ _ _ _ $ alloc_all ! (λ l. pass_all ! refl tt $
     sets ! (agg ! (and_then ! (lit ! tt) (no_more !))) refl (tt, (record { fits = lit< tt }, tt)) $
     returns ! (look_at ! 0 refl) $ free_all ! refl $
-    pure_i ! ((Lk R).own_val d (w ∷ [])) ((λ ps. (tt, (tt, tt))), tt) (((ptr_val null_ptr ∷ [], tt), (refl, (refl, tt))), refl) $
+    pure_i ! ((Lk R).own_val d (w ∷ [])) ((λ ps. (tt, (tt, tt))), tt) (((ptr_val null_ptr ∷ [], tt), (refl, (refl, tt))), tt) $
     keep ! (1 ∷ 2 ∷ 0 ∷ []) $ suffices ! _ (ends_at 𝓛 (f.ended T) tt c z w d tt tt) $ says ! refl $ group ! 3 $ done !))
