@@ -3,9 +3,10 @@ ghost use Rattle.std.specs.Prelude.{◌≡◌, ◌≢◌, ℕ, ◌<◌, ◌≤�
 ghost use Rattle.std.specs.Prelude.{MatchResult, OnOk, OnErr, length, min, ◌^◌, ◌-◌, map};
 ghost use Rattle.slot_chain.specs.Buffer.{Buffer, ended_of, owner_limit};
 ghost use Rattle.pool_desk.specs.Homes.{AtHome, IsAtHome, GivesOne, IsRefused, Draws, kept_in, slot_at, unused_from};
-ghost use Rattle.pool_desk.specs.NextSlots.{GivesNextSlot};
+ghost use Rattle.pool_desk.specs.NextSlots.{GivesNext, GivesNextSlot};
 ghost use Rattle.pool_desk.specs.Homes.AtHome.{Kept};
 ghost use Rattle.region_cut.specs.Classes.{slots_of};
+ghost use Rattle.region_cut.specs.Bumps.{left_of};
 ghost use Rattle.pool_desk.specs.Slots.{AddsOn};
 
 use crate::DeskError;
@@ -174,9 +175,7 @@ impl<'r> Home<'r> {
     }
 }
 
-// Gives out the next slot of a cursor.
-#[cold]
-#[inline(never)]
+// Gives out the next slot of a cursor, where one is left.
 fn next_slot<'r>(
     bump: &mut Bump<'r>,
     alloc: Global,
@@ -192,9 +191,32 @@ fn next_slot<'r>(
     if bump.left() == 0 {
         return Err(DeskError::NeedChunk(class));
     }
-    let Ok(room) = takers.room(alloc) else {
-        return Err(DeskError::NoMemory);
-    };
+    match make(bump, alloc, takers, class, owner) {
+        Ok(buf) => Ok(buf),
+        Err(NoMemory) => Err(DeskError::NoMemory),
+    }
+}
+
+// Makes a buffer of the next slot. Its answer has no `DeskError`, so that it comes in registers: who
+// asks for a slot that is at home then makes no room for it.
+#[cold]
+#[inline(never)]
+fn make<'r>(
+    bump: &mut Bump<'r>,
+    alloc: Global,
+    takers: Takers,
+    class: Class,
+    owner: u16,
+) -> Result<Buf<'r>, NoMemory>
+    requires class { class ≡ bump.old.class }
+    requires owner { owner < owner_limit }
+    requires left { 0 < left_of bump.old }
+    ensures class { bump.new.class ≡ bump.old.class }
+    ensures value { MatchResult result
+        (λ b. GivesNext owner class bump.old b bump.new)
+        (λ _. bump.new ≡ bump.old) }
+{
+    let room = takers.room(alloc)?;
     let Some(piece) = bump.next() else {
         unreachable!();
     };

@@ -1,23 +1,10 @@
 use Rattle.std.proofs.Common.{refl, sym, ◌∙◌}
-use Rattle.pool_desk.proofs.HomeLaws.{gives_fresh, unused_all, unused_some, unused_none}
+use Rattle.pool_desk.proofs.HomeLaws.{unused_all, unused_some, unused_none}
 use Rattle.pool_desk.proofs.home.next_slot.Goals as goal
 
 pub returns-then-left-eq0-clause-value : goal.returns-then-left-eq0-clause-value
 returns-then-left-eq0-clause-value c = ((refl, unused_none _ _ _ _ _ _ (sym c.left.ensures ∙ c.if-left-eq0.true)), refl)
 
-pub returns-in_default-clause-value : goal.returns-in_default-clause-value
-returns-in_default-clause-value c = ((unused_some _ _ _ _ _ _ (λ e. c.if-left-eq0.false (c.left.ensures ∙ e)), unused_all _ _ _ _ _ _), refl)
-
-pub returns-clause-value : goal.returns-clause-value
-returns-clause-value c = λ drawn.
-    gives_fresh c.args.owner c.args.class c.fill.result c.args.bump.now c.next.new.self c.in-Some.piece drawn c.in-Some.ensures (sym c.requires.class)
-    c.fill.ensures.owner c.fill.ensures.class c.fill.ensures.slot c.fill.ensures.forwards c.fill.ensures.bytes
-
-pub fill-requires-clause-size : goal.fill-requires-clause-size
-fill-requires-clause-size c = rw (sym c.requires.class) at c.in-Some.ensures.size_is
-
-pub fill-requires-clause-owner : goal.fill-requires-clause-owner
-fill-requires-clause-owner c = c.requires.owner
-
-pub returns-clause-class : goal.returns-clause-class
-returns-clause-class c = c.in-Some.ensures.same_class
+pub returns-in-Err-clause-value : goal.returns-in-Err-clause-value
+returns-in-Err-clause-value c =
+    ((unused_some _ _ _ _ _ _ (λ e. c.if-left-eq0.false (c.left.ensures ∙ e)), unused_all _ _ _ _ _ _), c.in-Err.ensures.value)
