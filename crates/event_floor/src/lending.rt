@@ -47,10 +47,8 @@ impl<'r> Lists<'r> {
             return Err(Refusal::NoChunk);
         };
         let chunk = part.chunk();
-        match desk.claim(part, class) {
-            Ok(()) => Ok(Reply::Chunk(chunk)),
-            Err(_) => unreachable!(),
-        }
+        desk.claim_needed(part, class);
+        Ok(Reply::Chunk(chunk))
     }
 
     pub(crate) fn alloc(&mut self, alloc: Global, a: u32, size: u32) -> Result<Reply, Refusal>

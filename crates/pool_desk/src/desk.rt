@@ -132,8 +132,18 @@ impl<'r> Desk<'r> {
         if self.has_home(class) {
             return Err((part, DeskError::NotNeeded));
         }
-        self.homes.claim(part, class);
+        self.claim_needed(part, class);
         Ok(())
+    }
+
+    /// Takes a part for a class of which [`Desk::has_home`] said that no slot is at home, as
+    /// [`Desk::claim`] does. Takes constant time and no memory.
+    pub fn claim_needed(&mut self, part: Part<'r>, class: Class)
+        requires class { class < classes_of (profile_at self.old) }
+        requires needed { HasClass class self.old.home → ⊥ }
+        ensures { Claims self.old part.entry class self.new }
+    {
+        self.homes.claim(part, class);
     }
 
     /// Gives out a slot at home of the least class that holds `size` bytes: the one that came

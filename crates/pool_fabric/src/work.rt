@@ -59,9 +59,7 @@ impl<'r, T: Receiver, S: Sender, J: Naming> HeldStation<'r, T, S, J> {
         let Some(part) = dealt else {
             return false;
         };
-        match self.desk.claim(part, class) {
-            Ok(()) => true,
-            Err(_) => unreachable!(),
-        }
+        self.desk.claim_needed(part, class);
+        true
     }
 }

@@ -21,7 +21,7 @@ invariant_of-self-2 c =
     let drew = c.in-Some-draw.ensures in
     rw (ap (λ (z : ChunksState). z.parts) drew.4)
     (floor_settled (floor_desk c.args.a _ f held.0
-    (claim_keeps _ _ _ _ _ _ _ _ _ own_desk (few_classes c.self.inside.digits _ (rw (sym few.0) at few.1)) (rw (sym drew.0) at drew.2) c.in-Ok.ensures)))
+    (claim_keeps _ _ _ _ _ _ _ _ _ own_desk (few_classes c.self.inside.digits _ (rw (sym few.0) at few.1)) (rw (sym drew.0) at drew.2) c.claim_needed.ensures)))
 
 pub returns-clause-does : goal.returns-clause-does
 returns-clause-does c =
@@ -32,10 +32,10 @@ returns-clause-does c =
     let few = c.in-Some.ensures in
     let drew = c.in-Some-draw.ensures in
     draws_chunk _ _ _ _ _ _ _ _ _ c.self.inside.chunks c.draw.new.self c.self.view_is held few.0 few.1
-    refl refl refl drew.0 drew.1 drew.2 refl drew.3 drew.4 c.in-Ok.ensures c.chunk-chunk.ensures
+    refl refl refl drew.0 drew.1 drew.2 refl drew.3 drew.4 c.claim_needed.ensures c.chunk-chunk.ensures
 
-pub claim-requires : goal.claim-requires
-claim-requires c =
+pub claim_needed-requires-clause-class : goal.claim_needed-requires-clause-class
+claim_needed-requires-clause-class c =
     let held : HeldThere c.self.inside.desks.items c.args.a c.in-Held.desk =
     held_there _ _ _ _ _ c.deref.ensures.value c.in_ok-check_held.ensures.held c.index_mut.ensures.value c.in-Held.is in
     let f = c.self.invariant in
@@ -102,13 +102,12 @@ returns-in_default-draw-clause-refuses c =
     subst (λ (v : FloorState). Refuses v (Claim c.args.a c.args.class) NoChunk) c.self.view_is
     (c.in-Held.desk, held, few.1, subst (λ z. HasHome c.in-Held.desk z → ⊥) few.0 (not_so _ c.has_home.ensures.1 c.if-has_home.false), c.in_default-draw.ensures.0)
 
-pub unreachable-requires-in-Err : goal.unreachable-requires-in-Err
-unreachable-requires-in-Err c =
-    not_so _ c.has_home.ensures.1 c.if-has_home.false c.in-Err.ensures.1.1
+pub claim_needed-requires-clause-needed : goal.claim_needed-requires-clause-needed
+claim_needed-requires-clause-needed c = not_so _ c.has_home.ensures.1 c.if-has_home.false
 
 pub returns-clause-desks : goal.returns-clause-desks
 returns-clause-desks c =
-    count_kept _ _ c.args.a (Held c.claim.new.self) c.self.view_is
+    count_kept _ _ c.args.a (Held c.claim_needed.new.self) c.self.view_is
 
 pub index_mut-requires : goal.index_mut-requires
 index_mut-requires c = subst (λ z. c.args.a < z) (sym c.self.inside.desks.ok.0) (is_there _ _ _ c.deref.ensures.value c.in_ok-check_held.ensures.held)
