@@ -23,7 +23,7 @@ use Rattle.pool_desk.specs.declared.freed.Freed.TheVariants.{Home, Cached, Due}
 use Rattle.event_floor.specs.declared.any_desk.AnyDesk.{AnyDesk}
 use Rattle.event_floor.specs.declared.any_desk.AnyDesk.TheVariants.{Idle, Held}
 use Rattle.event_floor.specs.Desks.{IsNumbered, HasPlace, in_hands_of, Releases}
-use Rattle.event_floor.specs.Floors.{IsKnown, IsDeskOf}
+use Rattle.event_floor.specs.Floors.{FitsFloor, IsDeskOf}
 
 -- a test holds of each number below n
 abbrev all_below : (ℕ → Bool) → ℕ → Bool
@@ -91,15 +91,15 @@ numbered_cached digits limit a d d' n same =
     numbered_as digits limit a d d' n (ap (λ (z : DeskState). z.number) same) (ap (λ (z : DeskState). z.limit) same) (ap (λ (z : DeskState). z.digits) same)
 
 -- what the floor knows of a buffer rests neither on its count of forwards
-pub known_freed : (n chunks : ℕ) (b : Buffer) → IsKnown n chunks b → IsKnown n chunks (freed b)
+pub known_freed : (n chunks : ℕ) (b : Buffer) → FitsFloor n chunks b → FitsFloor n chunks (freed b)
 known_freed n chunks b k = record { owner = k.owner; chunk = k.chunk; index = k.index }
 
-known_passed_on : (n chunks : ℕ) (b : Buffer) → IsKnown n chunks b → IsKnown n chunks (passed_on b)
+known_passed_on : (n chunks : ℕ) (b : Buffer) → FitsFloor n chunks b → FitsFloor n chunks (passed_on b)
 known_passed_on n chunks b k = record { owner = k.owner; chunk = k.chunk; index = k.index }
 
 -- the cache, or the slots at home, are the same
-same_cached : (n chunks : ℕ) (xs ys : List Buffer) → ys ≡ xs → All (IsKnown n chunks) xs → All (IsKnown n chunks) ys
-same_cached n chunks xs ys e h = subst (λ z. All (IsKnown n chunks) z) (sym e) h
+same_cached : (n chunks : ℕ) (xs ys : List Buffer) → ys ≡ xs → All (FitsFloor n chunks) xs → All (FitsFloor n chunks) ys
+same_cached n chunks xs ys e h = subst (λ z. All (FitsFloor n chunks) z) (sym e) h
 
 same_home : (chunks : ℕ) (xs ys : List AtHome) → ys ≡ xs → All (HasPlace chunks) xs → All (HasPlace chunks) ys
 same_home chunks xs ys e h = subst (λ z. All (HasPlace chunks) z) (sym e) h
@@ -130,15 +130,15 @@ alloc_placed digits limit n chunks a size d d' b h s =
     (head_of (HasPlace chunks) s.1.from d'.home (All-permutation (HasPlace chunks) d.home (s.1.from ∷ d'.home) s.1.others h.placed))
 
 caches_keeps : (digits : Scheme) (limit n chunks a : ℕ) (d d' : DeskState) (b : Buffer) → IsDeskOf digits limit n chunks a (Held d)
-    → IsKnown n chunks b → Caches d b d' → IsDeskOf digits limit n chunks a (Held d')
+    → FitsFloor n chunks b → Caches d b d' → IsDeskOf digits limit n chunks a (Held d')
 caches_keeps digits limit n chunks a d d' b h k s = record {
   numbered = numbered_cached digits limit a d d' h.numbered s.1;
   placed = same_home chunks d.home d'.home (ap (λ (z : DeskState). z.home) s.1) h.placed;
-  known = All-permutation (IsKnown n chunks) (freed b ∷ d.cached) d'.cached s.2 (All-cons (IsKnown n chunks) (freed b) d.cached (known_freed n chunks b k) h.known);
+  known = All-permutation (FitsFloor n chunks) (freed b ∷ d.cached) d'.cached s.2 (All-cons (FitsFloor n chunks) (freed b) d.cached (known_freed n chunks b k) h.known);
 }
 
 pub free_keeps : (digits : Scheme) (limit n chunks a : ℕ) (d d' : DeskState) (b : Buffer) (f : Freed) → IsDeskOf digits limit n chunks a (Held d)
-    → IsKnown n chunks b → Frees d b f d' → IsDeskOf digits limit n chunks a (Held d')
+    → FitsFloor n chunks b → Frees d b f d' → IsDeskOf digits limit n chunks a (Held d')
 free_keeps digits limit n chunks a d d' b Home h k s = record {
   numbered = numbered_home digits limit a d d' h.numbered s.1;
   placed = All-permutation (HasPlace chunks) (Kept (freed b) ∷ d.home) d'.home s.2 (All-cons (HasPlace chunks) (Kept (freed b)) d.home (k.chunk, k.index) h.placed);
@@ -148,42 +148,42 @@ free_keeps digits limit n chunks a d d' b Cached h k s = caches_keeps digits lim
 free_keeps digits limit n chunks a d d' b Due h k s = caches_keeps digits limit n chunks a d d' b h k s.0
 
 -- the buffers of a batch that the desk gives are known, and so are those that it keeps
-given_known : (n chunks : ℕ) (s : Scheme) (a : ℕ) (old : List Buffer) (b : BatchState) (new : List Buffer) → All (IsKnown n chunks) old → Routed s a old b new
-    → All (IsKnown n chunks) (b.items ++ new)
-given_known n chunks s a old b new h g = All-permutation (IsKnown n chunks) old (b.items ++ new) g.taken.together h
+given_known : (n chunks : ℕ) (s : Scheme) (a : ℕ) (old : List Buffer) (b : BatchState) (new : List Buffer) → All (FitsFloor n chunks) old → Routed s a old b new
+    → All (FitsFloor n chunks) (b.items ++ new)
+given_known n chunks s a old b new h g = All-permutation (FitsFloor n chunks) old (b.items ++ new) g.taken.together h
 
-pub batch_known : (n chunks : ℕ) (s : Scheme) (a : ℕ) (old : List Buffer) (b : BatchState) (new : List Buffer) → All (IsKnown n chunks) old → Routed s a old b new
-    → All (IsKnown n chunks) b.items
-batch_known n chunks s a old b new h g = all_left (IsKnown n chunks) b.items new (given_known n chunks s a old b new h g)
+pub batch_known : (n chunks : ℕ) (s : Scheme) (a : ℕ) (old : List Buffer) (b : BatchState) (new : List Buffer) → All (FitsFloor n chunks) old → Routed s a old b new
+    → All (FitsFloor n chunks) b.items
+batch_known n chunks s a old b new h g = all_left (FitsFloor n chunks) b.items new (given_known n chunks s a old b new h g)
 
 pub send_keeps : (digits : Scheme) (limit n chunks a : ℕ) (d d' : DeskState) (s : Scheme) (x : ℕ) (b : BatchState) → IsDeskOf digits limit n chunks a (Held d)
     → d' ≡ record d { cached = d'.cached } → Routed s x d.cached b d'.cached → IsDeskOf digits limit n chunks a (Held d')
 send_keeps digits limit n chunks a d d' s x b h same g = record {
   numbered = numbered_cached digits limit a d d' h.numbered same;
   placed = same_home chunks d.home d'.home (ap (λ (z : DeskState). z.home) same) h.placed;
-  known = all_right (IsKnown n chunks) b.items d'.cached (given_known n chunks s x d.cached b d'.cached h.known g);
+  known = all_right (FitsFloor n chunks) b.items d'.cached (given_known n chunks s x d.cached b d'.cached h.known g);
 }
 
-kept_placed : (n chunks : ℕ) (bs : List Buffer) → All (IsKnown n chunks) bs → All (HasPlace chunks) (map (λ (b : Buffer). Kept b) bs)
+kept_placed : (n chunks : ℕ) (bs : List Buffer) → All (FitsFloor n chunks) bs → All (HasPlace chunks) (map (λ (b : Buffer). Kept b) bs)
 kept_placed n chunks bs h = All-map (HasPlace chunks) (λ (b : Buffer). Kept b) bs (λ k d l. let e = h k d l in (e.chunk, e.index))
 
-passed_known : (n chunks : ℕ) (bs : List Buffer) → All (IsKnown n chunks) bs → All (IsKnown n chunks) (map passed_on bs)
-passed_known n chunks bs h = All-map (IsKnown n chunks) passed_on bs (λ k d l. known_passed_on n chunks (get_or bs k d) (h k d l))
+passed_known : (n chunks : ℕ) (bs : List Buffer) → All (FitsFloor n chunks) bs → All (FitsFloor n chunks) (map passed_on bs)
+passed_known n chunks bs h = All-map (FitsFloor n chunks) passed_on bs (λ k d l. known_passed_on n chunks (get_or bs k d) (h k d l))
 
 pub handle_keeps : (digits : Scheme) (limit n chunks a : ℕ) (d d' : DeskState) (bs : List Buffer) → IsDeskOf digits limit n chunks a (Held d)
-    → All (IsKnown n chunks) bs → Handles d bs d' → IsDeskOf digits limit n chunks a (Held d')
+    → All (FitsFloor n chunks) bs → Handles d bs d' → IsDeskOf digits limit n chunks a (Held d')
 handle_keeps digits limit n chunks a d d' bs h k s = record {
   numbered = numbered_as digits limit a d d' h.numbered (ap (λ (z : DeskState). z.number) s.same) (ap (λ (z : DeskState). z.limit) s.same) (ap (λ (z : DeskState). z.digits) s.same);
   placed = All-permutation (HasPlace chunks) (map (λ (b : Buffer). Kept b) (own d.number bs) ++ d.home) d'.home s.home
       (All-append (HasPlace chunks) (map (λ (b : Buffer). Kept b) (own d.number bs)) d.home
-      (kept_placed n chunks (own d.number bs) (All-filter (λ (b : Buffer). b.owner == d.number) (IsKnown n chunks) bs k)) h.placed);
-  known = All-permutation (IsKnown n chunks) (map passed_on (others d.number bs) ++ d.cached) d'.cached s.cached
-      (All-append (IsKnown n chunks) (map passed_on (others d.number bs)) d.cached
-      (passed_known n chunks (others d.number bs) (All-filter (λ (b : Buffer). not (b.owner == d.number)) (IsKnown n chunks) bs k)) h.known);
+      (kept_placed n chunks (own d.number bs) (All-filter (λ (b : Buffer). b.owner == d.number) (FitsFloor n chunks) bs k)) h.placed);
+  known = All-permutation (FitsFloor n chunks) (map passed_on (others d.number bs) ++ d.cached) d'.cached s.cached
+      (All-append (FitsFloor n chunks) (map passed_on (others d.number bs)) d.cached
+      (passed_known n chunks (others d.number bs) (All-filter (λ (b : Buffer). not (b.owner == d.number)) (FitsFloor n chunks) bs k)) h.known);
 }
 
 pub adopt_keeps : (digits : Scheme) (limit n chunks a worker : ℕ) (s : AnyDesk) → IsDeskOf digits limit n chunks a s → IsDeskOf digits limit n chunks a (in_hands_of worker s)
-adopt_keeps digits limit n chunks a worker (Idle d) h = record { numbered = h.numbered; placed = h.placed; known = All-nil (IsKnown n chunks) }
+adopt_keeps digits limit n chunks a worker (Idle d) h = record { numbered = h.numbered; placed = h.placed; known = All-nil (FitsFloor n chunks) }
 adopt_keeps digits limit n chunks a worker (Held d) h = h
 
 pub release_keeps : (digits : Scheme) (limit n chunks a : ℕ) (s s' : AnyDesk) (done : Bool) → IsDeskOf digits limit n chunks a s → Releases s done s'
@@ -191,5 +191,5 @@ pub release_keeps : (digits : Scheme) (limit n chunks a : ℕ) (s s' : AnyDesk) 
 release_keeps digits limit n chunks a (Idle d) s' true h r = absurd r
 release_keeps digits limit n chunks a (Idle d) s' false h r = subst (λ z. IsDeskOf digits limit n chunks a z) (sym r) h
 release_keeps digits limit n chunks a (Held d) s' true h r =
-    subst (λ z. IsDeskOf digits limit n chunks a z) (sym r.1) (record { numbered = h.numbered; placed = h.placed; known = All-nil (IsKnown n chunks) })
+    subst (λ z. IsDeskOf digits limit n chunks a z) (sym r.1) (record { numbered = h.numbered; placed = h.placed; known = All-nil (FitsFloor n chunks) })
 release_keeps digits limit n chunks a (Held d) s' false h r = subst (λ z. IsDeskOf digits limit n chunks a z) (sym r.1) h

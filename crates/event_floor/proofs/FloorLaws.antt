@@ -17,7 +17,7 @@ use Rattle.event_floor.specs.declared.any_desk.AnyDesk.TheVariants.{Idle, Held}
 use Rattle.event_floor.specs.Desks.{new_desk, new_desks, HasPlace}
 use Rattle.event_floor.specs.Lent.{AreInPlace, lent_at, index_of}
 use Rattle.event_floor.specs.Inboxes.{QueuedState, inbox_at}
-use Rattle.event_floor.specs.Floors.{AreOwned, IsKnown, IsDeskOf, IsQueuedAt, IsFloorOf, IsFloor, no_desk, last_number}
+use Rattle.event_floor.specs.Floors.{AreOwned, FitsFloor, IsDeskOf, IsQueuedAt, IsFloorOf, IsFloor, no_desk, last_number}
 
 -- one of a list is another, and each other one stays
 each_set : {X : Type 0} (P : ℕ → X → Type 0) (xs : List X) (n a : ℕ) (x d : X) → length xs ≡ n → a < n → P a x
@@ -200,7 +200,7 @@ idle_desks_at digits limit (suc n) a l =
     get_or_append_left (new_desks digits limit n) _ no_desk a (rw (new_desks_length digits limit n) (omega (arith, l, ne))) ∙ idle_desks_at digits limit n a (omega (arith, l, ne))) (eqb_tells a n)
 
 new_keeps : (digits : Scheme) (limit n chunks a : ℕ) → IsDeskOf digits limit n chunks a (Idle (new_desk digits limit a))
-new_keeps digits limit n chunks a = record { numbered = (refl, refl, refl); placed = All-nil (HasPlace chunks); known = All-nil (IsKnown n chunks) }
+new_keeps digits limit n chunks a = record { numbered = (refl, refl, refl); placed = All-nil (HasPlace chunks); known = All-nil (FitsFloor n chunks) }
 
 pub opening_is_floor : (digits : Scheme) (limit chunks n : ℕ) → n ≤ 2 ^ digits.bits → n ≤ 4096
     → IsFloorOf n digits limit chunks (new_desks digits limit n) (replicate (256 * chunks) None) (replicate n []) 1

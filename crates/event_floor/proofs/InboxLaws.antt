@@ -6,7 +6,7 @@ use Rattle.digit_route.specs.States.{BatchState}
 use Rattle.pool_desk.specs.Desks.{DeskState}
 use Rattle.event_floor.specs.declared.any_desk.AnyDesk.TheVariants.{Held}
 use Rattle.event_floor.specs.Inboxes.{QueuedState, SendsInto, LeavesFront, sent_as}
-use Rattle.event_floor.specs.Floors.{IsKnown, IsDeskOf, IsQueuedAt}
+use Rattle.event_floor.specs.Floors.{FitsFloor, IsDeskOf, IsQueuedAt}
 use Rattle.event_floor.proofs.DeskLaws.{batch_known, head_of, tail_of}
 
 -- a desk's batch comes to those that wait
@@ -46,6 +46,6 @@ taken_digits digits limit n chunks next b d batch x rest own_desk s h =
     s.digits ∙ ((front_queued digits n chunks next b batch x rest s h).digits_are ∙ sym own_desk.numbered.2)
 
 pub taken_known : (digits : Scheme) (n chunks next b : ℕ) (batch : BatchState) (x rest : List QueuedState) → LeavesFront batch x rest → All (IsQueuedAt digits n chunks next b) x
-    → All (IsKnown n chunks) batch.items
+    → All (FitsFloor n chunks) batch.items
 taken_known digits n chunks next b batch x rest s h =
-    subst (λ z. All (IsKnown n chunks) z) (sym s.items) (front_queued digits n chunks next b batch x rest s h).known
+    subst (λ z. All (FitsFloor n chunks) z) (sym s.items) (front_queued digits n chunks next b batch x rest s h).known

@@ -15,7 +15,7 @@ use Rattle.digit_route.specs.Route.{RouteFault}
 use Rattle.digit_route.specs.States.{BatchState}
 use Rattle.digit_route.specs.Route.{GivesBucket}
 use Rattle.pool_desk.specs.Desks.{DeskState}
-use Rattle.pool_desk.specs.Steps.{Claims, Allocs, AllocFault, Frees, Handles, Counted}
+use Rattle.pool_desk.specs.Steps.{Claims, Allocs, AllocFault, Frees, Handles, CountsOf}
 use Rattle.pool_desk.specs.declared.error.DeskError.{DeskError}
 use Rattle.pool_desk.specs.declared.error.DeskError.TheVariants.{TooLarge, NeedChunk, NotNeeded, Unsettled, NoMemory}
 use Rattle.pool_desk.specs.declared.freed.Freed.{Freed}
@@ -146,7 +146,7 @@ send_refused v w a t d fault refusal same r is =
     subst (λ (y : FloorState). Refuses y (Send a t) refusal) same (subst (λ (z : Refusal). Refuses v (Send a t) z) (sym is) (refuses_for v a t d fault r))
 
 pub takes_front : (v w : FloorState) (b : ℕ) (d d' : DeskState) (batch : BatchState) (inboxes : List (List QueuedState)) (counts : Counts) → v ≡ w → IsHeld v b d
-    → TakesFrom batch b v.inboxes inboxes → Handles d batch.items d' → Counted d.number batch.items counts
+    → TakesFrom batch b v.inboxes inboxes → Handles d batch.items d' → CountsOf d.number batch.items counts
     → TakesFront w b counts.home counts.on (record (with_desk v b d') { inboxes = inboxes })
 takes_front v w b d d' batch inboxes counts same held took handles counted =
     subst (λ (z : FloorState). TakesFront z b counts.home counts.on (record (with_desk v b d') { inboxes = inboxes })) same (record {
@@ -158,7 +158,7 @@ takes_front v w b d d' batch inboxes counts same held took handles counted =
       is_front = took.leaves.is_front;
       linked = took.leaves.linked;
       handles = subst (λ z. Handles d z d') took.leaves.items handles;
-      counted = subst (λ z. Counted d.number z counts) took.leaves.items counted;
+      counted = subst (λ z. CountsOf d.number z counts) took.leaves.items counted;
       same = ap (λ (z : List (List QueuedState)). record (with_desk v b d') { inboxes = z }) took.same;
     })
 

@@ -88,7 +88,7 @@ abbrev pub AreOwned : ℕ → List (Option Buffer) → Type 0
 AreOwned desks lent = (i : ℕ) → IfSome (slice_index_or lent i None) (λ (b : Buffer). b.owner < desks)
 
 -- the buffer goes home to one of so many desks, and its slot has a place in a table for so many chunks
-pub record IsKnown (desks chunks : ℕ) (b : Buffer) : Type 0 where
+pub record FitsFloor (desks chunks : ℕ) (b : Buffer) : Type 0 where
   pub owner : b.owner < desks
   pub chunk : b.slot.chunk < chunks
   pub index : b.slot.index < chunk_places
@@ -98,7 +98,7 @@ pub record IsKnown (desks chunks : ℕ) (b : Buffer) : Type 0 where
 pub record IsDeskOf (digits : Scheme) (limit desks chunks a : ℕ) (s : AnyDesk) : Type 0 where
   pub numbered : IsNumbered digits limit a s
   pub placed : All (HasPlace chunks) (home_of s)
-  pub known : All (IsKnown desks chunks) (cached_of s)
+  pub known : All (FitsFloor desks chunks) (cached_of s)
 
 -- a batch in the inbox of b: it was numbered before, it is addressed to b, it has the floor's digits, and its buffers
 -- are known
@@ -107,7 +107,7 @@ pub record IsQueuedAt (digits : Scheme) (desks chunks next b : ℕ) (p : QueuedS
   pub address : p.address ≡ b
   pub sender : p.sender < desks
   pub digits_are : p.digits ≡ digits
-  pub known : All (IsKnown desks chunks) p.buffers
+  pub known : All (FitsFloor desks chunks) p.buffers
 
 -- the greatest number that a batch can have
 abbrev pub last_number : ℕ

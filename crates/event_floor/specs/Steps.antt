@@ -16,7 +16,7 @@ use Rattle.digit_route.specs.declared.error.RouteError.TheVariants.{NothingFor a
 use Rattle.digit_route.specs.declared.error.RouteError.TheVariants.{NotAnOwner as RouteNotAnOwner}
 use Rattle.pool_desk.specs.HomesState.{HasClass}
 use Rattle.pool_desk.specs.Desks.{IdleState, DeskState}
-use Rattle.pool_desk.specs.Steps.{Claims, Allocs, AllocFault, Frees, Handles, Counted}
+use Rattle.pool_desk.specs.Steps.{Claims, Allocs, AllocFault, Frees, Handles, CountsOf}
 use Rattle.pool_desk.specs.declared.error.DeskError.TheVariants.{NeedChunk as DeskNeedChunk, NoMemory as DeskNoMemory}
 use Rattle.pool_desk.specs.declared.freed.Freed.{Freed}
 use Rattle.pool_desk.specs.declared.freed.Freed.TheVariants.{Home as FreedHome, Cached as FreedCached, Due as FreedDue}
@@ -188,7 +188,7 @@ pub record TakesFront (old : FloorState) (b home on : ℕ) (new : FloorState) : 
   pub is_front : inbox_at old.inboxes b ≡ front ∷ rest
   pub linked : front.linked ≡ true
   pub handles : Handles before front.buffers after
-  pub counted : Counted before.number front.buffers (record { home = home; on = on })
+  pub counted : CountsOf before.number front.buffers (record { home = home; on = on })
   pub same : new ≡ with_inbox (with_desk old b after) b rest
 
 abbrev pub Does : FloorState → Request → Reply → FloorState → Type 0

@@ -15,7 +15,7 @@ use Rattle.pool_desk.specs.declared.error.DeskError.{DeskError}
 use Rattle.pool_desk.specs.declared.error.DeskError.TheVariants.{TooLarge, NeedChunk, NotNeeded, Unsettled, NoMemory}
 use Rattle.pool_desk.specs.Homes.{AtHome, HomeState, IsAtHome, IsOwn, GivesOne, Names, Draws, IsUncut, class_at, IsUnused, IsRefused, unused_from}
 use Rattle.pool_desk.specs.Homes.AtHome.{Kept, Fresh}
-use Rattle.pool_desk.specs.HomesState.{HomesState, slots_at, drawn_at, no_home, home_at, empties, IsHome, AreHomes, HasClass, LacksClass, IsWanting}
+use Rattle.pool_desk.specs.HomesState.{HomesState, slots_of_home, drawn_at, no_home, home_at, empties, IsHome, AreHomes, HasClass, LacksClass, IsWanting}
 use Rattle.pool_desk.proofs.HomeLaws.{unused_class}
 
 pub split_at : {A B C : Type 0} → A ⊎ B → (A → C) → (B → C) → C
@@ -104,7 +104,7 @@ names_joined (Fresh u) b hs k h l t = record {
 
 gives_joined : (owner k : ℕ) (hs : List HomeState) (h : HomeState) (b : Buffer) → AreHomes owner hs → k < class_count
     → GivesOne (home_at hs k).owner (home_at hs k).class (home_at hs k).slots b h.slots (home_at hs k).drawn h.drawn
-    → GivesOne owner k (flat_map slots_at hs) b (flat_map slots_at (set hs k h)) (flat_map drawn_at hs) (flat_map drawn_at (set hs k h))
+    → GivesOne owner k (flat_map slots_of_home hs) b (flat_map slots_of_home (set hs k h)) (flat_map drawn_at hs) (flat_map drawn_at (set hs k h))
 gives_joined owner k hs h b are l g =
     let one = are.each k l in
     record {
@@ -112,14 +112,14 @@ gives_joined owner k hs h b are l g =
       class_is = g.class_is ∙ one.class_is;
       from = g.from;
       gives = g.gives;
-      others = leaving slots_at hs k h (g.from ∷ []) (rw are.count l) g.others;
+      others = leaving slots_of_home hs k h (g.from ∷ []) (rw are.count l) g.others;
       names = names_joined g.from b hs k h (rw are.count l) g.names;
     }
 
 -- what holds of each slot of each home
-All-joined : (P : AtHome → Type 0) (hs : List HomeState) → ((k : ℕ) → k < length hs → All P (home_at hs k).slots) → All P (flat_map slots_at hs)
+All-joined : (P : AtHome → Type 0) (hs : List HomeState) → ((k : ℕ) → k < length hs → All P (home_at hs k).slots) → All P (flat_map slots_of_home hs)
 All-joined P [] each = All-nil P
-All-joined P (h ∷ hs) each = All-append P h.slots (flat_map slots_at hs) (each 0 (omega arith)) (All-joined P hs (λ k l. each (suc k) (omega arith)))
+All-joined P (h ∷ hs) each = All-append P h.slots (flat_map slots_of_home hs) (each 0 (omega arith)) (All-joined P hs (λ k l. each (suc k) (omega arith)))
 
 -- one home is another, and the homes are still those of their classes
 are_set : (owner k : ℕ) (hs : List HomeState) (h : HomeState) → AreHomes owner hs → k < class_count → IsHome owner k h → AreHomes owner (set hs k h)
@@ -139,13 +139,13 @@ own_at owner j (Kept b) is = is.0
 own_at owner j (Fresh u) is = tt
 
 -- all that came home is the owner's
-pub own_joined : (owner : ℕ) (hs : List HomeState) → AreHomes owner hs → All (IsOwn owner) (flat_map slots_at hs)
+pub own_joined : (owner : ℕ) (hs : List HomeState) → AreHomes owner hs → All (IsOwn owner) (flat_map slots_of_home hs)
 own_joined owner hs are =
     All-joined (IsOwn owner) hs
     (λ k l. All-weaker (IsAtHome owner k) (IsOwn owner) (own_at owner k) (home_at hs k).slots (are.each k (rw are.count at l)).each)
 
 -- no slot of class k is there where the home k is empty
-none_joined : (owner k : ℕ) (hs : List HomeState) → AreHomes owner hs → k < class_count → (home_at hs k).slots ≡ [] → LacksClass k (flat_map slots_at hs)
+none_joined : (owner k : ℕ) (hs : List HomeState) → AreHomes owner hs → k < class_count → (home_at hs k).slots ≡ [] → LacksClass k (flat_map slots_of_home hs)
 none_joined owner k hs are l none =
     All-joined (λ (s : AtHome). class_at s ≢ k) hs (λ j m. split_at (same_or_not k j)
     (λ (e : k ≡ j). rw (← e, none) (All-nil _))
@@ -173,25 +173,25 @@ Any-permutation P xs ys p h =
     let c = Contains-permutation xs ys h.1 p (h.0, h.2, h.3) in (c.0, h.1, c.1, c.2, h.4)
 
 -- some slot of class k is there where the home k is not empty
-pub some_joined : (owner k : ℕ) (hs : List HomeState) → AreHomes owner hs → k < class_count → (home_at hs k).slots ≢ [] → HasClass k (flat_map slots_at hs)
+pub some_joined : (owner k : ℕ) (hs : List HomeState) → AreHomes owner hs → k < class_count → (home_at hs k).slots ≢ [] → HasClass k (flat_map slots_of_home hs)
 some_joined owner k hs are l ne =
-    Any-permutation (λ (s : AtHome). class_at s ≡ k) _ _ (IsPermutation-sym _ _ (apart slots_at hs k (rw are.count l)))
-    (some_any (λ (s : AtHome). class_at s ≡ k) (home_at hs k).slots (without slots_at hs k) ne
+    Any-permutation (λ (s : AtHome). class_at s ≡ k) _ _ (IsPermutation-sym _ _ (apart slots_of_home hs k (rw are.count l)))
+    (some_any (λ (s : AtHome). class_at s ≡ k) (home_at hs k).slots (without slots_of_home hs k) ne
     (All-weaker (IsAtHome owner k) (λ (s : AtHome). class_at s ≡ k) (λ s is. class_of owner k s is) (home_at hs k).slots (are.each k l).each))
 
-pub joined_some : (owner k : ℕ) (hs : List HomeState) → AreHomes owner hs → k < class_count → HasClass k (flat_map slots_at hs) → (home_at hs k).slots ≢ []
+pub joined_some : (owner k : ℕ) (hs : List HomeState) → AreHomes owner hs → k < class_count → HasClass k (flat_map slots_of_home hs) → (home_at hs k).slots ≢ []
 joined_some owner k hs are l any none = none_joined owner k hs are l none any.0 any.1 any.2 (rw any.3 any.4)
 
 -- the home k is empty where no slot of class k is there
-pub lacking : (owner k : ℕ) (hs : List HomeState) → AreHomes owner hs → k < class_count → (HasClass k (flat_map slots_at hs) → ⊥) → (home_at hs k).slots ≡ []
+pub lacking : (owner k : ℕ) (hs : List HomeState) → AreHomes owner hs → k < class_count → (HasClass k (flat_map slots_of_home hs) → ⊥) → (home_at hs k).slots ≡ []
 lacking owner k hs are l none =
     split_at (none_or (home_at hs k).slots) (λ e. e) (λ ne. absurd (none (some_joined owner k hs are l ne)))
 
-pub lacks_joined : (owner k : ℕ) (hs : List HomeState) → AreHomes owner hs → k < class_count → (HasClass k (flat_map slots_at hs) → ⊥) → LacksClass k (flat_map slots_at hs)
+pub lacks_joined : (owner k : ℕ) (hs : List HomeState) → AreHomes owner hs → k < class_count → (HasClass k (flat_map slots_of_home hs) → ⊥) → LacksClass k (flat_map slots_of_home hs)
 lacks_joined owner k hs are l none = none_joined owner k hs are l (lacking owner k hs are l none)
 
 unused_joined : (owner k : ℕ) (hs : List HomeState) → AreHomes owner hs → k < class_count → All IsUnused (home_at hs k).slots
-    → All (λ (s : AtHome). class_at s ≡ k → IsUnused s) (flat_map slots_at hs)
+    → All (λ (s : AtHome). class_at s ≡ k → IsUnused s) (flat_map slots_of_home hs)
 unused_joined owner k hs are l all =
     All-joined (λ (s : AtHome). class_at s ≡ k → IsUnused s) hs (λ j m. split_at (same_or_not k j)
     (λ (e : k ≡ j). rw (← e) (All-weaker IsUnused (λ (s : AtHome). class_at s ≡ k → IsUnused s) (λ s u _. u) (home_at hs k).slots all))
@@ -199,7 +199,7 @@ unused_joined owner k hs are l all =
 
 -- the refusal of the home k
 wants_joined : (owner k : ℕ) (hs : List HomeState) (e : DeskError) → AreHomes owner hs → k < class_count
-    → IsRefused (home_at hs k).class (home_at hs k).slots e → IsWanting k (flat_map slots_at hs) e
+    → IsRefused (home_at hs k).class (home_at hs k).slots e → IsWanting k (flat_map slots_of_home hs) e
 wants_joined owner k hs TooLarge are l r = elim r [ ]
 wants_joined owner k hs (NeedChunk c) are l r = (r.0 ∙ (are.each k l).class_is, none_joined owner k hs are l r.1)
 wants_joined owner k hs NotNeeded are l r = elim r [ ]
@@ -222,15 +222,15 @@ alloc_keeps owner k hs hs' (Err e) are l same g = subst (AreHomes owner) (sym g.
 
 -- what the homes show
 abbrev pub shown : ℕ → List HomeState → HomesState
-shown owner hs = record { owner = owner; slots = flat_map slots_at hs; drawn = flat_map drawn_at hs }
+shown owner hs = record { owner = owner; slots = flat_map slots_of_home hs; drawn = flat_map drawn_at hs }
 
 -- what all homes give, or refuse
 pub alloc_shown : (owner k : ℕ) (hs hs' : List HomeState) (r : Result Buffer DeskError) → AreHomes owner hs → k < class_count
     → hs' ≡ set hs k (with_slots (home_at hs k) (home_at hs' k).slots (home_at hs' k).drawn) → GivesAt k hs r hs'
-    → MatchResult r (λ b. GivesOne owner k (flat_map slots_at hs) b (flat_map slots_at hs') (flat_map drawn_at hs) (flat_map drawn_at hs'))
-    (λ e. IsWanting k (flat_map slots_at hs) e × (shown owner hs' ≡ shown owner hs))
+    → MatchResult r (λ b. GivesOne owner k (flat_map slots_of_home hs) b (flat_map slots_of_home hs') (flat_map drawn_at hs) (flat_map drawn_at hs'))
+    (λ e. IsWanting k (flat_map slots_of_home hs) e × (shown owner hs' ≡ shown owner hs))
 alloc_shown owner k hs hs' (Ok b) are l same g =
-    subst (λ z. GivesOne owner k (flat_map slots_at hs) b (flat_map slots_at z) (flat_map drawn_at hs) (flat_map drawn_at z)) (sym same)
+    subst (λ z. GivesOne owner k (flat_map slots_of_home hs) b (flat_map slots_of_home z) (flat_map drawn_at hs) (flat_map drawn_at z)) (sym same)
     (gives_joined owner k hs (with_slots (home_at hs k) (home_at hs' k).slots (home_at hs' k).drawn) b are l g)
 alloc_shown owner k hs hs' (Err e) are l same g = (wants_joined owner k hs e are l g.0, ap (shown owner) g.1)
 
@@ -247,12 +247,12 @@ claim_keeps owner part k hs hs' are l same =
 
 pub claim_slots : (owner : ℕ) (part : Part) (k : ℕ) (hs hs' : List HomeState) → AreHomes owner hs → k < class_count → (home_at hs k).slots ≡ []
     → hs' ≡ set hs k (with_slots (home_at hs k) (claimed part (home_at hs k).class) (home_at hs' k).drawn)
-    → IsPermutation (claimed part k ++ flat_map slots_at hs) (flat_map slots_at hs')
+    → IsPermutation (claimed part k ++ flat_map slots_of_home hs) (flat_map slots_of_home hs')
 claim_slots owner part k hs hs' are l none same =
     let new : List AtHome = claimed part (home_at hs k).class in
-    let moved : IsPermutation (new ++ flat_map slots_at hs) (flat_map slots_at hs')
-    = rw same (coming slots_at hs k (with_slots (home_at hs k) new (home_at hs' k).drawn) new (rw are.count l) (rw (none, append-nil) (IsPermutation-refl new))) in
-    subst (λ c. IsPermutation (claimed part c ++ flat_map slots_at hs) (flat_map slots_at hs')) (are.each k l).class_is moved
+    let moved : IsPermutation (new ++ flat_map slots_of_home hs) (flat_map slots_of_home hs')
+    = rw same (coming slots_of_home hs k (with_slots (home_at hs k) new (home_at hs' k).drawn) new (rw are.count l) (rw (none, append-nil) (IsPermutation-refl new))) in
+    subst (λ c. IsPermutation (claimed part c ++ flat_map slots_of_home hs) (flat_map slots_of_home hs')) (are.each k l).class_is moved
 
 pub claim_drawn : (owner : ℕ) (part : Part) (k : ℕ) (hs hs' : List HomeState) (slots : List AtHome) → AreHomes owner hs → k < class_count
     → hs' ≡ set hs k (with_slots (home_at hs k) slots (home_at hs' k).drawn)
@@ -280,17 +280,17 @@ keep_keeps owner k hs hs' b are l own same p =
 pub keep_slots : (owner k : ℕ) (hs hs' : List HomeState) (b : Buffer) → AreHomes owner hs → k < class_count
     → hs' ≡ set hs k (with_slots (home_at hs k) (home_at hs' k).slots (home_at hs k).drawn)
     → IsPermutation (Kept b ∷ (home_at hs k).slots) (home_at hs' k).slots
-    → IsPermutation (Kept b ∷ flat_map slots_at hs) (flat_map slots_at hs')
+    → IsPermutation (Kept b ∷ flat_map slots_of_home hs) (flat_map slots_of_home hs')
 keep_slots owner k hs hs' b are l same p =
-    subst (λ z. IsPermutation (Kept b ∷ flat_map slots_at hs) (flat_map slots_at z)) (sym same)
-    (coming slots_at hs k (with_slots (home_at hs k) (home_at hs' k).slots (home_at hs k).drawn) (Kept b ∷ []) (rw are.count l) p)
+    subst (λ z. IsPermutation (Kept b ∷ flat_map slots_of_home hs) (flat_map slots_of_home z)) (sym same)
+    (coming slots_of_home hs k (with_slots (home_at hs k) (home_at hs' k).slots (home_at hs k).drawn) (Kept b ∷ []) (rw are.count l) p)
 
 pub keep_shown : (owner k : ℕ) (hs hs' : List HomeState)
     → hs' ≡ set hs k (with_slots (home_at hs k) (home_at hs' k).slots (home_at hs k).drawn)
-    → shown owner hs' ≡ record (shown owner hs) { slots = flat_map slots_at hs' }
+    → shown owner hs' ≡ record (shown owner hs) { slots = flat_map slots_of_home hs' }
 keep_shown owner k hs hs' same =
     let drawn : flat_map drawn_at hs' ≡ flat_map drawn_at hs = ap (flat_map drawn_at) same ∙ staying drawn_at hs k _ refl in
-    ap (λ (d : List Carved). record { owner = owner; slots = flat_map slots_at hs'; drawn = d }) drawn
+    ap (λ (d : List Carved). record { owner = owner; slots = flat_map slots_of_home hs'; drawn = d }) drawn
 
 -- the homes of a new desk
 empties_at : (owner n k : ℕ) → k < n → home_at (empties owner n) k ≡ record { owner = owner; class = k; slots = []; drawn = [] }
@@ -300,10 +300,10 @@ empties_at owner (suc n) k l = let last : HomeState = record { owner = owner; cl
     (λ (e : k ≡ n). rw e (subst (λ z. get_or (empties owner n ++ last ∷ []) z no_home ≡ last) (empties_length owner n) (get_or-append_seam (empties owner n) _ [] no_home)))
     (λ (ne : k ≢ n). get_or_append_left (empties owner n) _ no_home k (rw (empties_length owner n) (omega (arith, l, ne))) ∙ empties_at owner n k (omega (arith, l, ne)))
 
-pub empties_slots : (owner n : ℕ) → flat_map slots_at (empties owner n) ≡ []
+pub empties_slots : (owner n : ℕ) → flat_map slots_of_home (empties owner n) ≡ []
 unfolding empties
 empties_slots owner zero = refl
-empties_slots owner (suc n) = flat_map-append slots_at (empties owner n) _ ∙ (rw (empties_slots owner n) refl)
+empties_slots owner (suc n) = flat_map-append slots_of_home (empties owner n) _ ∙ (rw (empties_slots owner n) refl)
 
 pub empties_drawn : (owner n : ℕ) → flat_map drawn_at (empties owner n) ≡ []
 unfolding empties

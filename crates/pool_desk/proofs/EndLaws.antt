@@ -13,7 +13,7 @@ use Rattle.region_cut.specs.Endings.{Ended, EndingsState}
 use Rattle.slot_chain.specs.Buffer.{Buffer, ended_of}
 use Rattle.pool_desk.specs.Homes.{AtHome, HomeState, kept_in, open_chunk, unused, unused_from}
 use Rattle.pool_desk.specs.Homes.AtHome.{Kept, Fresh}
-use Rattle.pool_desk.specs.HomesState.{slots_at, drawn_at}
+use Rattle.pool_desk.specs.HomesState.{slots_of_home, drawn_at}
 
 pub kept_append : (xs ys : List AtHome) → kept_in (xs ++ ys) ≡ kept_in xs ++ kept_in ys
 kept_append [] ys = refl
@@ -49,7 +49,7 @@ home_ends bs m ties old s t e f =
     ∙ ap (λ cs. record { known = map ended_of (kept_in (map {A = Buffer} {B = AtHome} (λ x. Kept x) bs ++ unused m)) ++ old.known; chunks = cs }) (sym (append_assoc (open_chunk m) ties old.chunks)))
 
 abbrev pub all_let_go : List HomeState → EndingsState → EndingsState
-all_let_go hs s = let_go (flat_map slots_at hs) (flat_map drawn_at hs) s
+all_let_go hs s = let_go (flat_map slots_of_home hs) (flat_map drawn_at hs) s
 
 let_go_after : (xs ys : List AtHome) (cs ds : List Carved) (s : EndingsState) → let_go xs cs (let_go ys ds s) ≡ let_go (xs ++ ys) (cs ++ ds) s
 let_go_after xs ys cs ds s =
@@ -61,9 +61,9 @@ let_go_after xs ys cs ds s =
 -- the last home, and then those before it
 pub homes_end : (hs : List HomeState) (h : HomeState) (s t : EndingsState) → t ≡ let_go h.slots h.drawn s → all_let_go hs t ≡ all_let_go (hs ++ h ∷ []) s
 homes_end hs h s t e =
-    ap (all_let_go hs) e ∙ (let_go_after (flat_map slots_at hs) h.slots (flat_map drawn_at hs) h.drawn s
-    ∙ (ap (λ zs. let_go zs (flat_map drawn_at hs ++ h.drawn) s) (sym (flat_map-append slots_at hs (h ∷ []) ∙ ap (λ zs. flat_map slots_at hs ++ zs) (append-nil h.slots)))
-    ∙ ap (λ cs. let_go (flat_map slots_at (hs ++ h ∷ [])) cs s) (sym (flat_map-append drawn_at hs (h ∷ []) ∙ ap (λ zs. flat_map drawn_at hs ++ zs) (append-nil h.drawn)))))
+    ap (all_let_go hs) e ∙ (let_go_after (flat_map slots_of_home hs) h.slots (flat_map drawn_at hs) h.drawn s
+    ∙ (ap (λ zs. let_go zs (flat_map drawn_at hs ++ h.drawn) s) (sym (flat_map-append slots_of_home hs (h ∷ []) ∙ ap (λ zs. flat_map slots_of_home hs ++ zs) (append-nil h.slots)))
+    ∙ ap (λ cs. let_go (flat_map slots_of_home (hs ++ h ∷ [])) cs s) (sym (flat_map-append drawn_at hs (h ∷ []) ∙ ap (λ zs. flat_map drawn_at hs ++ zs) (append-nil h.drawn)))))
 
 -- a cache, and then the homes
 pub desk_ends : (kept cached : List Buffer) (old mid new : List Ended) → mid ≡ map ended_of cached ++ old → new ≡ map ended_of kept ++ mid

@@ -12,7 +12,7 @@ use Rattle.digit_route.specs.Route.{IsWellRouted}
 use Rattle.pool_desk.specs.declared.counts.Counts.{Counts}
 use Rattle.pool_desk.specs.Homes.AtHome.{Kept}
 use Rattle.pool_desk.specs.Desks.{DeskState}
-use Rattle.pool_desk.specs.Steps.{Handles, Counted, passed_on}
+use Rattle.pool_desk.specs.Steps.{Handles, CountsOf, passed_on}
 use Rattle.pool_desk.specs.Handling.{IsPassed, GoesHome, GoesOn}
 
 -- what of a batch is handled, and what is left of it
@@ -20,7 +20,7 @@ pub record Handled (old : DeskState) (batch rest : List Buffer) (new : DeskState
   pub done : List Buffer
   pub parts : batch ≡ rest ++ done
   pub handled : Handles old done new
-  pub counted : Counted old.number done (record { home = home; on = on })
+  pub counted : CountsOf old.number done (record { home = home; on = on })
   pub passed : All (IsPassed old.digits old.number) rest
 
 pub IsPassed-routed : (s : Scheme) (from a : ℕ) (items : List Buffer) → IsWellRouted s from a items → All (IsPassed s a) items
@@ -68,12 +68,12 @@ Handles-other old mid new done b h g =
 pub capped_more : (n : ℕ) → min (capped n + 1) (2 ^ 64 - 1) ≡ capped (suc n)
 capped_more n = omega arith
 
-pub Counted-own : (a : ℕ) (done : List Buffer) (b : Buffer) (c c' : Counts) → Counted a done c → b.owner ≡ a → c'.home ≡ min (c.home + 1) (2 ^ 64 - 1) → c'.on ≡ c.on → Counted a (b ∷ done) c'
+pub Counted-own : (a : ℕ) (done : List Buffer) (b : Buffer) (c c' : Counts) → CountsOf a done c → b.owner ≡ a → c'.home ≡ min (c.home + 1) (2 ^ 64 - 1) → c'.on ≡ c.on → CountsOf a (b ∷ done) c'
 Counted-own a done b c c' h e more same =
     let test : eqb b.owner a ≡ true = eq-eqb _ _ e in
     record { home = more ∙ rw (test, h.home) (capped_more _); on = same ∙ rw test h.on }
 
-pub Counted-other : (a : ℕ) (done : List Buffer) (b : Buffer) (c c' : Counts) → Counted a done c → b.owner ≢ a → c'.home ≡ c.home → c'.on ≡ min (c.on + 1) (2 ^ 64 - 1) → Counted a (b ∷ done) c'
+pub Counted-other : (a : ℕ) (done : List Buffer) (b : Buffer) (c c' : Counts) → CountsOf a done c → b.owner ≢ a → c'.home ≡ c.home → c'.on ≡ min (c.on + 1) (2 ^ 64 - 1) → CountsOf a (b ∷ done) c'
 Counted-other a done b c c' h ne same more =
     let test : eqb b.owner a ≡ false = ne_eqb _ _ ne in
     record { home = same ∙ rw test h.home; on = more ∙ rw (test, h.on) (capped_more _) }

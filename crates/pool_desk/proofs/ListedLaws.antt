@@ -9,7 +9,7 @@ use Rattle.std.proofs.lemmas.List.Sorted.{IsPermutation-refl, IsPermutation-appe
 use Rattle.std.proofs.lemmas.List.{map-append, take_more, take_all}
 use Rattle.std.proofs.lemmas.Grind.{flat_map-append}
 use Rattle.slot_chain.specs.Slots.{AddsSlots, slot_of}
-use Rattle.pool_desk.specs.HomesState.{slots_at}
+use Rattle.pool_desk.specs.HomesState.{slots_of_home}
 use Rattle.std.proofs.Math.Seq.{take-append_seam}
 use Rattle.region_cut.specs.declared.slot.Slot.{Slot}
 use Rattle.slot_chain.specs.Buffer.{Buffer}
@@ -88,15 +88,15 @@ none_listed t old = record { added = []; appended = sym (append-nil old); each =
 
 -- one home more
 pub homes_listed : {T E : Type 0} (t : T) (hs : List HomeState) (i : ℕ) (h : HomeState) (old mid new : List Slot) → i < length hs → h ≡ get_or hs i h
-    → AddsSlots (map slot_at (flat_map slots_at (take i hs))) old mid → AddsOn {T = T} {E = E} (Ok t) (map slot_at h.slots) mid new
-    → AddsSlots (map slot_at (flat_map slots_at (take (i + 1) hs))) old new
+    → AddsSlots (map slot_at (flat_map slots_of_home (take i hs))) old mid → AddsOn {T = T} {E = E} (Ok t) (map slot_at h.slots) mid new
+    → AddsSlots (map slot_at (flat_map slots_of_home (take (i + 1) hs))) old new
 homes_listed {T = T} {E = E} t hs i h old mid new l is a b =
     let front : take (i + 1) hs ≡ take i hs ++ h ∷ [] = take_more hs i h l ∙ ap (λ (z : HomeState). take i hs ++ z ∷ []) (sym is) in
-    let slots : map slot_at (flat_map slots_at (take (i + 1) hs)) ≡ map slot_at (flat_map slots_at (take i hs)) ++ map slot_at h.slots
-    = ap (λ (z : List HomeState). map slot_at (flat_map slots_at z)) front
-    ∙ (ap (map slot_at) (flat_map-append slots_at (take i hs) (h ∷ []))
-    ∙ (map-append slot_at (flat_map slots_at (take i hs)) (h.slots ++ [])
-    ∙ ap (λ (z : List AtHome). map slot_at (flat_map slots_at (take i hs)) ++ map slot_at z) (append-nil h.slots))) in
+    let slots : map slot_at (flat_map slots_of_home (take (i + 1) hs)) ≡ map slot_at (flat_map slots_of_home (take i hs)) ++ map slot_at h.slots
+    = ap (λ (z : List HomeState). map slot_at (flat_map slots_of_home z)) front
+    ∙ (ap (map slot_at) (flat_map-append slots_of_home (take i hs) (h ∷ []))
+    ∙ (map-append slot_at (flat_map slots_of_home (take i hs)) (h.slots ++ [])
+    ∙ ap (λ (z : List AtHome). map slot_at (flat_map slots_of_home (take i hs)) ++ map slot_at z) (append-nil h.slots))) in
     let r : Result T E = Ok t in
     subst (λ z. AddsSlots z old new) (sym slots) (Adds-ok t _ _ _ (AddsOn-more r _ _ old mid new a b))
 
@@ -130,11 +130,11 @@ pub home_alone : (home : List AtHome) (old new : List Slot) → AddsSlots (map s
 home_alone home old new a = subst (λ (z : List Slot). AddsSlots z old new) (sym (append-nil (map slot_at home))) a
 
 -- all homes are listed
-pub homes_done : {T E : Type 0} (t : T) (hs : List HomeState) (i : ℕ) (old new : List Slot) → length hs ≤ i → AddsSlots (map slot_at (flat_map slots_at (take i hs))) old new
-    → AddsOn {T = T} {E = E} (Ok t) (map slot_at (flat_map slots_at hs)) old new
+pub homes_done : {T E : Type 0} (t : T) (hs : List HomeState) (i : ℕ) (old new : List Slot) → length hs ≤ i → AddsSlots (map slot_at (flat_map slots_of_home (take i hs))) old new
+    → AddsOn {T = T} {E = E} (Ok t) (map slot_at (flat_map slots_of_home hs)) old new
 homes_done t hs i old new l a =
-    let b : AddsSlots (map slot_at (flat_map slots_at hs)) old new
-    = subst (λ (z : List HomeState). AddsSlots (map slot_at (flat_map slots_at z)) old new) (take_all i hs l) a in
+    let b : AddsSlots (map slot_at (flat_map slots_of_home hs)) old new
+    = subst (λ (z : List HomeState). AddsSlots (map slot_at (flat_map slots_of_home z)) old new) (take_all i hs l) a in
     record { added = b.added; appended = b.appended; each = b.each }
 
 -- all places that a cursor has still to give are listed

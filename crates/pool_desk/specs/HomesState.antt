@@ -12,8 +12,8 @@ pub record HomesState : Type 0 where
   pub slots : List AtHome
   pub drawn : List Carved
 
-abbrev pub slots_at : HomeState → List AtHome
-slots_at h = h.slots
+abbrev pub slots_of_home : HomeState → List AtHome
+slots_of_home h = h.slots
 
 abbrev pub drawn_at : HomeState → List Carved
 drawn_at h = h.drawn

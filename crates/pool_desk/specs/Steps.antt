@@ -81,6 +81,6 @@ pub record Handles (old : DeskState) (batch : List Buffer) (new : DeskState) : T
   pub cached : IsPermutation (map passed_on (others old.number batch) ++ old.cached) new.cached
 
 -- how many came home, and how many are passed on
-pub record Counted (a : ℕ) (batch : List Buffer) (c : Counts) : Type 0 where
+pub record CountsOf (a : ℕ) (batch : List Buffer) (c : Counts) : Type 0 where
   pub home : c.home ≡ capped (length (own a batch))
   pub on : c.on ≡ capped (length (others a batch))

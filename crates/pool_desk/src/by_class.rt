@@ -7,7 +7,7 @@ ghost use Rattle.region_cut.specs.Classes.{class_count, slots_of};
 ghost use Rattle.pool_desk.specs.Homes.{AtHome, HomeState, IsAtHome, GivesOne, IsRefused, Draws, kept_in, slot_at};
 ghost use Rattle.pool_desk.specs.Homes.{unused_from};
 ghost use Rattle.pool_desk.specs.Homes.AtHome.{Kept};
-ghost use Rattle.pool_desk.specs.HomesState.{empties, home_at, slots_at, drawn_at};
+ghost use Rattle.pool_desk.specs.HomesState.{empties, home_at, slots_of_home, drawn_at};
 ghost use Rattle.std.specs.List.{flat_map};
 ghost use Rattle.slot_chain.specs.Counts.{capped};
 ghost use Rattle.pool_desk.specs.Slots.{AddsOn};
@@ -41,7 +41,7 @@ pub(crate) fn empty_homes<'r>(owner: u16, takers: Takers) -> ByClass<'r>
 
 /// The number of slots, or the greatest u64.
 pub(crate) fn count_all(homes: &[Home<'_>]) -> u64
-    ensures { result ≡ capped (length (flat_map slots_at homes.now)) }
+    ensures { result ≡ capped (length (flat_map slots_of_home homes.now)) }
 {
     let mut total = 0u64;
     for home in homes {
@@ -52,7 +52,7 @@ pub(crate) fn count_all(homes: &[Home<'_>]) -> u64
 
 /// Adds the slots. Where memory is refused some of them are added.
 pub(crate) fn add_all(homes: &[Home<'_>], slots: &mut Vec<Slot>) -> Result<(), NoMemory>
-    ensures { AddsOn result (map slot_at (flat_map slots_at homes.now)) slots.old.items slots.new.items }
+    ensures { AddsOn result (map slot_at (flat_map slots_of_home homes.now)) slots.old.items slots.new.items }
 {
     for home in homes {
         home.add_slots(slots)?;
@@ -63,7 +63,7 @@ pub(crate) fn add_all(homes: &[Home<'_>], slots: &mut Vec<Slot>) -> Result<(), N
 /// Lets go the buffers and the cursors.
 pub(crate) fn end_all<'r>(homes: ByClass<'r>, endings: &mut Endings<'r>)
     ensures { endings.new ≡ record {
-      known = map ended_of (kept_in (flat_map slots_at homes.entry.items)) ++ endings.old.known;
+      known = map ended_of (kept_in (flat_map slots_of_home homes.entry.items)) ++ endings.old.known;
       chunks = flat_map drawn_at homes.entry.items ++ endings.old.chunks;
     } }
 {

@@ -13,7 +13,7 @@ ghost use Rattle.pool_desk.specs.HomesState.{HasClass};
 ghost use Rattle.pool_desk.specs.Desks.{profile_at};
 ghost use Rattle.pool_desk.specs.Homes.{IsOwn, kept_in};
 ghost use Rattle.pool_desk.specs.Slots.{slots_in};
-ghost use Rattle.pool_desk.specs.Steps.{Claims, NotNeededFor, Allocs, Frees, Handles, Counted};
+ghost use Rattle.pool_desk.specs.Steps.{Claims, NotNeededFor, Allocs, Frees, Handles, CountsOf};
 ghost use Rattle.pool_desk.specs.Handling.{IsPassed, GoesHome, GoesOn};
 
 use crate::homes::Homes;
@@ -208,7 +208,7 @@ impl<'r> Desk<'r> {
         requires address { batch.address ≡ self.old.number }
         requires digits { batch.digits ≡ self.old.digits }
         ensures parts { Handles self.old batch.entry.items self.new }
-        ensures counts { Counted self.old.number batch.entry.items result }
+        ensures counts { CountsOf self.old.number batch.entry.items result }
     {
         let mut chain = batch.into_chain();
         let mut home = 0u64;

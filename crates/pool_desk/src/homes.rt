@@ -26,13 +26,13 @@ pub(crate) struct Homes<'r> {
 
 impl<'r> Model for Homes<'r> {
     ghost use Rattle.std.specs.List.{flat_map};
-    ghost use Rattle.pool_desk.specs.HomesState.{HomesState, AreHomes, slots_at, drawn_at};
+    ghost use Rattle.pool_desk.specs.HomesState.{HomesState, AreHomes, slots_of_home, drawn_at};
 
     ghost Value = { HomesState };
 
     ghost view = { λ h. record {
       owner = h.owner;
-      slots = flat_map slots_at h.by_class.items;
+      slots = flat_map slots_of_home h.by_class.items;
       drawn = flat_map drawn_at h.by_class.items;
     } };
 

@@ -9,7 +9,7 @@ use Rattle.pool_machine.specs.declared.request.Request.TheVariants.{Free}
 use Rattle.region_cut.specs.Slots.{same_slot, times}
 use Rattle.pool_machine.specs.Slots.{one_if}
 use Rattle.pool_machine.specs.State.{State, Place, AtHome, OnLoan, InCache, InBatch, owner_of, same_place}
-use Rattle.pool_machine.specs.Refusals.{refusal, no_desk, slot_named}
+use Rattle.pool_machine.specs.Refusals.{refusal, lacks_desk, slot_named}
 use Rattle.pool_machine.specs.Steps.{after_free, relocate, move_one}
 use Rattle.pool_machine.specs.Sound.{Sound}
 use Rattle.pool_machine.specs.Listing.{slots_seen, Listing, DeskListing, Entry, BatchListing, desk_listing, Labelled, Counted, ShowsFrame}
@@ -250,7 +250,7 @@ module _ (v : Listing) (st : State) (count : Slot → ℕ) (a : ℕ) (e : Entry)
 -- the slot of an accepted free is lent
 pub accepted_lent : (st : State) (a : ℕ) (pair : ℕ × ℕ) → refusal st (Free a pair) ≡ None → same_place OnLoan (st.place (slot_named pair)) ≡ true
 accepted_lent st a pair n =
-    let e1 = none_holds (no_desk st a) _ _ n in
+    let e1 = none_holds (lacks_desk st a) _ _ n in
     let e2 = none_holds _ _ _ e1.1 in
     let e3 = none_holds (not (same_place OnLoan (st.place (slot_named pair)))) _ _ e2.1 in
     not-false (same_place OnLoan (st.place (slot_named pair))) e3.0

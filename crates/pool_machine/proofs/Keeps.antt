@@ -10,7 +10,7 @@ use Rattle.region_cut.specs.Classes.{slots_of}
 use Rattle.region_cut.specs.Slots.{same_slot}
 use Rattle.pool_machine.specs.Slots.{has_index}
 use Rattle.pool_machine.specs.State.{Place, AtHome, OnLoan, InCache, InBatch, Waiting, State, owner_of, class_of, slots, home_with, in_bucket, inbox, digits_of, same_place, is_at}
-use Rattle.pool_machine.specs.Refusals.{refusal, no_desk, slot_named}
+use Rattle.pool_machine.specs.Refusals.{refusal, lacks_desk, slot_named}
 use Rattle.pool_machine.specs.Steps.{Answer, relocate, move_one, move_bucket, move_batch, with_holder, with_chunk, front_of, after_send, after_take, after_free, after, Answers, Run}
 use Rattle.pool_machine.specs.Forwards.{counted, forwards}
 use Rattle.pool_machine.specs.Sound.{Member, GoesNearer, FitsIn, Fits, FitsWaiting, Rising, Sound}
@@ -385,7 +385,7 @@ take_sound st c b h bl front = record {
 
 -- ---- any step
 
-a_desk_from : (st : State) (a : ℕ) → no_desk st a ≡ false → a < st.desks
+a_desk_from : (st : State) (a : ℕ) → lacks_desk st a ≡ false → a < st.desks
 a_desk_from st a e = leb-false st.desks a e
 
 home_is : (st : State) (a z : ℕ) (s : Slot) → home_with st a z s ≡ true → same_place AtHome (st.place s) ≡ true
@@ -403,7 +403,7 @@ alloc_step st c a z s h e =
 pub free_step : (st : State) (c : Slot → ℕ) (a : ℕ) (pair : ℕ × ℕ) → Sound st c → refusal st (Free a pair) ≡ None →
     Sound (after_free st a (slot_named pair)) (λ s. if same_slot (slot_named pair) s then 0 else c s)
 free_step st c a pair h e =
-    let e1 = none_holds (no_desk st a) _ _ e in
+    let e1 = none_holds (lacks_desk st a) _ _ e in
     let e2 = none_holds _ _ _ e1.1 in
     let e3 = none_holds (not (same_place OnLoan (st.place (slot_named pair)))) _ _ e2.1 in
     moved_sound st c (slot_named pair) (freed_place st a (slot_named pair)) 0 h (inr (not-false (same_place OnLoan (st.place (slot_named pair))) e3.0))
@@ -411,16 +411,16 @@ free_step st c a pair h e =
   where
     fit : (b : Bool) → (owner_of st (slot_named pair) == a) ≡ b → FitsIn st (owner_of st (slot_named pair)) 0 (if b then AtHome else InCache a)
     fit true q = tt
-    fit false q = (a_desk_from st a (none_holds (no_desk st a) _ _ e).0, eqb-false (owner_of st (slot_named pair)) a q, zero-le)
+    fit false q = (a_desk_from st a (none_holds (lacks_desk st a) _ _ e).0, eqb-false (owner_of st (slot_named pair)) a q, zero-le)
 
 pub send_step : (st : State) (c : Slot → ℕ) (a t : ℕ) → Sound st c → refusal st (Send a t) ≡ None → Sound (after_send st a t) c
 send_step st c a t h e =
-    let e1 = none_holds (no_desk st a || no_desk st t) _ _ e in
+    let e1 = none_holds (lacks_desk st a || lacks_desk st t) _ _ e in
     let e2 = none_holds _ _ _ e1.1 in
     let e3 = none_holds (a == t) _ _ e2.1 in
     let e4 = none_holds _ _ _ e3.1 in
     let e5 = none_holds (not (list_any (λ s. in_bucket st a t s && (owner_of st s == t)) (slots st))) _ _ e4.1 in
-    let d = or_parts (no_desk st a) (no_desk st t) e1.0 in
+    let d = or_parts (lacks_desk st a) (lacks_desk st t) e1.0 in
     send_sound st c a t h (a_desk_from st a d.0) (a_desk_from st t d.1) (eqb-false a t e3.0)
     (any_witness (λ s. in_bucket st a t s && (owner_of st s == t)) (slots st)
     (not-false (list_any (λ s. in_bucket st a t s && (owner_of st s == t)) (slots st)) e5.0))
@@ -428,14 +428,14 @@ send_step st c a t h e =
 pub take_step : (st : State) (c : Slot → ℕ) (b : ℕ) → Sound st c → refusal st (Take b) ≡ None →
     Sound (after_take st b) (λ s. if same_place (InBatch (front_of st b)) (st.place s) && not (owner_of st s == b) then suc (c s) else c s)
 take_step st c b h e =
-    let e1 = none_holds (no_desk st b) _ _ e in
+    let e1 = none_holds (lacks_desk st b) _ _ e in
     let e2 = none_holds _ _ _ e1.1 in
     let e3 = none_holds (not (front_ready (inbox st b))) _ _ e2.1 in
     take_sound st c b h (a_desk_from st b e1.0) (front_is (λ w. b == w.address) st.waiting (not-false (front_ready (inbox st b)) e3.0))
 
 pub claim_step : (st : State) (c : Slot → ℕ) (a z k : ℕ) → Sound st c → refusal st (Claim a z) ≡ None → (k < st.chunks) × (st.drawn k ≡ None) →
     Sound (with_chunk k a z st) c
-claim_step st c a z k h e r = claim_sound st c k a z h r.0 (a_desk_from st a (none_holds (no_desk st a) _ _ e).0) r.1
+claim_step st c a z k h e r = claim_sound st c k a z h r.0 (a_desk_from st a (none_holds (lacks_desk st a) _ _ e).0) r.1
 
 pub sound_step : (st : State) (c : Slot → ℕ) (q : Request) (y : Answer) → Sound st c → Answers st q y →
     Sound (after st q y) (λ s. counted st q y s (c s))

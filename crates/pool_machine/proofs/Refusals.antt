@@ -13,7 +13,7 @@ use Rattle.region_cut.specs.Classes.{classes_of, largest_of}
 use Rattle.region_cut.specs.Slots.{same_slot, times}
 use Rattle.pool_machine.specs.Slots.{one_if}
 use Rattle.pool_machine.specs.State.{profile_at, least_class, State, Waiting, owner_of, class_of, slots, home_with, has_home, in_bucket, inbox, OnLoan, InCache, same_place, is_at}
-use Rattle.pool_machine.specs.Refusals.{first, conditions, refusal, no_desk, is_idle, slot_named, may_grow}
+use Rattle.pool_machine.specs.Refusals.{first, conditions, refusal, lacks_desk, is_idle, slot_named, may_grow}
 use Rattle.pool_machine.specs.Sound.{Member}
 use Rattle.pool_machine.specs.Listing.{Listing, Entry, BatchListing, slots_seen, desk_listing, as_waiting}
 use Rattle.pool_machine.proofs.Located.{inbox_listing, HomeOf, Loans, CacheOf, list_of, is_list, Located, LocatedStep}
@@ -196,7 +196,7 @@ drawn_all v st count h =
 -- ---- the conditions
 
 module _ (v : Listing) (st : State) (count : Slot → ℕ) (h : Located v st count) where
-  no_desk_is : (a : ℕ) → no_desk st a ≡ nat_le (length v.desks) a
+  no_desk_is : (a : ℕ) → lacks_desk st a ≡ nat_le (length v.desks) a
   no_desk_is a = ap (λ n. nat_le n a) (sym h.frame.desks)
 
   idle_is : (a : ℕ) → is_idle st a ≡ is_none (desk_listing v a).worker

@@ -15,8 +15,8 @@ use Rattle.pool_machine.specs.State.{OnLoan, InCache, Waiting, State, profile_at
 use Rattle.pool_machine.specs.State.{is_at, has_home, in_bucket, front}
 
 -- there is no desk a
-abbrev pub no_desk : State → ℕ → Bool
-no_desk st a = nat_le st.desks a
+abbrev pub lacks_desk : State → ℕ → Bool
+lacks_desk st a = nat_le st.desks a
 
 -- no worker holds it
 abbrev pub is_idle : State → ℕ → Bool
@@ -28,26 +28,26 @@ slot_named pair = record { chunk = pair.0; index = pair.1 }
 
 -- what may stand against a request, in the order in which it is tested
 abbrev pub conditions : State → Request → List (Bool × Refusal)
-conditions st (Adopt a x) = (no_desk st a, NoDesk) ∷ (is_some (st.holder a), Held) ∷ []
+conditions st (Adopt a x) = (lacks_desk st a, NoDesk) ∷ (is_some (st.holder a), Held) ∷ []
 conditions st (Retire a) =
-    (no_desk st a, NoDesk) ∷ (is_idle st a, Idle) ∷ (list_any (is_at st (InCache a)) (slots st), Unsettled)
+    (lacks_desk st a, NoDesk) ∷ (is_idle st a, Idle) ∷ (list_any (is_at st (InCache a)) (slots st), Unsettled)
     ∷ (list_any (λ w. (a == w.sender) && not w.linked) st.waiting, Unsettled) ∷ []
 conditions st (Claim a c) =
-    (no_desk st a, NoDesk) ∷ (is_idle st a, Idle) ∷ (nat_le (classes_of (profile_at st)) c, BadClass)
+    (lacks_desk st a, NoDesk) ∷ (is_idle st a, Idle) ∷ (nat_le (classes_of (profile_at st)) c, BadClass)
     ∷ (has_home st a c, NotNeeded) ∷ (list_all (λ k. is_some (st.drawn k)) (range_with_len 0 st.chunks), NoChunk) ∷ []
 conditions st (Alloc a n) =
-    (no_desk st a, NoDesk) ∷ (is_idle st a, Idle) ∷ (nat_lt (largest_of (profile_at st)) n, TooLarge)
+    (lacks_desk st a, NoDesk) ∷ (is_idle st a, Idle) ∷ (nat_lt (largest_of (profile_at st)) n, TooLarge)
     ∷ (not (has_home st a (least_class (profile_at st) n)), NeedChunk) ∷ []
 conditions st (Free a pair) =
-    (no_desk st a, NoDesk) ∷ (is_idle st a, Idle) ∷ (not (is_at st OnLoan (slot_named pair)), NotLent) ∷ []
+    (lacks_desk st a, NoDesk) ∷ (is_idle st a, Idle) ∷ (not (is_at st OnLoan (slot_named pair)), NotLent) ∷ []
 conditions st (Send a t) =
-    (no_desk st a || no_desk st t, NoDesk) ∷ (is_idle st a, Idle) ∷ (a == t, ToSelf)
+    (lacks_desk st a || lacks_desk st t, NoDesk) ∷ (is_idle st a, Idle) ∷ (a == t, ToSelf)
     ∷ (not (list_any (in_bucket st a t) (slots st)), NothingFor)
     ∷ (not (list_any (λ s. in_bucket st a t s && (owner_of st s == t)) (slots st)), NotAnOwner)
     ∷ (nat_le (2 ^ 32) st.next, Spent) ∷ []
 conditions st (Link n) = (not (list_any (λ w. (n == w.number) && not w.linked) st.waiting), NoBatch) ∷ []
 conditions st (Take b) =
-    (no_desk st b, NoDesk) ∷ (is_idle st b, Idle)
+    (lacks_desk st b, NoDesk) ∷ (is_idle st b, Idle)
     ∷ (not (option_map_or (λ w. w.linked) (front st b) false), Nothing) ∷ []
 
 -- the first of them that holds

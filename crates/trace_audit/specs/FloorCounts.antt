@@ -16,8 +16,8 @@ use Rattle.trace_audit.specs.declared.grammar.header.Header.{Header}
 use Rattle.trace_audit.specs.declared.report.closing.DeskCounts.{DeskCounts}
 
 -- the numbers of desks have the profile's bits, and digits of the header's width
-abbrev pub digits_of : Header → Scheme
-digits_of h = record { width = h.width; bits = bits_of h.profile }
+abbrev pub scheme_of : Header → Scheme
+scheme_of h = record { width = h.width; bits = bits_of h.profile }
 
 -- the floor shows the pool behind its header
 abbrev pub Opens : Header → FloorState → Type 0

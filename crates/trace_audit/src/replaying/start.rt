@@ -1,7 +1,7 @@
 //! From the header on.
 ghost use Rattle.std.specs.Prelude.{◌≡◌, ◌≤◌, ◌*◌, ◌↔◌, ◌++◌, length, false, IfOk, IfSome, IsSome};
 ghost use Rattle.region_cut.specs.Limits.{chunk_limit, chunk_size};
-ghost use Rattle.trace_audit.specs.FloorCounts.{Opens, digits_of};
+ghost use Rattle.trace_audit.specs.FloorCounts.{Opens, scheme_of};
 ghost use Rattle.trace_audit.specs.Grammar.{IsHeader};
 ghost use Rattle.trace_audit.specs.Replay.{Failures, Replays, ReplaysAudited};
 ghost use Rattle.trace_audit.specs.Steps.{Replayed, ReplayedBehind};
@@ -44,7 +44,7 @@ fn region_of(alloc: Global, chunks: u32) -> Result<Vec<u8>, AllocError>
 /// How the numbers of the header's desks are read.
 fn digits_of(header: Header) -> Option<Digits>
     ensures some { IsSome result ↔ ((1 ≤ header.width) × (header.width ≤ 6)) }
-    ensures value { IfSome result (λ digits. digits ≡ digits_of header) }
+    ensures value { IfSome result (λ digits. digits ≡ scheme_of header) }
 {
     match header.profile {
         Profile::Pool => Digits::new(header.width),

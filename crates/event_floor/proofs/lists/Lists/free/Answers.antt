@@ -4,7 +4,7 @@ use Rattle.region_cut.specs.declared.slot.Slot.{Slot}
 use Rattle.pool_machine.specs.declared.refusal.Refusal.TheVariants.{NotLent}
 use Rattle.pool_machine.specs.declared.request.Request.TheVariants.{Free}
 use Rattle.event_floor.specs.declared.any_desk.AnyDesk.TheVariants.{Held}
-use Rattle.event_floor.specs.Floors.{FloorState, AreOwned, IsKnown}
+use Rattle.event_floor.specs.Floors.{FloorState, AreOwned, FitsFloor}
 use Rattle.event_floor.specs.Steps.{Refuses}
 use Rattle.event_floor.proofs.DeskLaws.{free_keeps}
 use Rattle.event_floor.proofs.FloorLaws.{floor_settled, floor_desk, floor_lent, owned_set, lent_owned, takes_owner, chunk_within, held_desk_of}
@@ -20,7 +20,7 @@ invariant_of-self-2 c =
     let own_desk = held_desk_of c.args.a c.in-Held.desk f held.0 held.1 in
     let took = c.in-Some.ensures in
     let index : c.in-Some.buf.slot.index < 256 = subst (λ (z : Slot). z.index < 256) (sym took.1) took.2 in
-    let known : IsKnown (length c.self.inside.desks.items) (length c.self.inside.chunks.parts) c.in-Some.buf =
+    let known : FitsFloor (length c.self.inside.desks.items) (length c.self.inside.chunks.parts) c.in-Some.buf =
     record { owner = lent_owned _ _ _ _ c.in-Some.buf f.owned took.0; chunk = chunk_within _ _ _ _ took.3 f.table; index = index } in
     floor_settled (floor_desk c.args.a _
     (floor_lent _ f (ap length took.4 ∙ length-set _ _ _) (subst (λ z. AreOwned (length c.self.inside.desks.items) z) (sym took.4) (owned_set _ _ _ _ f.owned took.3 tt))) held.0
