@@ -1,6 +1,7 @@
 -- What a contract sees of an inbox and of its seats.
 use Rattle.std.specs.Prelude.{◌≡◌, ℕ, suc, ◌+◌, ◌*◌, ◌%◌, ◌<◌, ◌≤◌, Bool, true, false, Option, Some, None}
 use Rattle.std.specs.Prelude.{List, [], ◌∷◌, length, slice_get}
+use Rattle.batch_inbox.specs.Limits.{sender_limit}
 use Rattle.atomic_table.specs.Seated.{TableId}
 use Rattle.digit_route.specs.States.{BatchState}
 use Rattle.batch_inbox.specs.States.{InboxId}
@@ -93,6 +94,6 @@ pub record IsTakeSeat (slots : ℕ) (me : SeatState BatchState) (front : ℕ) : 
   pub fronted : me.0.node ≡ front
   pub inside : front < slots
   pub all : slots ≡ me.0.made * 16 + 1
-  pub few : (1 ≤ me.0.made) × (me.0.made ≤ 64)
+  pub few : (1 ≤ me.0.made) × (me.0.made ≤ sender_limit)
   pub alone : me.0.known ≡ []
   pub empty : me.1 ≡ []

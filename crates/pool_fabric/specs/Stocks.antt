@@ -1,5 +1,6 @@
 -- What a contract sees of the stock of chunks.
 use Rattle.std.specs.Prelude.{◌≡◌, ◌≢◌, ℕ, ◌+◌, ◌<◌, ◌≤◌, List, [], ◌∷◌, ◌++◌, Option, Some, None, slice_get}
+use Rattle.region_cut.specs.Limits.{chunk_limit}
 use Rattle.region_cut.specs.declared.part.Part.{Part}
 use Rattle.slot_audit.specs.Audit.{class_noted}
 use Rattle.pool_fabric.specs.Weights.{weigh}
@@ -24,7 +25,7 @@ pub record IsFalling (ps : List Part) : Type 0 where
 
 -- each is the chunk of a region
 pub record AreChunks (ps : List Part) : Type 0 where
-  pub each : (k : ℕ) (p : Part) → slice_get ps k ≡ Some p → p.chunk < 1024
+  pub each : (k : ℕ) (p : Part) → slice_get ps k ≡ Some p → p.chunk < chunk_limit
 
 -- no two are of one chunk
 pub record AreApart (ps : List Part) : Type 0 where

@@ -1,5 +1,6 @@
 -- What an audit of a floor goes over: the slots of all its lists, and its drawn chunks.
 use Rattle.std.specs.Prelude.{ℕ, ◌≡◌, ◌<◌, ◌≤◌, List, Option, None, IsPermutation}
+use Rattle.region_cut.specs.Limits.{chunk_limit}
 use Rattle.region_cut.specs.declared.slot.Slot.{Slot}
 use Rattle.pool_machine.specs.State.{State}
 use Rattle.pool_machine.specs.Listing.{Shown}
@@ -12,8 +13,8 @@ use Rattle.slot_audit.specs.declared.fault.Fault.{Fault}
 
 -- of each chunk of a region, the class that the floor drew it for
 pub record TellsDrawn (v : FloorState) (drawn : List (Option ℕ)) : Type 0 where
-  pub classes : (k : ℕ) → k < 1024 → class_noted drawn k ≡ class_drawn v.drawn k
-  pub no_more : (k : ℕ) → 1024 ≤ k → class_noted drawn k ≡ None
+  pub classes : (k : ℕ) → k < chunk_limit → class_noted drawn k ≡ class_drawn v.drawn k
+  pub no_more : (k : ℕ) → chunk_limit ≤ k → class_noted drawn k ≡ None
 
 -- the homes, the caches, the inboxes and the lent buffers, joined, have each slot of a drawn chunk once, and no other
 -- slot
@@ -30,4 +31,4 @@ pub record ShowsPool (v : FloorState) : Type 0 where
   pub state : State
   pub passed : Slot → ℕ
   pub shown : Shown (listing_of v) state passed
-  pub few_chunks : v.chunks ≤ 1024
+  pub few_chunks : v.chunks ≤ chunk_limit

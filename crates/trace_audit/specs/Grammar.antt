@@ -1,5 +1,7 @@
 -- Which bytes spell a header and which a request, both without their line feed.
 use Rattle.std.specs.Prelude.{ℕ, ◌<◌, ◌≤◌, ◌^◌, List, ◌∷◌, ◌++◌, codes, decimal}
+use Rattle.region_cut.specs.Limits.{chunk_limit}
+use Rattle.digit_route.specs.Limits.{width_limit}
 use Rattle.region_cut.specs.Classes.{bits_of}
 use Rattle.region_cut.specs.declared.profile.Profile.{Profile}
 use Rattle.region_cut.specs.declared.profile.Profile.TheVariants.{Pool, Pool2}
@@ -50,6 +52,6 @@ header_text h = profile_text h.profile ++ 32 ∷ decimal h.desks ++ 32 ∷ pair 
 pub record IsHeader (h : Header) : Type 0 where
   pub some_desk : 1 ≤ h.desks
   pub few_desks : h.desks ≤ 2 ^ bits_of h.profile
-  pub few_chunks : h.chunks ≤ 1024
+  pub few_chunks : h.chunks ≤ chunk_limit
   pub some_width : 1 ≤ h.width
-  pub small_width : h.width ≤ 6
+  pub small_width : h.width ≤ width_limit

@@ -8,10 +8,13 @@ use Rattle.trace_audit.specs.Report.{counts_text, desk_line, total}
 use Rattle.trace_audit.specs.declared.grammar.header.Header.{Header}
 use Rattle.trace_audit.specs.declared.report.closing.DeskCounts.{DeskCounts}
 
--- the pool behind its header: the numbers of its desks have the profile's bits and digits of the header's width, and
--- its limit is 4,096 bytes
+-- the bytes above which a cache of a trace's pool is due
+abbrev pub trace_limit : ℕ
+trace_limit = 4096
+
+-- the pool behind its header: the numbers of its desks have the profile's bits and digits of the header's width
 abbrev pub opening_of : Header → State
-opening_of h = opening h.desks h.chunks (record { width = h.width; bits = bits_of h.profile }) 4096
+opening_of h = opening h.desks h.chunks (record { width = h.width; bits = bits_of h.profile }) trace_limit
 
 -- how many slots are at home with a desk, in its cache, and in the batches that wait for it
 abbrev pub counts_in : State → ℕ → DeskCounts
