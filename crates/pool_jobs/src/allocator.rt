@@ -81,6 +81,15 @@ impl<
         true
     }
 
+    // The class of a buffer of so many bytes.
+    #[inline]
+    fn class_for(&self, size: usize) -> Option<Class>
+        ensures { IfSome result (λ class. IsClassFor J.names size class) }
+    {
+        let _number = self.station.number();
+        self.station.digits().profile().class_for(size)
+    }
+
     // Takes what came in batches, at most 64.
     fn look<R: Wait>(&mut self, rt: &R)
         ensures { Keeps J.names self.old self.new }
@@ -161,18 +170,19 @@ impl<
     pub fn alloc<R: Wait>(&mut self, rt: &R, size: usize) -> Result<Buffer<'r, J>, PoolError>
         ensures { Serves J.names self.old size result self.new }
     {
-        let _number = self.station.number();
-        let Some(class) = self.station.digits().profile().class_for(size) else {
+        let Some(class) = self.class_for(size) else {
             return self.ask(size);
         };
-        if self.is_to_look() {
-            return self.ask_after_taking(rt, class, size);
+        // Both ways lead to one call, since the memory for the answer of each call is cleared before
+        // anything is done.
+        if !self.is_to_look() {
+            match self.ask(size) {
+                Ok(buffer) => return Ok(buffer),
+                Err(PoolError::UsedUp) => {}
+                Err(error) => return Err(error),
+            }
         }
-        match self.ask(size) {
-            Ok(buffer) => Ok(buffer),
-            Err(PoolError::UsedUp) => self.ask_after_taking(rt, class, size),
-            Err(error) => Err(error),
-        }
+        self.ask_after_taking(rt, class, size)
     }
 
     // Posts all that is cached, unless a post was refused and little has come since. A refused one
