@@ -72,8 +72,13 @@ impl Tally {
             return;
         }
         let before = self.taken[sender];
-        if number.map(|number| number as u64) != Some(before) {
-            self.in_order = false;
+        match number {
+            Some(number) => {
+                if number as u64 != before {
+                    self.in_order = false;
+                }
+            }
+            None => self.in_order = false,
         }
         self.taken[sender] = before.saturating_add(1);
     }
