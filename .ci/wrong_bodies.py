@@ -2,7 +2,7 @@
 """Tries edits that give functions wrong bodies, many in one check: crates/NAME/must-fail/*.edit, which the gate tries
 too, and crates/NAME/wrong-bodies/*.edit, which it doesn't.
 
-    python3 .ci/wrong_bodies.py [--jobs N] [CRATE[:EDIT,..] ..]
+    python3 .ci/wrong_bodies.py [--jobs N] [--without-answers] [CRATE[:EDIT,..] ..]
 
 The gate tries an edit by a check of its own, so must-fail/ has those that tell most. This is for who changes a crate:
 it tries all, and says by which clause each is refused. A function is proved from the contracts of those that it calls
@@ -17,6 +17,13 @@ an edit counts as a failure: give it a form that keeps the calls and turns a val
 come together the line tells both: see whether the goal is false, or has only lost its proof. A crate of which out/
 keeps no proofs is checked first. At most N crates at a time, and without --jobs as many as there are processors.
 
+With --without-answers an edit of a function that has answers to goals (Answers.antt) is tried without them, so that
+none of them can be what refuses it. The right body is checked without them too: what is open then says nothing of the
+edit. It is refused where a goal is open that states what no open goal of the right body does; the line has what it
+states, and `false` where the prover has found values at which it fails. A true one may be open, only for want of its
+answer: read it. Where none but goals of the right body are open the edit counts as not shown to be refused: read
+whether one of them is false by now. Where none is open, the contract lets the edit through.
+
 Prints a line for each edit, and in the last line how many were refused, let through, and not shown to be refused. The
 exit status is 1 where one was not refused, or not shown to be, and 2 where an edit can't be applied, the compiler can't
 read it, or the libraries aren't there.
@@ -24,31 +31,23 @@ read it, or the libraries aren't there.
 import argparse
 import collections
 import concurrent.futures
-import dataclasses
 import enum
 import os
 import pathlib
 import re
-import shutil
 import subprocess
 import sys
 import tempfile
 import time
 
-TOP = pathlib.Path(__file__).resolve().parent.parent
-FOLDERS = ("must-fail", "wrong-bodies")
-PARTS = ("src", "specs", "proofs")
-FUNCTION = re.compile(r"^( *)(?:(?:pub(?:\([a-z: ]+\))?|const|unsafe) )*fn (\w+)(.*)", re.M)
+from edits import FOLDERS, TOP, BadEdit, answered_by, batch_of, copied, lines_of, proofs_of, read, written
+
 SAID = re.compile(r"^(?:note: )?(?:\./)?((?:src|specs|proofs)/\S+?):(\d+):\d+: (.*)")
 UNPROVED = re.compile(r"(?:error: )?(?:it is not proved that|`search` found no proof)")
 STALE = re.compile(r"error: .*(?:has no field|is not in scope|has no `|was not admitted)")
-BLOCK = re.compile(r"^impl\b(?:.* for )?[^{\n]*?\b([A-Z]\w*)(?:<[^{\n]*>)?(?: \{|$)", re.M)
 GOAL = re.compile(r"\(`([^`]+)`\)")
 NAMED = re.compile(r"error: `([^`]+)`")
-
-
-class BadEdit(Exception):
-    """An edit that can't be tried."""
+STATED = re.compile(r"^note: `([^`]+)` of (?:\./)?(proofs/\S+) must prove: (.*)", re.M)
 
 
 class Verdict(enum.Enum):
@@ -58,146 +57,6 @@ class Verdict(enum.Enum):
     UNSHOWN = "NOT SHOWN TO BE REFUSED"
     PASSED = "NOT REFUSED"
     BAD = "BAD EDIT"
-
-
-@dataclasses.dataclass(frozen=True)
-class Function:
-    """A function: its file, its name, and how many of this name stand above it in the file."""
-
-    file: str
-    name: str
-    above: int
-
-
-@dataclasses.dataclass(frozen=True)
-class Change:
-    """What an edit puts in the place of the text from `start` to `end` of a file."""
-
-    file: str
-    start: int
-    end: int
-    text: str
-
-
-@dataclasses.dataclass(frozen=True)
-class Edit:
-    """A wrong body: the functions that it changes, mostly one, and its changes. One that changes anything but bodies has
-    no function."""
-
-    crate: str
-    name: str
-    functions: frozenset
-    changes: tuple
-
-
-def spans(text):
-    """Each function of the text with where it and its body start and where it ends, as `rt fmt` lays it out: it ends at
-    the first `}` in the column that it begins in, and its body starts behind the first `{` that ends a line of it."""
-    above = collections.Counter()
-    for it in FUNCTION.finditer(text):
-        line = it[3].rstrip()
-        closing = it.end() if line.endswith("}") else None
-        if closing is None and not line.endswith(";"):
-            found = re.compile(rf"^{it[1]}\}}", re.M).search(text, it.end())
-            closing = found and found.end()
-        body = re.compile(rf"^{it[1]}\{{$|^{it[1]}\S.* \{{$", re.M).search(text, it.start())
-        if closing:
-            yield it[2], above[it[2]], it.start(), body.end() if body and body.end() < closing else it.start(3), closing
-        above[it[2]] += 1
-
-
-def function_at(file, text, start, end):
-    """The innermost function of the file whose body has all from `start` to `end`."""
-    found = [Function(file, name, above) for name, above, _, body, to in spans(text) if body <= start and end <= to]
-    return found[-1] if found else None
-
-
-def read(path):
-    """The edit in this file."""
-    crate = path.parent.parent
-    file, old, changes, functions = None, None, [], set()
-    for line in path.read_text().splitlines():
-        key, _, text = line.partition(": ")
-        if key == "file":
-            file = text.strip()
-        elif key == "old":
-            old = text
-        elif key in ("new", "new:"):
-            if file is None or old is None or not (crate / file).is_file():
-                raise BadEdit("it has no line `file:` of a file of the crate, or no line `old:` before this `new:`")
-            source = (crate / file).read_text()
-            if source.count(old) != 1:
-                raise BadEdit(f"`{old}` stands in {file} {source.count(old)} times, and not once")
-            start, same = source.index(old), len(os.path.commonprefix([old, text]))
-            change = Change(file, start + same, start + len(old), text[same:])
-            functions.add(function_at(file, source, change.start, change.end) if file.startswith("src/") else None)
-            changes.append(change)
-            old = None
-    if not changes:
-        raise BadEdit("it has no lines `old:` and `new:`")
-    return Edit(crate.name, path.stem, frozenset(() if None in functions else functions), tuple(changes))
-
-
-def batch_of(edits):
-    """As many of the edits, in order, as give no function two bodies, or one that changes something else."""
-    batch = []
-    for edit in edits:
-        if edit.functions and all(edit.functions.isdisjoint(other.functions) for other in batch):
-            batch.append(edit)
-    return batch or edits[:1]
-
-
-def copied(crate, room):
-    """A copy of the repository in which only this crate's own files are new, and the others are links."""
-    def link(source, target):
-        try:
-            os.link(source, target)
-        except OSError:
-            shutil.copy2(source, target)
-
-    for name in ("crates.txt", "HANDLES"):
-        shutil.copy2(TOP / name, room / name)
-    subprocess.run(["git", "init", "-q", room], check=True)
-    for folder in sorted((TOP / "crates").iterdir()):
-        unread = [*FOLDERS, "must-not-compile", "rlib" if folder.name == crate else "incremental"]
-        shutil.copytree(folder, room / "crates" / folder.name, ignore=shutil.ignore_patterns(*unread),
-                        copy_function=shutil.copy2 if folder.name == crate else link)
-    return room / "crates" / crate
-
-
-def written(folder, batch):
-    """Gives the crate in this folder the changes of the batch, and nothing else; answers the texts of its files."""
-    texts, own = {}, TOP / "crates" / folder.name
-    for path in sorted(it for part in PARTS for it in (own / part).rglob("*.*t*") if it.is_file()):
-        file = str(path.relative_to(own))
-        text = path.read_text()
-        changes = [change for edit in batch for change in edit.changes if change.file == file]
-        for change in sorted(changes, key=lambda it: it.start, reverse=True):
-            text = text[: change.start] + change.text + text[change.end :]
-        if (folder / file).read_text() != text:
-            (folder / file).write_text(text)
-        texts[file] = text
-    return texts
-
-
-def lines_of(function, text):
-    """The first and the last line of the function in this text of its file, with the attributes above it."""
-    start, end = next((it[2], it[4]) for it in spans(text) if it[:2] == (function.name, function.above))
-    first = text.count("\n", 0, start)
-    lines = text.split("\n")
-    while first and lines[first - 1] and not lines[first - 1].endswith(("{", "}", ";")):
-        first -= 1
-    return first + 1, text.count("\n", 0, end) + 1
-
-
-def proofs_of(function, text):
-    """What the paths of proofs by hand for this function look like: they lie below its type's module, or its own."""
-    start = next(it[2] for it in spans(text) if it[:2] == (function.name, function.above))
-    block = [it for it in BLOCK.finditer(text, 0, start)][-1:]
-    if block and re.compile(r"^}", re.M).search(text, block[0].end(), start) is None:
-        return re.compile(rf"proofs/(?:\w+/)*{block[0][1]}(?:[A-Z]\w*)?/{function.name}/")
-    module = function.file.removeprefix("src/").removesuffix(".rt")
-    return re.compile(rf"proofs/{'' if module in ('lib', 'main') else f'{module}/'}{function.name}/")
 
 
 def refusal(function, text, said):
@@ -280,9 +139,68 @@ def tried(crate, edits):
     return answers, checks
 
 
+def left_open(edit, texts, said, told):
+    """What this check left open of the edit's functions: the name of each goal, what it states, as far as that is told,
+    and whether the prover knows it to be false; the proofs by hand that only name what is gone; and whether goals of
+    one were left out, since it calls a function that isn't proved."""
+    false = {it[1] for _, _, what in said if "is false" in what for it in [GOAL.search(what)] if it}
+    goals, gone, is_partial = {}, [], False
+    for function in edit.functions:
+        proofs = proofs_of(function, texts[function.file])
+        stated = {name: what for name, file, what in STATED.findall(told) if proofs.match(file)}
+        names, refused, stale = refusal(function, texts[function.file], said)
+        goals |= {name: (stated.get(name, ""), name in false) for name in names + refused}
+        gone += stale
+        is_partial |= re.search(rf"^fn \S*::{function.name}: no proof: .*it calls", told, re.M) is not None
+    return goals, gone, is_partial
+
+
+def compared(right, wrong, gone):
+    """The verdict on an edit where these goals are open of the right body and of the wrong one, both without answers,
+    and why."""
+    # what some goals state isn't told: they are known by their names
+    own = {name: (what, is_false) for name, (what, is_false) in wrong.items()
+           if name not in right or what and right[name][0] not in ("", what)}
+    each = [f"{name}{' (false)' if is_false else ''}: {what[:300]}" for name, (what, is_false) in (own or wrong).items()]
+    if own:
+        return Verdict.REFUSED, f"open without answers: {'; '.join(each)}"
+    if wrong or gone:
+        return Verdict.UNSHOWN, f"open without answers, as of the right body: {'; '.join(each + gone[:1])}"
+    return Verdict.PASSED, "nothing is open without answers"
+
+
+def tried_without(crate, edits):
+    """As `tried`, with the answers to goals of the edits' functions left out."""
+    waiting, answers, checks = list(edits), [], 0
+    with tempfile.TemporaryDirectory(prefix="wrong-bodies-") as room:
+        folder = copied(crate, pathlib.Path(room))
+        size, rights = len(waiting), {}
+        while waiting:
+            batch = batch_of(waiting)[:size]
+            functions = frozenset().union(*(it.functions for it in batch))
+            left_out = answered_by(crate, functions)
+            if functions not in rights:
+                rights[functions] = written(folder, (), left_out), *said_of(folder)
+                checks += 1
+            texts, said, told = written(folder, batch, left_out), *said_of(folder)
+            checks += 1
+            found = [(it, Verdict.BAD, told[-600:]) for it in batch if said is None and len(batch) == 1]
+            for edit in batch if said is not None else ():
+                right, _, is_part = left_open(edit, *rights[functions])
+                wrong, gone, is_part_of_wrong = left_open(edit, texts, said, told)
+                if len(batch) == 1 or not is_part and not is_part_of_wrong:
+                    found.append((edit, *compared(right, wrong, gone)))
+            size = len(waiting) if found else 1
+            answers += found
+            done = {edit for edit, _, _ in found}
+            waiting = [it for it in waiting if it not in done and it not in batch] + [it for it in batch if it not in done]
+    return answers, checks
+
+
 def main():
     parser = argparse.ArgumentParser(description=__doc__.split("\n", maxsplit=1)[0])
     parser.add_argument("--jobs", type=int, default=len(os.sched_getaffinity(0)))
+    parser.add_argument("--without-answers", action="store_true")
     parser.add_argument("crates", nargs="*", metavar="CRATE[:EDIT,..]")
     given = parser.parse_args()
     wanted = {}
@@ -309,7 +227,11 @@ def main():
             subprocess.run(check_of(folder), cwd=folder, capture_output=True, check=True)
     size = lambda name: sum(it.stat().st_size for it in (TOP / "crates" / name).rglob("*.*tt"))
     with concurrent.futures.ThreadPoolExecutor(given.jobs) as pool:
-        runs = [pool.submit(tried, it, of_crate[it]) for it in sorted(of_crate, key=size, reverse=True)]
+        runs = []
+        for crate in sorted(of_crate, key=size, reverse=True):
+            bare = [it for it in of_crate[crate] if given.without_answers and answered_by(crate, it.functions)]
+            others = [it for it in of_crate[crate] if it not in bare]
+            runs += [pool.submit(way, crate, some) for way, some in ((tried, others), (tried_without, bare)) if some]
         for run in concurrent.futures.as_completed(runs):
             answers, checks = run.result()
             checks_in_all += checks
