@@ -1,0 +1,12 @@
+use denote.Exit.{no}
+use denote.Param.Send.{param_send, arg_send}
+use Rattle.inbox_tests.proofs.Travels.{posting_send, taking_send}
+use Rattle.inbox_tests.proofs.tests.threads.storm.Goals as goal
+
+pub run_both-posted-requires-send-W : goal.run_both-posted-requires-send-W
+run_both-posted-requires-send-W g c κs within =
+    param_send _ _ (arg_send _ no _ (posting_send (record { mir = _; lft = _ }) (record { mir = _; lft = _ })))
+
+pub run_both-posted-requires-send-X : goal.run_both-posted-requires-send-X
+run_both-posted-requires-send-X g c κs within =
+    param_send _ _ (arg_send _ no _ (taking_send (record { mir = _; lft = _ }) (record { mir = _; lft = _ })))
