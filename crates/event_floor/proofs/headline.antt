@@ -1,4 +1,5 @@
 pub mod Lists
+pub mod ByPlace
 pub mod Tables
 pub mod Views
 pub mod Least

@@ -1,6 +1,5 @@
 //! What a floor tells of its lists.
-ghost use Rattle.std.specs.Prelude.{◌≡◌, ◌<◌, length, is_some, map, IfOk, IsPermutation};
-ghost use Rattle.std.specs.Prelude.{count_by};
+ghost use Rattle.std.specs.Prelude.{◌≡◌, ◌<◌, length, map, IfOk, IsPermutation};
 ghost use Rattle.slot_chain.specs.Counts.{capped};
 ghost use Rattle.slot_chain.specs.Slots.{slot_of};
 ghost use Rattle.pool_desk.specs.Homes.{slot_at};
@@ -68,8 +67,9 @@ impl<'r> Floor<'r> {
     }
 
     /// How many buffers are lent. Takes time in the number of slots.
+    #[tactic(auto, using(crate::proofs::headline::Counts::present_count))]
     pub fn lent_count(&self) -> u64
-        ensures { result ≡ count_by is_some self.now.lent }
+        ensures { result ≡ length (buffers_lent self.now.lent) }
     {
         self.lists.lent.count()
     }

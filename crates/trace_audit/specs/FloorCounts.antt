@@ -1,5 +1,5 @@
 -- The floor of a header, and what it tells at the end. Only contracts of private functions speak of these.
-use Rattle.std.specs.Prelude.{ℕ, ◌+◌, ◌==◌, ◌&&◌, Bool, List, [], ◌∷◌, ◌++◌, length, map, count_by, is_some, suc}
+use Rattle.std.specs.Prelude.{ℕ, ◌+◌, ◌==◌, ◌&&◌, Bool, List, [], ◌∷◌, ◌++◌, length, map, suc}
 use Rattle.std.specs.Prelude.{codes, decimal}
 use Rattle.std.specs.List.{range_with_len}
 use Rattle.region_cut.specs.Classes.{bits_of}
@@ -8,6 +8,7 @@ use Rattle.digit_route.specs.Digits.{Scheme}
 use Rattle.event_floor.specs.Floors.{FloorState, desk_count, desk_at}
 use Rattle.event_floor.specs.headline.Listing.{listing_of}
 use Rattle.event_floor.specs.Inboxes.{buffers_in, inbox_at}
+use Rattle.event_floor.specs.Lent.{buffers_lent}
 use Rattle.event_floor.specs.Desks.{home_of, cached_of}
 use Rattle.pool_machine.specs.Listing.{Shown}
 use Rattle.trace_audit.specs.Machine.{opening_of}
@@ -52,7 +53,7 @@ pub record Tally : Type 0 where
 abbrev pub told : FloorState → Tally
 told v = record {
   chunks = length v.drawn;
-  lent = count_by is_some v.lent;
+  lent = length (buffers_lent v.lent);
   desks = map (counts_at v) (range_with_len 0 (desk_count v));
 }
 

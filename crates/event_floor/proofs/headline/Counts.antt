@@ -44,7 +44,7 @@ counted f xs slots p few =
     let e = as_many f xs slots p in
     capped_is (length xs) (subst (λ n. n ≤ 4194304) e few) ∙ sym e
 
-present_count : (places : List (Option Buffer)) → count_by is_some places ≡ length (buffers_lent places)
+pub present_count : (places : List (Option Buffer)) → count_by is_some places ≡ length (buffers_lent places)
 present_count [] = refl
 present_count (None ∷ places) = let a = count_cons is_some None places in let b = present_count places in omega (arith, a, b)
 present_count (Some x ∷ places) = let a = count_cons is_some (Some x) places in let b = present_count places in omega (arith, a, b)
@@ -87,8 +87,8 @@ module _ (v : FloorState) (st : State) (c : Slot → ℕ) (few : v.chunks ≤ 10
   queued_few b = subst (λ n. n ≤ 4194304)
       (sym (length_permutation (map slot_of (buffers_in (inbox_at v.inboxes b))) (queued_slots st b) (queue_listed v st c h b))) (queue_few b)
 
-  lent_told : count_by is_some v.lent ≡ length (slots_at st OnLoan)
-  lent_told = present_count v.lent ∙ sym (as_many slot_of (buffers_lent v.lent) (slots_at st OnLoan) (lent_listed v st c h))
+  lent_told : length (buffers_lent v.lent) ≡ length (slots_at st OnLoan)
+  lent_told = sym (as_many slot_of (buffers_lent v.lent) (slots_at st OnLoan) (lent_listed v st c h))
 
 -- ---- chunks
 

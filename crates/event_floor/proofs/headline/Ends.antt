@@ -32,13 +32,14 @@ use Rattle.event_floor.specs.headline.EndsKnown.{buffers_of, fresh_of, undrawn_p
 use Rattle.event_floor.specs.headline.Listing.{desk_of, listing_of}
 use Rattle.event_floor.specs.headline.Headline.{Shows}
 use Rattle.pool_machine.proofs.Shown.{located}
-use Rattle.event_floor.specs.headline.Names.{HasName, HasNoName, AreNames, IsNamed, chunks_of, is_drawn_for}
+use Rattle.event_floor.specs.headline.Names.{HasName, HasNoName, IsNamed, chunks_of, is_drawn_for}
+use Rattle.event_floor.proofs.headline.ByPlace.{NamesByPlace, by_place, by_list}
 use Rattle.event_floor.specs.headline.Whole.{IsStocked, IsWhole}
+use Rattle.event_floor.proofs.headline.Lists.{All-first, All-second}
 use Rattle.event_floor.proofs.headline.Found.{All-flat, All-parts, found, at_each_desk, buffers_named, taken_buffer}
 use Rattle.event_floor.proofs.headline.Counts.{some_at}
 use Rattle.event_floor.proofs.headline.Handed.{All-to-both}
 use Rattle.event_floor.proofs.headline.Kept.{fresh_named}
-use Rattle.event_floor.proofs.headline.Named.{All-first, All-second}
 use Rattle.event_floor.proofs.headline.Stands.{stands_join, stands_in_front, stands_within, flat_stand}
 use Rattle.event_floor.proofs.headline.Taken.{All-to, some_is, same_eqb, eqb_is}
 
@@ -110,7 +111,7 @@ owner_at : (o : Option DrawnChunk) (class : ℕ) → option_map (λ (d : DrawnCh
 owner_at None class e = absurd (true≢false (sym (ap is_some e)))
 owner_at (Some d) class e = (d, refl)
 
-module _ (v : FloorState) (names : List Carved) (n : AreNames names v) (st : State) (count : Slot → ℕ) (h : Located (listing_of v) st count) where
+module _ (v : FloorState) (names : List Carved) (n : NamesByPlace names v) (st : State) (count : Slot → ℕ) (h : Located (listing_of v) st count) where
   -- what holds of each chunk that a desk knows holds of each drawn chunk
   of_chunk : (P : Carved → Type 0) → All P (flat_map chunks_of v.desks) → (k : ℕ) (c : Carved) → slice_get names k ≡ Some c → P c
   of_chunk P all k c e =
@@ -253,7 +254,7 @@ module _ (v : FloorState) (names : List Carved) (n : AreNames names v) (st : Sta
 
             fresh_lies : (tail : List ℕ) (u : Unused) → HasNoName names u → StandsAt u.bytes (start_of u.slot u.class) (flat_map (end_in second) v.parts ++ tail)
             fresh_lies tail u g =
-                unused_lies order (end_in second) v names n u g (flat_map (end_in second) v.parts ++ tail) (record { sizes = whole; rest = tail; joined = refl })
+                unused_lies order (end_in second) v names (by_list names v n) u g (flat_map (end_in second) v.parts ++ tail) (record { sizes = whole; rest = tail; joined = refl })
                 (All-to (λ x. length (end_in second x) ≡ size_of g.chunk.class) (λ x. length (end_in second x) ≡ size_of u.class) g.chunk.taken (λ x e. e ∙ ap size_of g.class)
                 (chunk_begins u.slot.chunk g.chunk g.is_chunk).sizes)
                 (ends_as_drawn u.slot.chunk g.chunk g.is_chunk)
@@ -361,15 +362,15 @@ module _ (v : FloorState) (whole : IsWhole v) (shows : Shows v) (named : IsNamed
 
   pub floor_slots : All (HasKnownSlots first) chunks
   unfolding Shows IsNamed
-  floor_slots = slots_known v named.0 named.1 shows.0 shows.1 (located (listing_of v) shows.0 shows.1 shows.2) first agree held chunks same
+  floor_slots = slots_known v named.0 (by_place named.0 v named.1) shows.0 shows.1 (located (listing_of v) shows.0 shows.1 shows.2) first agree held chunks same
 
   pub floor_ends : (last : List Ended) → last ≡ map (ended_chunk first) chunks ++ first → Agrees last → KnownEndsStay → SlotsLieAtTheirRanges → SlicesLieInOrder → EndsKnown v last
   unfolding Shows IsNamed
   floor_ends last is agree' stay lie order =
-      subst (EndsKnown v) (sym is) (all_ends_known v named.0 named.1 shows.0 shows.1 (located (listing_of v) shows.0 shows.1 shows.2) first agree held chunks same (subst Agrees is agree') stay whole.stocked left lie order)
+      subst (EndsKnown v) (sym is) (all_ends_known v named.0 (by_place named.0 v named.1) shows.0 shows.1 (located (listing_of v) shows.0 shows.1 shows.2) first agree held chunks same (subst Agrees is agree') stay whole.stocked left lie order)
 
   pub floor_held : (last : List Ended) → last ≡ map (ended_chunk first) chunks ++ first → Agrees last → KnownEndsStay → EndsAsHeld v last
   unfolding Shows IsNamed
   floor_held last is agree' stay region lie =
       subst (λ (all : List Ended). StandsAt (flat_map (end_in all) v.parts) 0 region) (sym is)
-      (parts_stand v named.0 named.1 shows.0 shows.1 (located (listing_of v) shows.0 shows.1 shows.2) first agree held chunks same (subst Agrees is agree') stay whole.stocked left region lie)
+      (parts_stand v named.0 (by_place named.0 v named.1) shows.0 shows.1 (located (listing_of v) shows.0 shows.1 shows.2) first agree held chunks same (subst Agrees is agree') stay whole.stocked left region lie)

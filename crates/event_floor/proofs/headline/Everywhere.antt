@@ -24,9 +24,10 @@ use Rattle.event_floor.specs.Steps.{DrawsChunk, LendsSlot, SendsBatch, LinksBatc
 use Rattle.event_floor.specs.headline.EndsKnown.{buffers_with, buffers_of}
 use Rattle.event_floor.specs.headline.Names.{chunks_of}
 use Rattle.event_floor.specs.headline.EndsKnown.{fresh_in, fresh_of}
-use Rattle.event_floor.proofs.headline.Found.{All-flat, All-parts, at_each_desk, lent_each, kept_back}
-use Rattle.event_floor.proofs.headline.Lists.{get_or_same}
-use Rattle.event_floor.proofs.headline.Named.{each_desk, each_row, each_place, All-map-to, All-filtered, All-first, All-second}
+use Rattle.event_floor.proofs.headline.ByPlace.{lent_each}
+use Rattle.event_floor.proofs.headline.Found.{All-flat, All-parts, at_each_desk, kept_back}
+use Rattle.event_floor.proofs.headline.Lists.{get_or_same, All-first, All-second}
+use Rattle.event_floor.proofs.headline.Named.{each_desk, each_row, each_place, All-map-to, All-filtered}
 use Rattle.event_floor.proofs.headline.Tables.{lent_place}
 
 -- of a slot at home: what holds of buffers, or what holds of the others

@@ -29,13 +29,13 @@ use Rattle.pool_machine.proofs.Located.{Located}
 use Rattle.pool_machine.specs.Headline.{joined}
 use Rattle.event_floor.specs.headline.EndsKnown.{buffers_with, buffers_of}
 use Rattle.event_floor.specs.headline.Listing.{entry_of, desk_of, batch_of, listing_of}
-use Rattle.event_floor.specs.headline.Names.{HasName, IsNamedHome, AreNames}
+use Rattle.event_floor.specs.headline.Names.{HasName, IsNamedHome}
 use Rattle.pool_machine.proofs.Basics.{same_slot_eq}
 use Rattle.pool_machine.proofs.Enumerate.{count_cons, count_map}
 use Rattle.pool_machine.proofs.Joined.{located_once}
 use Rattle.event_floor.proofs.headline.Apart.{home_slots}
-use Rattle.event_floor.proofs.headline.Lists.{get_or_same}
-use Rattle.event_floor.proofs.headline.Named.{All-first, All-second}
+use Rattle.event_floor.proofs.headline.ByPlace.{NamesByPlace, lent_each}
+use Rattle.event_floor.proofs.headline.Lists.{get_or_same, All-first, All-second}
 use Rattle.event_floor.proofs.headline.Taken.{some_is, All-to}
 
 -- ---- lists
@@ -137,18 +137,10 @@ placed_each K v h =
     (All-append (KeptIs K) (map Kept lent) (map Kept caches ++ map Kept batches) (All-map (KeptIs K) Kept lent (All-first K lent batches out))
     (All-append (KeptIs K) (map Kept caches) (map Kept batches) (All-map (KeptIs K) Kept caches in_caches) (All-map (KeptIs K) Kept batches (All-second K lent batches out))))
 
-pub lent_each : (P : Buffer → Type 0) (lent : List (Option Buffer)) → ((i : ℕ) → IfSome (get_or lent i None) P) → All P (buffers_lent lent)
-lent_each P [] h = All-nil P
-lent_each P (o ∷ lent) h = All-append P (option_to_list o) (buffers_lent lent) (one o (h zero)) (lent_each P lent (λ i. h (suc i)))
-  where
-    one : (o : Option Buffer) → IfSome o P → All P (option_to_list o)
-    one None p = All-nil P
-    one (Some b) p = All-cons P b [] p (All-nil P)
-
 pub at_each_desk : (P : AnyDesk → Type 0) (v : FloorState) → ((a : ℕ) → a < desk_count v → P (desk_at v a)) → All P v.desks
 at_each_desk P v f = λ k d l. subst P (get_or_same v.desks k no_desk d l) (f k l)
 
-module _ (v : FloorState) (names : List Carved) (n : AreNames names v) where
+module _ (v : FloorState) (names : List Carved) (n : NamesByPlace names v) where
   cached_named : All (HasName names) (flat_map cached_of v.desks)
   cached_named = All-flat (HasName names) cached_of v.desks (at_each_desk (λ (s : AnyDesk). All (HasName names) (cached_of s)) v (λ a l. (n.desks a l).cached))
 

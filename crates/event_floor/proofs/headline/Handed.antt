@@ -27,7 +27,8 @@ use Rattle.pool_machine.specs.Slots.{one_if}
 use Rattle.pool_machine.specs.State.{State}
 use Rattle.pool_machine.proofs.Located.{Located}
 use Rattle.event_floor.specs.headline.Listing.{listing_of}
-use Rattle.event_floor.specs.headline.Names.{HasName, HasNoName, IsNamedHome, IsNamedChunk, IsNamedDesk, AreNames, chunks_of, drew, is_drawn_for}
+use Rattle.event_floor.specs.headline.Names.{HasName, HasNoName, IsNamedHome, IsNamedChunk, IsNamedDesk, chunks_of, drew, is_drawn_for}
+use Rattle.event_floor.proofs.headline.ByPlace.{NamesByPlace}
 use Rattle.pool_machine.proofs.Enumerate.{count_cons}
 use Rattle.event_floor.proofs.headline.Named.{held_named, changed_named, desk_named, each_place}
 use Rattle.event_floor.proofs.headline.Stands.{stands_behind}
@@ -43,7 +44,7 @@ drawn_apart a b (Some d) e ne = other_eqb d.owner b (λ q. ne (sym q ∙ eqb_is 
 pub All-to-both : {X : Type 0} (P Q R : X → Type 0) (xs : List X) → ((x : X) → P x → Q x → R x) → All P xs → All Q xs → All R xs
 All-to-both P Q R xs f p q = λ k d l. f (get_or xs k d) (p k d l) (q k d l)
 
-module _ (names : List Carved) (v w : FloorState) (a n : ℕ) (slot : Slot) (f : AreNames names v) (s : LendsSlot v a n slot w) where
+module _ (names : List Carved) (v w : FloorState) (a n : ℕ) (slot : Slot) (f : NamesByPlace names v) (s : LendsSlot v a n slot w) where
   abbrev buffer : Buffer
   buffer = s.buffer
 
@@ -52,11 +53,11 @@ module _ (names : List Carved) (v w : FloorState) (a n : ℕ) (slot : Slot) (f :
 
   -- ---- a buffer that came home is lent as it was
 
-  kept_lent : (c : Buffer) → buffer ≡ c → IsPermutation s.before.home (Kept c ∷ s.after.home) → s.after.drawn ≡ s.before.drawn → AreNames names w
+  kept_lent : (c : Buffer) → buffer ≡ c → IsPermutation s.before.home (Kept c ∷ s.after.home) → s.after.drawn ≡ s.before.drawn → NamesByPlace names w
   kept_lent c e p same =
       let all = All-permutation (IsNamedHome names) _ _ p lender_named.home in
       let named : HasName names buffer = subst (HasName names) (sym e) (All-head (IsNamedHome names) (Kept c) s.after.home all) in
-      subst (AreNames names) (sym s.same)
+      subst (NamesByPlace names) (sym s.same)
       (changed_named names v f a (Held s.after) (set v.lent (index_of slot) (Some buffer)) v.inboxes v.next s.held.0
       (desk_named names v f a s.before s.after lender_named same (All-tail (IsNamedHome names) (Kept c) s.after.home all)
       (subst (λ bs. All (HasName names) bs) (ap (λ (x : DeskState). x.cached) (sym s.allocs.2)) lender_named.cached))
@@ -215,8 +216,8 @@ module _ (names : List Carved) (v w : FloorState) (a n : ℕ) (slot : Slot) (f :
         (λ (other : _ × (b ≢ a)). rw (get_or-set_other v.desks a b (Held s.after) no_desk other.1)
         (other_desk b other.1 (f.desks b (rw (length-set v.desks a (Held s.after)) at m)))) (eqb_tells b a)
 
-    fresh_lent : AreNames new_names w
-    fresh_lent = subst (AreNames new_names) (sym s.same) (record {
+    fresh_lent : NamesByPlace new_names w
+    fresh_lent = subst (NamesByPlace new_names) (sym s.same) (record {
       count = length-set names chunk taken ∙ f.count;
       chunks = lent_chunks;
       desks = each_lending;
@@ -226,10 +227,10 @@ module _ (names : List Carved) (v w : FloorState) (a n : ℕ) (slot : Slot) (f :
     })
 
   handed : (st : State) (count : Slot → ℕ) → Located (listing_of v) st count → (x : AtHome) → GivenAs x buffer → Names x buffer s.before.drawn s.after.drawn
-      → IsPermutation s.before.home (x ∷ s.after.home) → (new : List Carved) × AreNames new w
+      → IsPermutation s.before.home (x ∷ s.after.home) → (new : List Carved) × NamesByPlace new w
   handed st count h (Kept c) g m p = (names, kept_lent c g p m)
   handed st count h (Fresh u) g m p =
       (_, fresh_lent u g m p (rest_apart v st count h a s.before (Fresh u) s.after.home s.held p) (others_apart v st count h a s.before (Fresh u) s.after.home s.held p))
 
-  pub alloc_named : (st : State) (count : Slot → ℕ) → Located (listing_of v) st count → (new : List Carved) × AreNames new w
+  pub alloc_named : (st : State) (count : Slot → ℕ) → Located (listing_of v) st count → (new : List Carved) × NamesByPlace new w
   alloc_named st count h = let g = s.allocs.1 in handed st count h g.from g.gives g.names g.others

@@ -21,13 +21,14 @@ use Rattle.event_floor.specs.Steps.{Answers}
 use Rattle.pool_machine.specs.Steps.{Answer}
 use Rattle.event_floor.specs.headline.Headline.{Shows}
 use Rattle.event_floor.specs.headline.Names.{HasName, IsNamedHome, IsNamedDesk, AreNames, IsNamed, chunks_of}
+use Rattle.event_floor.proofs.headline.ByPlace.{NamesByPlace, by_place, by_list}
 use Rattle.pool_machine.proofs.Shown.{located}
 use Rattle.event_floor.specs.headline.Listing.{listing_of}
 use Rattle.event_floor.proofs.headline.Named.{adopt_named, retire_named, free_named, send_named, link_named, take_named}
 use Rattle.event_floor.proofs.headline.Taken.{claim_named}
 use Rattle.event_floor.proofs.headline.Handed.{alloc_named}
 
-does_named : (names : List Carved) (v w : FloorState) (q : Request) (r : Reply) → Shows v → AreNames names v → Does v q r w → (new : List Carved) × AreNames new w
+does_named : (names : List Carved) (v w : FloorState) (q : Request) (r : Reply) → Shows v → NamesByPlace names v → Does v q r w → (new : List Carved) × NamesByPlace new w
 unfolding Shows
 does_named names v w (Adopt a x) Done s n h = (names, adopt_named names v n w a x h.0 h.1 h.2)
 does_named names v w (Adopt a x) _ s n h = elim h [ ]
@@ -50,7 +51,7 @@ does_named names v w (Take b) _ s n h = elim h [ ]
 
 pub stays_named : (v w : FloorState) (q : Request) (y : Answer) → Shows v → IsNamed v → Answers v q y w → IsNamed w
 unfolding IsNamed
-stays_named v w q (Ok r) s n h = does_named n.0 v w q r s n.1 h
+stays_named v w q (Ok r) s n h = let new = does_named n.0 v w q r s (by_place n.0 v n.1) h in (new.0, by_list new.0 w new.1)
 stays_named v w q (Err r) s n h = subst (λ (z : FloorState). (names : List Carved) × AreNames names z) (sym h.1) n
 
 -- ---- a new floor
@@ -88,11 +89,11 @@ pub opening_named : (desks : ℕ) (parts : List Part) (digits : Scheme) (limit :
 unfolding IsNamed
 opening_named desks parts digits limit = (
   [],
-  record {
+  by_list [] (opening desks parts digits limit) (record {
     count = refl;
     chunks = λ k c e. absurd (true≢false (sym (ap is_some e)));
     desks = λ a l. bare_named a (get_or (new_desks digits limit desks) a no_desk) (idle_bare digits limit desks a no_desk l);
     lent = λ i. none_lent (HasName []) (256 * length parts) i;
     queued = λ b. none_queued (λ (p : QueuedState). All (HasName []) p.buffers) desks b;
-  },
+  }),
 )

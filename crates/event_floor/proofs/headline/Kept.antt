@@ -33,7 +33,8 @@ use Rattle.event_floor.specs.Steps.{Answers}
 use Rattle.event_floor.specs.Steps.{Does, DrawsChunk, LendsSlot}
 use Rattle.event_floor.specs.headline.Bytes.{LieAt, RestLies, Holds, HoldsSome, IsKept, KeepsBytes, FreshBytesStay}
 use Rattle.event_floor.specs.headline.EndsKnown.{buffers_of, fresh_of}
-use Rattle.event_floor.specs.headline.Names.{HasName, HasNoName, IsNamedHome, AreNames, IsNamed}
+use Rattle.event_floor.specs.headline.Names.{HasName, HasNoName, IsNamedHome, IsNamed}
+use Rattle.event_floor.proofs.headline.ByPlace.{NamesByPlace, by_place}
 use Rattle.event_floor.proofs.headline.Everywhere.{Everywhere, OfDesk, IsHome, everywhere, buffers_everywhere, fresh_everywhere, chunks_everywhere, adopt_everywhere, retire_everywhere, link_everywhere, send_everywhere, free_everywhere, take_everywhere, claim_everywhere, alloc_everywhere}
 use Rattle.event_floor.proofs.headline.Lists.{get_or_same}
 use Rattle.event_floor.proofs.headline.Named.{held_named}
@@ -46,10 +47,10 @@ use Rattle.event_floor.proofs.headline.Taken.{All-to, some_is}
 module _ (K : Buffer → Type 0) (U : Unused → Type 0) (R : Carved → Type 0)
     (changed : (b : Buffer) (n : ℕ) → K b → K (record b { forwards = n }))
     (give : (u : Unused) (b : Buffer) → GivenAs (Fresh u) b → U u → K b)
-    (next : (names : List Carved) (v w : FloorState) (a n : ℕ) (slot : Slot) → AreNames names v → (s : LendsSlot v a n slot w)
+    (next : (names : List Carved) (v w : FloorState) (a n : ℕ) (slot : Slot) → NamesByPlace names v → (s : LendsSlot v a n slot w)
     (u : Unused) (t : TakesNext u s.buffer s.before.drawn s.after.drawn) → IsPermutation s.before.home (Fresh u ∷ s.after.home)
     → GivenAs (Fresh u) s.buffer → R t.from → R (taken_next t.from s.buffer.bytes.ghost_name t.rest)) where
-  pub does_everywhere : (names : List Carved) (v w : FloorState) (q : Request) (r : Reply) → AreNames names v → Everywhere K U R v
+  pub does_everywhere : (names : List Carved) (v w : FloorState) (q : Request) (r : Reply) → NamesByPlace names v → Everywhere K U R v
       → ((a class k : ℕ) (s : DrawsChunk v a class k w) → All (IsHome K U) (unused_from s.part.chunk class s.part.bytes.ghost_name (slots_of class) 0 s.part.bytes.now)
       × R s.claims.drawn.drawn)
       → Does v q r w → Everywhere K U R w
@@ -117,7 +118,7 @@ module _ (region : List ℕ) where
       subst (λ bs. LieAt region b.slot b.class bs) (sym g.3)
       (subst (λ c. LieAt region b.slot c u.bytes) (sym g.1) (subst (λ s. LieAt region s u.class u.bytes) (sym g.0) h))
 
-  next_lies : (names : List Carved) (v w : FloorState) (a n : ℕ) (slot : Slot) → AreNames names v → (s : LendsSlot v a n slot w)
+  next_lies : (names : List Carved) (v w : FloorState) (a n : ℕ) (slot : Slot) → NamesByPlace names v → (s : LendsSlot v a n slot w)
       (u : Unused) (t : TakesNext u s.buffer s.before.drawn s.after.drawn) → IsPermutation s.before.home (Fresh u ∷ s.after.home)
       → GivenAs (Fresh u) s.buffer → RestLies region t.from → RestLies region (taken_next t.from s.buffer.bytes.ghost_name t.rest)
   next_lies names v w a n slot f s u t p g h =
@@ -172,7 +173,7 @@ module _ (region : List ℕ) where
       (subst (λ ds. StandsAt (flat_map (λ (bs : List ℕ). bs) v.undrawn) (chunk_size * length ds) region) (sym same.0) l))
       (λ (draws : DrawsSome v w). left_lies v w draws.0 draws.1 draws.2 draws.3 l) (same_chunks v w q r h)
 
-  does_hold : (names : List Carved) (v w : FloorState) (q : Request) (r : Reply) → AreNames names v → Holds v region → Does v q r w → Holds w region
+  does_hold : (names : List Carved) (v w : FloorState) (q : Request) (r : Reply) → NamesByPlace names v → Holds v region → Does v q r w → Holds w region
   does_hold names v w q r n h d =
       let e = does_everywhere BufferLies FreshLies (RestLies region) (λ b m p. p) given_lies next_lies names v w q r n
       (everywhere BufferLies FreshLies (RestLies region) v h.buffers h.fresh h.rests)
@@ -231,7 +232,7 @@ home_of_names : (names : List Carved) (x : AtHome) → IsNamedHome names x → I
 home_of_names names (Kept b) h = h
 home_of_names names (Fresh u) h = h
 
-names_everywhere : (names : List Carved) (v : FloorState) → AreNames names v → Everywhere (HasName names) (HasNoName names) AnyChunk v
+names_everywhere : (names : List Carved) (v : FloorState) → NamesByPlace names v → Everywhere (HasName names) (HasNoName names) AnyChunk v
 names_everywhere names v n = record {
   desks = λ a l. record {
     home = All-to (IsNamedHome names) (IsHome (HasName names) (HasNoName names)) _ (home_of_names names) (n.desks a l).home;
@@ -242,10 +243,10 @@ names_everywhere names v n = record {
   queued = n.queued;
 }
 
-pub fresh_named : (names : List Carved) (v : FloorState) → AreNames names v → All (HasNoName names) (fresh_of v)
+pub fresh_named : (names : List Carved) (v : FloorState) → NamesByPlace names v → All (HasNoName names) (fresh_of v)
 fresh_named names v n = fresh_everywhere (HasName names) (HasNoName names) AnyChunk v (names_everywhere names v n)
 
-names_start : (names : List Carved) (v : FloorState) → AreNames names v → KeptSince v v
+names_start : (names : List Carved) (v : FloorState) → NamesByPlace names v → KeptSince v v
 names_start names v n =
     let e = names_everywhere names v n in
     let named = buffers_everywhere (HasName names) (HasNoName names) AnyChunk v e in
@@ -257,7 +258,7 @@ names_start names v n =
           (λ c h. subst (λ m. c.slot.chunk < m) n.count (slice_get_within names c.slot.chunk h.chunk h.is_chunk)) named;
     }
 
-does_keep : (names : List Carved) (old v w : FloorState) (q : Request) (r : Reply) → AreNames names v → KeptSince old v → Does v q r w → KeptSince old w
+does_keep : (names : List Carved) (old v w : FloorState) (q : Request) (r : Reply) → NamesByPlace names v → KeptSince old v → Does v q r w → KeptSince old w
 does_keep names old v w q r n h d =
     let olds = buffers_of old in record {
       kept = does_everywhere (IsKept olds) (HasNone olds) AnyChunk (λ b m p. p) (given_kept olds) (λ names v w a n slot f s u t p g m. m) names v w q r n h.kept
@@ -278,16 +279,16 @@ does_keep names old v w q r n h d =
 
 pub start_kept : (v : FloorState) → IsNamed v → KeptSince v v
 unfolding IsNamed
-start_kept v n = names_start n.0 v n.1
+start_kept v n = names_start n.0 v (by_place n.0 v n.1)
 
 pub stays_kept : (old v w : FloorState) (q : Request) (y : Answer) → IsNamed v → KeptSince old v → Answers v q y w → KeptSince old w
 unfolding IsNamed
-stays_kept old v w q (Ok r) n h d = does_keep n.0 old v w q r n.1 h d
+stays_kept old v w q (Ok r) n h d = does_keep n.0 old v w q r (by_place n.0 v n.1) h d
 stays_kept old v w q (Err r) n h d = subst (KeptSince old) (sym d.1) h
 
 pub stays_held : (v w : FloorState) (q : Request) (y : Answer) (region : List ℕ) → IsNamed v → Answers v q y w → Holds v region → Holds w region
 unfolding IsNamed
-stays_held v w q (Ok r) region n d h = does_hold region n.0 v w q r n.1 h d
+stays_held v w q (Ok r) region n d h = does_hold region n.0 v w q r (by_place n.0 v n.1) h d
 stays_held v w q (Err r) region n d h = subst (λ f. Holds f region) (sym d.1) h
 
 pub stays_held_some : (v w : FloorState) (q : Request) (y : Answer) → IsNamed v → Answers v q y w → HoldsSome v → HoldsSome w

@@ -5,6 +5,7 @@ use Rattle.std.specs.List.{list_any, flat_map, swap}
 use Rattle.std.proofs.lemmas.List.{length-set, length-map, set-get_or, set-set, set_comm, get_or-map}
 use Rattle.std.proofs.lemmas.List.Edits.{swap_is}
 use Rattle.std.proofs.lemmas.List.Sorted.{IsPermutation-refl, IsPermutation-sym, IsPermutation-trans, IsPermutation-append_left, IsPermutation-append_right, IsPermutation-append_comm, IsPermutation-keeps}
+use Rattle.std.proofs.lemmas.List.Elements.{All-nil, All-cons, All-head, All-tail}
 use Rattle.std.proofs.lemmas.Bool.Decides.{eqb_tells}
 
 module _ {X Y : Type 0} (f : X → Y) where
@@ -131,3 +132,11 @@ module _ {X : Type 0} where
 
   pub All-not-from_Any : (P : X → Type 0) (xs : List X) → (Any P xs → ⊥) → All (λ x. P x → ⊥) xs
   All-not-from_Any P xs f = λ k d l p. f (k, get_or xs k d, l, get_or_same xs k (get_or xs k d) d l, p)
+
+pub All-first : {X : Type 0} (P : X → Type 0) (xs ys : List X) → All P (xs ++ ys) → All P xs
+All-first P [] ys h = All-nil P
+All-first P (x ∷ xs) ys h = All-cons P x xs (All-head P x (xs ++ ys) h) (All-first P xs ys (All-tail P x (xs ++ ys) h))
+
+pub All-second : {X : Type 0} (P : X → Type 0) (xs ys : List X) → All P (xs ++ ys) → All P ys
+All-second P [] ys h = h
+All-second P (x ∷ xs) ys h = All-second P xs ys (All-tail P x (xs ++ ys) h)

@@ -20,7 +20,9 @@ use Rattle.event_floor.specs.Inboxes.{QueuedState, inbox_at, sent_as, as_linked,
 use Rattle.event_floor.specs.Desks.{adopted, retired}
 use Rattle.event_floor.specs.Floors.{FloorState, desk_count, no_desk, with_any_desk, with_desk, IsIdle, IsHeld}
 use Rattle.event_floor.specs.Steps.{SendsBatch, LinksBatch, TakesFront, TakesBack}
-use Rattle.event_floor.specs.headline.Names.{HasName, IsNamedHome, IsNamedDesk, AreNames}
+use Rattle.event_floor.specs.headline.Names.{HasName, IsNamedHome, IsNamedDesk}
+use Rattle.event_floor.proofs.headline.ByPlace.{NamesByPlace}
+use Rattle.event_floor.proofs.headline.Lists.{All-first, All-second}
 use Rattle.event_floor.proofs.headline.Tables.{lent_place}
 
 -- ---- lists
@@ -59,14 +61,6 @@ All-filtered P p (x ∷ xs) h = go (p x) (All-filtered P p xs (All-tail P x xs h
     go true k = All-cons P x (filter p xs) (All-head P x xs h) k
     go false k = k
 
-pub All-first : {X : Type 0} (P : X → Type 0) (xs ys : List X) → All P (xs ++ ys) → All P xs
-All-first P [] ys h = All-nil P
-All-first P (x ∷ xs) ys h = All-cons P x xs (All-head P x (xs ++ ys) h) (All-first P xs ys (All-tail P x (xs ++ ys) h))
-
-pub All-second : {X : Type 0} (P : X → Type 0) (xs ys : List X) → All P (xs ++ ys) → All P ys
-All-second P [] ys h = h
-All-second P (x ∷ xs) ys h = All-second P xs ys (All-tail P x (xs ++ ys) h)
-
 -- ---- names
 
 pub freed_named : (names : List Carved) (b : Buffer) → HasName names b → HasName names (freed b)
@@ -75,7 +69,7 @@ freed_named names b h = record { chunk = h.chunk; is_chunk = h.is_chunk; class =
 pub passed_named : (names : List Carved) (b : Buffer) → HasName names b → HasName names (passed_on b)
 passed_named names b h = record { chunk = h.chunk; is_chunk = h.is_chunk; class = h.class; name = h.name; size = h.size }
 
-module _ (names : List Carved) (v : FloorState) (n : AreNames names v) where
+module _ (names : List Carved) (v : FloorState) (n : NamesByPlace names v) where
   pub held_named : (a : ℕ) (d : DeskState) → IsHeld v a d → IsNamedDesk names v.drawn a (Held d)
   held_named a d h = subst (IsNamedDesk names v.drawn a) h.1 (n.desks a h.0)
 
@@ -85,7 +79,7 @@ module _ (names : List Carved) (v : FloorState) (n : AreNames names v) where
   -- the floor with another desk, another table and other inboxes
   pub changed_named : (a : ℕ) (s : AnyDesk) (lent : List (Option Buffer)) (inboxes : List (List QueuedState)) (next : ℕ) → a < desk_count v → IsNamedDesk names v.drawn a s
       → ((i : ℕ) → IfSome (get_or lent i None) (HasName names)) → ((b : ℕ) → All (λ (p : QueuedState). All (HasName names) p.buffers) (inbox_at inboxes b))
-      → AreNames names (record v { desks = set v.desks a s; lent = lent; inboxes = inboxes; next = next })
+      → NamesByPlace names (record v { desks = set v.desks a s; lent = lent; inboxes = inboxes; next = next })
   changed_named a s lent inboxes next l p lends batches = record {
     count = n.count;
     chunks = n.chunks;
@@ -104,16 +98,16 @@ module _ (names : List Carved) (v : FloorState) (n : AreNames names v) where
     once = λ k. ap (count_by (λ (c : Carved). c.chunk == k)) e ∙ h.once k;
   }
 
-  pub adopt_named : (w : FloorState) (a x : ℕ) (d : IdleState) → IsIdle v a d → w ≡ with_desk v a (adopted x d) → AreNames names w
+  pub adopt_named : (w : FloorState) (a x : ℕ) (d : IdleState) → IsIdle v a d → w ≡ with_desk v a (adopted x d) → NamesByPlace names w
   adopt_named w a x d h e =
       let k = idle_named a d h in
-      subst (AreNames names) (sym e)
+      subst (NamesByPlace names) (sym e)
       (changed_named a (Held (adopted x d)) v.lent v.inboxes v.next h.0 (record { home = k.home; cached = All-nil (HasName names); same = k.same; once = k.once }) n.lent n.queued)
 
-  pub retire_named : (w : FloorState) (a : ℕ) (d : DeskState) → IsHeld v a d → w ≡ with_any_desk v a (Idle (retired d)) → AreNames names w
+  pub retire_named : (w : FloorState) (a : ℕ) (d : DeskState) → IsHeld v a d → w ≡ with_any_desk v a (Idle (retired d)) → NamesByPlace names w
   retire_named w a d h e =
       let k = held_named a d h in
-      subst (AreNames names) (sym e)
+      subst (NamesByPlace names) (sym e)
       (changed_named a (Idle (retired d)) v.lent v.inboxes v.next h.0 (record { home = k.home; cached = All-nil (HasName names); same = k.same; once = k.once }) n.lent n.queued)
 
   freed_cache : (a : ℕ) (d d' : DeskState) (b : Buffer) → IsNamedDesk names v.drawn a (Held d) → HasName names b → Caches d b d' → IsNamedDesk names v.drawn a (Held d')
@@ -130,20 +124,20 @@ module _ (names : List Carved) (v : FloorState) (n : AreNames names v) where
   freed_desk a d d' b FreedCached k p f = freed_cache a d d' b k p f.0
   freed_desk a d d' b FreedDue k p f = freed_cache a d d' b k p f.0
 
-  pub free_named : (w : FloorState) (a chunk index : ℕ) (r : Freed) → TakesBack v a chunk index r w → AreNames names w
+  pub free_named : (w : FloorState) (a chunk index : ℕ) (r : Freed) → TakesBack v a chunk index r w → NamesByPlace names w
   free_named w a chunk index r s =
       let here = lent_place v.lent chunk index s.buffer s.was_lent in
       let p : HasName names s.buffer = subst (λ (o : Option Buffer). IfSome o (HasName names)) here.1 (n.lent _) in
-      subst (AreNames names) (sym s.same)
+      subst (NamesByPlace names) (sym s.same)
       (changed_named a (Held s.after) (set v.lent (index_of s.buffer.slot) None) v.inboxes v.next s.held.0
       (freed_desk a s.before s.after s.buffer r (held_named a s.before s.held) p s.frees)
       (each_place (HasName names) v.lent (index_of s.buffer.slot) None tt n.lent) n.queued)
 
-  pub send_named : (w : FloorState) (a t number count : ℕ) → SendsBatch v a t number count w → AreNames names w
+  pub send_named : (w : FloorState) (a t number count : ℕ) → SendsBatch v a t number count w → NamesByPlace names w
   send_named w a t number count s =
       let k = held_named a s.before s.routes.0 in
       let all = All-permutation (HasName names) _ _ s.gives.taken.together k.cached in
-      subst (AreNames names) (sym s.same)
+      subst (NamesByPlace names) (sym s.same)
       (changed_named a (Held s.after) v.lent (set v.inboxes t (inbox_at v.inboxes t ++ sent_as number s.batch ∷ [])) (v.next + 1) s.routes.0.0
       (desk_named a s.before s.after k (ap (λ (x : DeskState). x.drawn) s.same_desk)
       (subst (λ hs. All (IsNamedHome names) hs) (sym (ap (λ (x : DeskState). x.home) s.same_desk)) k.home)
@@ -154,9 +148,9 @@ module _ (names : List Carved) (v : FloorState) (n : AreNames names v) where
       (All-cons (λ (p : QueuedState). All (HasName names) p.buffers) (sent_as number s.batch) [] (All-first (HasName names) s.batch.items s.after.cached all) (All-nil _)))
       n.queued))
 
-  pub link_named : (w : FloorState) (number : ℕ) → LinksBatch v number w → AreNames names w
+  pub link_named : (w : FloorState) (number : ℕ) → LinksBatch v number w → NamesByPlace names w
   link_named w number s =
-      subst (AreNames names) (sym s.same) (record {
+      subst (NamesByPlace names) (sym s.same) (record {
         count = n.count;
         chunks = n.chunks;
         desks = n.desks;
@@ -166,13 +160,13 @@ module _ (names : List Carved) (v : FloorState) (n : AreNames names v) where
             (n.queued s.inbox s.place no_batch s.unlinked.1) (n.queued s.inbox)) n.queued;
       })
 
-  pub take_named : (w : FloorState) (b home on : ℕ) → TakesFront v b home on w → AreNames names w
+  pub take_named : (w : FloorState) (b home on : ℕ) → TakesFront v b home on w → NamesByPlace names w
   take_named w b home on s =
       let k = held_named b s.before s.held in
       let row = subst (λ ps. All (λ (p : QueuedState). All (HasName names) p.buffers) ps) s.is_front (n.queued b) in
       let all : All (HasName names) s.front.buffers = All-head (λ (p : QueuedState). All (HasName names) p.buffers) s.front s.rest row in
       let number = s.before.number in
-      subst (AreNames names) (sym s.same)
+      subst (NamesByPlace names) (sym s.same)
       (changed_named b (Held s.after) v.lent (set v.inboxes b s.rest) v.next s.held.0
       (desk_named b s.before s.after k (ap (λ (x : DeskState). x.drawn) s.handles.same)
       (All-permutation (IsNamedHome names) _ _ s.handles.home

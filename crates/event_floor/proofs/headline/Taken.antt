@@ -25,7 +25,8 @@ use Rattle.event_floor.specs.Desks.{home_of, cached_of}
 use Rattle.event_floor.specs.Floors.{FloorState, desk_at, no_desk}
 use Rattle.event_floor.specs.Steps.{DrawsChunk}
 use Rattle.pool_machine.specs.Slots.{one_if}
-use Rattle.event_floor.specs.headline.Names.{HasName, IsNamedHome, IsNamedChunk, IsNamedDesk, AreNames, chunks_of, drew, is_drawn_for}
+use Rattle.event_floor.specs.headline.Names.{HasName, IsNamedHome, IsNamedChunk, IsNamedDesk, chunks_of, drew, is_drawn_for}
+use Rattle.event_floor.proofs.headline.ByPlace.{NamesByPlace}
 use Rattle.pool_machine.proofs.Enumerate.{count_cons}
 use Rattle.event_floor.proofs.headline.Named.{held_named}
 use Rattle.event_floor.proofs.headline.Stands.{stands_take, stands_drop, stands_whole}
@@ -111,7 +112,7 @@ slots_fit c = div-mul-le_self chunk_size (size_of c)
 
 -- ---- Claim
 
-module _ (names : List Carved) (v w : FloorState) (a class k : ℕ) (n : AreNames names v) (s : DrawsChunk v a class k w) where
+module _ (names : List Carved) (v w : FloorState) (a class k : ℕ) (n : NamesByPlace names v) (s : DrawsChunk v a class k w) where
   abbrev new_chunk : Carved
   new_chunk = s.claims.drawn.drawn
 
@@ -249,8 +250,8 @@ module _ (names : List Carved) (v w : FloorState) (a class k : ℕ) (n : AreName
       (λ (other : _ × (b ≢ a)). rw (get_or-set_other v.desks a b (Held s.after) no_desk other.1)
       (other_desk b (desk_at v b) other.1 (n.desks b (rw (length-set v.desks a (Held s.after)) at m)))) (eqb_tells b a)
 
-  pub claim_named : AreNames new_names w
-  claim_named = subst (AreNames new_names) (sym s.same) (record {
+  pub claim_named : NamesByPlace new_names w
+  claim_named = subst (NamesByPlace new_names) (sym s.same) (record {
     count = length_push names new_chunk ∙ (ap (λ m. m + 1) n.count ∙ sym (length_push v.drawn (record { owner = a; class = class })));
     chunks = claimed_chunks;
     desks = each_claimed;

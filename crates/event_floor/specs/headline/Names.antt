@@ -1,6 +1,6 @@
 -- The names by which the bytes of the slots are known when the region's borrow ends.
-use Rattle.std.specs.Prelude.{◌≡◌, ℕ, ◌+◌, ◌-◌, ◌*◌, ◌<◌, ◌≤◌, Bool, false, ◌==◌, List, length, slice_get}
-use Rattle.std.specs.Prelude.{slice_index_or, count_by, Option, Some, None, IfSome, All}
+use Rattle.std.specs.Prelude.{◌≡◌, ℕ, ◌+◌, ◌-◌, ◌*◌, ◌≤◌, ◌<◌, Bool, false, ◌==◌, List, length, slice_get}
+use Rattle.std.specs.Prelude.{count_by, Option, Some, None, All}
 use Rattle.std.specs.Borrow.{GName}
 use Rattle.region_cut.specs.Limits.{chunk_size}
 use Rattle.region_cut.specs.Carved.{Carved}
@@ -13,9 +13,10 @@ use Rattle.pool_machine.specs.declared.chunk.DrawnChunk.{DrawnChunk}
 use Rattle.event_floor.specs.declared.any_desk.AnyDesk.{AnyDesk}
 use Rattle.event_floor.specs.declared.any_desk.AnyDesk.TheVariants.{Idle, Held}
 use Rattle.event_floor.specs.Chunks.{class_drawn}
-use Rattle.event_floor.specs.Inboxes.{QueuedState, inbox_at}
+use Rattle.event_floor.specs.Inboxes.{QueuedState}
 use Rattle.event_floor.specs.Desks.{home_of, cached_of}
-use Rattle.event_floor.specs.Floors.{FloorState, desk_at, desk_count}
+use Rattle.event_floor.specs.Lent.{buffers_lent}
+use Rattle.event_floor.specs.Floors.{FloorState}
 use Rattle.pool_machine.specs.Slots.{one_if}
 
 -- the buffer of place i of a chunk has the i-th name that was taken of the chunk, the chunk's class, and as many bytes
@@ -77,9 +78,9 @@ pub record IsNamedChunk (parts : List GName) (drawn : List DrawnChunk) (k : ℕ)
 pub record AreNames (names : List Carved) (v : FloorState) : Type 0 where
   pub count : length names ≡ length v.drawn
   pub chunks : (k : ℕ) (c : Carved) → slice_get names k ≡ Some c → IsNamedChunk v.parts v.drawn k c
-  pub desks : (a : ℕ) → a < desk_count v → IsNamedDesk names v.drawn a (desk_at v a)
-  pub lent : (i : ℕ) → IfSome (slice_index_or v.lent i None) (HasName names)
-  pub queued : (b : ℕ) → All (λ (p : QueuedState). All (HasName names) p.buffers) (inbox_at v.inboxes b)
+  pub desks : (a : ℕ) (s : AnyDesk) → slice_get v.desks a ≡ Some s → IsNamedDesk names v.drawn a s
+  pub lent : All (HasName names) (buffers_lent v.lent)
+  pub queued : All (λ (inbox : List QueuedState). All (λ (p : QueuedState). All (HasName names) p.buffers) inbox) v.inboxes
 
 -- some list is that of the floor's drawn chunks, by which each buffer has the name of its place
 unfoldable pub IsNamed : FloorState → Type 0

@@ -1,5 +1,5 @@
 //! The closing lines: what each desk has, and the sums over all of them.
-ghost use Rattle.std.specs.Prelude.{◌≡◌, ◌≤◌, ◌<◌, ◌+◌, ◌++◌, length, count_by, is_some, false};
+ghost use Rattle.std.specs.Prelude.{◌≡◌, ◌≤◌, ◌<◌, ◌+◌, ◌++◌, length, false};
 ghost use Rattle.arrayvec.specs.ArrayVec.{array_vec_len};
 ghost use Rattle.event_floor.specs.Floors.{desk_count};
 ghost use Rattle.trace_audit.specs.FloorCounts.{counts_at, end_line, tally_lines, told};
