@@ -213,7 +213,7 @@ impl<'r> Desk<'r> {
         let mut chain = batch.into_chain();
         let mut home = 0u64;
         let mut on = 0u64;
-        while let Some(buf) = chain.pop() {
+        while let Some(buf) = chain.pop_ahead() {
             if self.handle_one(buf) {
                 home = home.saturating_add(1);
             } else {

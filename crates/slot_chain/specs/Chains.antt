@@ -29,6 +29,10 @@ IsListed n = IsBuffer (buffer_of n) × (n.below ≢ None)
 abbrev pub node_of : ManuallyDrop (Box Node Global) → Node
 node_of p = (manually_drop_value {X = Box Node Global} p).value
 
+-- how many others a box has room for
+abbrev pub room : ℕ
+room = 15
+
 -- those that a node names besides its own, in the order in which they came
 abbrev pub others_of : List (ManuallyDrop (Box Node Global)) → List Buffer
 others_of ps = map (λ p. buffer_of (node_of p)) ps

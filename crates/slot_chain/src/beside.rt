@@ -1,6 +1,7 @@
 //! The buffers that a node of a chain names besides its own.
 ghost use Rattle.std.specs.Prelude.{◌≡◌, [], ◌∷◌, ◌++◌, ◌-◌, ◌<◌, ◌≤◌, length, take, MatchOption, IfOk};
-ghost use Rattle.slot_chain.specs.Chains.{buffer_of, held};
+ghost use Rattle.std.specs.Prelude.{IsTrue, ◌↔◌};
+ghost use Rattle.slot_chain.specs.Chains.{buffer_of, held, room};
 
 use crate::buf::Buf;
 use crate::error::NoMemory;
@@ -88,6 +89,14 @@ impl<'r> Beside<'r> {
         ensures value { result ≡ length self.now }
     {
         self.others.len()
+    }
+
+    /// Whether it names as many as a box has room for.
+    #[inline]
+    pub(crate) fn is_full(&self) -> bool
+        ensures { IsTrue result ↔ (length self.now ≡ room) }
+    {
+        self.others.len() == ROOM
     }
 
     /// The last of the first `count`.

@@ -80,7 +80,7 @@ impl<'r> Chain<'r> {
 
     // The box on top, with all that is below it.
     #[inline]
-    fn into_box(self) -> Box<Node<'r>>
+    pub(crate) fn into_box(self) -> Box<Node<'r>>
         requires { 0 < length self }
         ensures list { buffers_from result.value ≡ self.entry }
         ensures listed { IsListed result.value }
@@ -166,6 +166,37 @@ impl<'r> Chain<'r> {
                 Some(named)
             }
         }
+    }
+
+    /// Takes the buffer on top, as [`Chain::pop`] does: of a list that came from another thread.
+    ///
+    /// There the next box that names others lies in a cache line that the other thread wrote to last.
+    /// It is asked for when the first of those is taken that the box on top names, so that it is there
+    /// when the last of them is.
+    #[inline]
+    pub fn pop_ahead(&mut self) -> Option<Buf<'r>>
+        ensures { MatchOption result ((self.old ≡ []) × (self.new ≡ [])) (λ b. self.old ≡ self.new ++ b ∷ []) }
+    {
+        self.look_ahead();
+        self.pop()
+    }
+
+    // Touches what is below the box on top, where that names all that it has room for.
+    #[inline]
+    fn look_ahead(&mut self)
+        ensures { self.new ≡ self.old }
+    {
+        if self.is_empty() {
+            return;
+        }
+        let mut node = Chain {
+            top: self.top.leave(),
+        }
+        .into_box();
+        if node.beside.is_full() {
+            node.below.touch();
+        }
+        self.top.set(Link::of(node));
     }
 
     // Moves the top buffer, and says whether there was one.

@@ -35,7 +35,7 @@ impl<'r> Model for Room<'r> {
 }
 
 impl<'r> Room<'r> {
-    /// Makes an empty room: a box of 112 bytes, and in memory of its own 120 bytes for the names of
+    /// Makes an empty room: a box of 120 bytes, and in memory of its own 120 bytes for the names of
     /// fifteen others. [`NoMemory`] is answered only where the allocator refused one of the two.
     pub fn new(alloc: Global) -> Result<Room<'r>, NoMemory> {
         Room::beside(alloc, Beside::with_room(alloc)?)
@@ -57,7 +57,7 @@ impl<'r> Room<'r> {
             owner: 0,
             forwards: 0,
             lease: Lease::new(Default::default()),
-            apart: [0; 6],
+            apart: [0; 7],
             below: Below::new(),
             beside,
             alloc,

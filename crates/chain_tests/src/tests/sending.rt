@@ -44,16 +44,22 @@ fn a_list_to_another_keeps_its_order(rt: HostRuntime) {
     }
 }
 
-// All 256 slots of the chunk, in sixteen groups, come from the first to the last.
+// All 256 slots of the chunk, in sixteen groups, come from the first to the last, whichever way each is
+// taken.
 fn take_groups(rt: &impl Abort, alloc: Global) -> Result<(), NoMemory> {
     let class = class_for(16).expect(rt, "a class of 16 bytes");
     let mut region = Vec::from_elem(alloc, 0u8, CHUNK)?;
     let mut list = turned(filled(alloc, &mut region, class, 1)?);
     for index in 0..256 {
-        let buf = list.pop().expect(rt, "a buffer");
+        let taken = if index % 5 == 0 {
+            list.pop()
+        } else {
+            list.pop_ahead()
+        };
+        let buf = taken.expect(rt, "a buffer");
         same(rt, "the index", u64::from(buf.slot().index), index);
     }
-    assert!(rt; list.pop().is_none());
+    assert!(rt; list.pop_ahead().is_none());
     Ok(())
 }
 
