@@ -1,6 +1,7 @@
 //! The allocator that a worker holds.
-ghost use Rattle.std.specs.Prelude.{◌≡◌, ◌≤◌, [], ◌∷◌, ◌++◌, IfSome, IfOk};
-ghost use Rattle.region_cut.specs.Classes.{size_of};
+ghost use Rattle.std.specs.Prelude.{◌≡◌, ◌≤◌, [], ◌∷◌, ◌++◌, IfSome, IfOk, MatchOption};
+ghost use Rattle.region_cut.specs.Classes.{size_of, NoClassFor};
+ghost use Rattle.digit_route.specs.Profiles.{profile_of};
 ghost use Rattle.pool_desk.specs.HomesState.{LacksClass};
 ghost use Rattle.pool_jobs.specs.Serving.{IsClassFor, Keeps, SameDesk, Serves};
 
@@ -81,10 +82,11 @@ impl<
         true
     }
 
-    // The class of a buffer of so many bytes.
+    // The class of a buffer of so many bytes, or that none has as many.
     #[inline]
     fn class_for(&self, size: usize) -> Option<Class>
-        ensures { IfSome result (λ class. IsClassFor J.names size class) }
+        ensures { MatchOption result (NoClassFor (profile_of J.names.digits.bits) size)
+            (λ class. IsClassFor J.names size class) }
     {
         let _number = self.station.number();
         self.station.digits().profile().class_for(size)
