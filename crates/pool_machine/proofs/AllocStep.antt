@@ -7,7 +7,7 @@ use Rattle.region_cut.specs.declared.slot.Slot.{Slot}
 use Rattle.pool_machine.specs.declared.request.Request.TheVariants.{Alloc}
 use Rattle.pool_machine.specs.declared.reply.Reply.TheVariants.{Slot as Lent}
 use Rattle.pool_machine.specs.State.{profile_at, least_class, State, OnLoan, class_of, home_with}
-use Rattle.pool_machine.specs.Steps.{relocate, move_one}
+use Rattle.pool_machine.proofs.Words.{with_moved}
 use Rattle.pool_machine.specs.Listing.{slots_seen, Listing, DeskListing, Entry, desk_listing, Labelled, Counted}
 use Rattle.pool_machine.proofs.Located.{ListName, HomeOf, Loans, CacheOf, BatchOf, same_list, list_of, is_list, slots_in, Located, LocatedStep}
 use Rattle.digit_route.specs.Digits.{Scheme}
@@ -58,7 +58,7 @@ module _ (v : Listing) (st : State) (count : Slot → ℕ) (a n : ℕ) (e : Entr
   others (CacheOf b) x y = ap slots_seen (desk_keeps (λ p. p.cache) v a d l f.cache b)
   others (BatchOf m) x y = refl
 
-  pub alloc_shown : Located (after_edits v a lent d) (relocate (move_one e.slot OnLoan) st) count
+  pub alloc_shown : Located (after_edits v a lent d) (with_moved e.slot OnLoan st) count
   alloc_shown = record {
     sound = alloc_step st count a (least_class (profile_at st) n) e.slot h.sound alloc_home;
     frame = record {
@@ -89,7 +89,7 @@ pub alloc_applies : (v : Listing) (a n : ℕ) (e : Entry) (lent : List Entry) (d
     LocatedStep v (Alloc a n) (Ok (Lent e.slot)) (after_edits v a lent d)
 alloc_applies v a n e lent d z f st count h =
     let l = leb-false (length v.desks) a (none_holds _ _ _ z).0 in (
-      relocate (move_one e.slot OnLoan) st,
+      with_moved e.slot OnLoan st,
       ((refusal_agrees v st count h (Alloc a n) ∙ z, alloc_home v st count a n e lent d h l f), refl),
       alloc_shown v st count a n e lent d h l f,
     )

@@ -10,7 +10,7 @@ use Rattle.region_cut.specs.Slots.{same_slot, times}
 use Rattle.pool_machine.specs.Slots.{one_if}
 use Rattle.pool_machine.specs.State.{State, Place, AtHome, OnLoan, InCache, InBatch, owner_of, same_place}
 use Rattle.pool_machine.specs.Refusals.{refusal, lacks_desk, slot_named}
-use Rattle.pool_machine.specs.Steps.{after_free, relocate, move_one}
+use Rattle.pool_machine.specs.Steps.{after_free, kept_place}
 use Rattle.pool_machine.specs.Sound.{Sound}
 use Rattle.pool_machine.specs.Listing.{slots_seen, Listing, DeskListing, Entry, BatchListing, desk_listing, Labelled, Counted, ShowsFrame}
 use Rattle.pool_machine.proofs.Located.{inbox_listing, ListName, HomeOf, Loans, CacheOf, BatchOf, same_list, list_at, list_of, is_list, slots_in, if_numbered, Located}
@@ -20,7 +20,7 @@ use Rattle.pool_machine.proofs.Moves.{same_list_eq}
 use Rattle.pool_machine.proofs.InPlace.{moved_in_place}
 use Rattle.pool_machine.proofs.FloorSteps.{with_desk, desk_here, desk_other, desk_keeps}
 use Rattle.pool_machine.proofs.Keeps.{free_step}
-use Rattle.pool_machine.proofs.Words.{freed_place}
+use Rattle.pool_machine.proofs.Words.{with_moved}
 
 -- a buffer of a list is counted there
 pub seen_counts : (xs : List Entry) (k : ℕ) (d : Entry) → k < length xs → 0 < times (get_or xs k d).slot (slots_seen xs)
@@ -88,11 +88,11 @@ apart_slots st r s k e f g = go (same_slot r s) refl
     go false q = refl
 
 label_stays : (st : State) (count : Slot → ℕ) (r : Slot) (q : Place) (f : Entry) → same_slot r f.slot ≡ false → Counted st count f →
-    Counted (relocate (move_one r q) st) (λ s. if same_slot r s then 0 else count s) f
+    Counted (with_moved r q st) (λ s. if same_slot r s then 0 else count s) f
 label_stays st count r q f e c = (c.0, c.1, c.2 ∙ ap (λ (b : Bool). if b then 0 else count f.slot) (sym e))
 
 cached_stay : (v : Listing) (st : State) (count : Slot → ℕ) (r : Slot) (q : Place) (b : ℕ) → Located v st count → list_of st r ≡ Some Loans →
-    All (Counted (relocate (move_one r q) st) (λ s. if same_slot r s then 0 else count s)) (desk_listing v b).cache
+    All (Counted (with_moved r q st) (λ s. if same_slot r s then 0 else count s)) (desk_listing v b).cache
 cached_stay v st count r q b h e = λ k d l.
     let f = get_or (desk_listing v b).cache k d in
     label_stays st count r q f
@@ -100,7 +100,7 @@ cached_stay v st count r q b h e = λ k d l.
     (h.cached b k d l)
 
 queued_stay : (v : Listing) (st : State) (count : Slot → ℕ) (r : Slot) (q : Place) (b : ℕ) → Located v st count → list_of st r ≡ Some Loans →
-    All (λ (w : BatchListing). All (Counted (relocate (move_one r q) st) (λ s. if same_slot r s then 0 else count s)) w.buffers) (inbox_listing v b)
+    All (λ (w : BatchListing). All (Counted (with_moved r q st) (λ s. if same_slot r s then 0 else count s)) w.buffers) (inbox_listing v b)
 queued_stay v st count r q b h e = λ j d l. λ k c m.
     let w = get_or (inbox_listing v b) j d in
     let f = get_or w.buffers k c in
@@ -128,7 +128,7 @@ abbrev pub after_edits : Listing → ℕ → List Entry → DeskListing → List
 after_edits v a lent d = record (with_desk v a d) { lent = lent }
 
 frame_shown : (v : Listing) (st : State) (count : Slot → ℕ) (a : ℕ) (e : Entry) (lent : List Entry) (d : DeskListing) (r : Slot) (q : Place) →
-    Located v st count → a < length v.desks → FreeEdits v a e lent d → ShowsFrame (after_edits v a lent d) (relocate (move_one r q) st)
+    Located v st count → a < length v.desks → FreeEdits v a e lent d → ShowsFrame (after_edits v a lent d) (with_moved r q st)
 frame_shown v st count a e lent d r q h l f = record {
   digits = h.frame.digits;
   limit = h.frame.limit;
@@ -165,8 +165,8 @@ module _ (v : Listing) (st : State) (count : Slot → ℕ) (a : ℕ) (e : Entry)
   label : Labelled st e
   label = All-head (Labelled st) e lent labelled
 
-  freed_home : owner_of st e.slot ≡ a → Sound (relocate (move_one e.slot AtHome) st) (λ s. if same_slot e.slot s then 0 else count s) →
-      Located (after_edits v a lent d) (relocate (move_one e.slot AtHome) st) (λ s. if same_slot e.slot s then 0 else count s)
+  freed_home : owner_of st e.slot ≡ a → Sound (with_moved e.slot AtHome st) (λ s. if same_slot e.slot s then 0 else count s) →
+      Located (after_edits v a lent d) (with_moved e.slot AtHome st) (λ s. if same_slot e.slot s then 0 else count s)
   freed_home o sound =
       let g = f.own (label.0 ∙ o) in
       record {
@@ -180,7 +180,7 @@ module _ (v : Listing) (st : State) (count : Slot → ℕ) (a : ℕ) (e : Entry)
             (λ k x y. others o g.1 k x y);
         homes = λ b. homes_at g.0 b (a == b) refl;
         lent = All-tail (Labelled st) e lent labelled;
-        cached = λ b. subst (λ xs. All (Counted (relocate (move_one e.slot AtHome) st) (λ s. if same_slot e.slot s then 0 else count s)) xs)
+        cached = λ b. subst (λ xs. All (Counted (with_moved e.slot AtHome st) (λ s. if same_slot e.slot s then 0 else count s)) xs)
             (sym (desk_keeps (λ p. p.cache) v a d l g.1 b)) (cached_stay v st count e.slot AtHome b h there);
         queued = λ b. queued_stay v st count e.slot AtHome b h there;
       }
@@ -204,8 +204,8 @@ module _ (v : Listing) (st : State) (count : Slot → ℕ) (a : ℕ) (e : Entry)
       others o c (CacheOf b) x y = ap slots_seen (desk_keeps (λ p. p.cache) v a d l c b)
       others o c (BatchOf n) x y = refl
 
-  freed_cache : owner_of st e.slot ≢ a → Sound (relocate (move_one e.slot (InCache a)) st) (λ s. if same_slot e.slot s then 0 else count s) →
-      Located (after_edits v a lent d) (relocate (move_one e.slot (InCache a)) st) (λ s. if same_slot e.slot s then 0 else count s)
+  freed_cache : owner_of st e.slot ≢ a → Sound (with_moved e.slot (InCache a) st) (λ s. if same_slot e.slot s then 0 else count s) →
+      Located (after_edits v a lent d) (with_moved e.slot (InCache a) st) (λ s. if same_slot e.slot s then 0 else count s)
   freed_cache o sound =
       let g = f.other (λ q. o (sym label.0 ∙ q)) in
       record {
@@ -233,15 +233,15 @@ module _ (v : Listing) (st : State) (count : Slot → ℕ) (a : ℕ) (e : Entry)
       others c (BatchOf n) x y = refl
 
       Labels : List Entry → Type 0
-      Labels xs = All (Counted (relocate (move_one e.slot (InCache a)) st) (λ s. if same_slot e.slot s then 0 else count s)) xs
+      Labels xs = All (Counted (with_moved e.slot (InCache a) st) (λ s. if same_slot e.slot s then 0 else count s)) xs
 
       cached_at : IsPermutation (freed e ∷ (desk_listing v a).cache) d.cache → (b : ℕ) (y : Bool) → (a == b) ≡ y →
           Labels (desk_listing (with_desk v a d) b).cache
       cached_at p b true q = subst (λ n. Labels (desk_listing (with_desk v a d) n).cache) (eqb-true a b q)
           (subst (λ x. Labels x.cache) (sym (desk_here v a d l))
-          (All-permutation (Counted (relocate (move_one e.slot (InCache a)) st) (λ s. if same_slot e.slot s then 0 else count s))
+          (All-permutation (Counted (with_moved e.slot (InCache a) st) (λ s. if same_slot e.slot s then 0 else count s))
           (freed e ∷ (desk_listing v a).cache) d.cache p
-          (All-cons (Counted (relocate (move_one e.slot (InCache a)) st) (λ s. if same_slot e.slot s then 0 else count s)) (freed e)
+          (All-cons (Counted (with_moved e.slot (InCache a) st) (λ s. if same_slot e.slot s then 0 else count s)) (freed e)
           (desk_listing v a).cache
           (label.0, label.1, ap (λ (x : Bool). if x then 0 else count e.slot) (sym (same_slot_self e.slot)))
           (cached_stay v st count e.slot (InCache a) a h there))))
@@ -268,19 +268,19 @@ free_shown v st count a pair e lent d h l n z f = go (owner_of st (slot_named pa
     sound = free_step st count a pair h.sound n
 
     Result : Slot → Place → Type 0
-    Result s q = Located (after_edits v a lent d) (relocate (move_one s q) st) (λ r. if same_slot s r then 0 else count r)
+    Result s q = Located (after_edits v a lent d) (with_moved s q st) (λ r. if same_slot s r then 0 else count r)
 
     Before : Slot → Place → Type 0
-    Before s q = Sound (relocate (move_one s q) st) (λ r. if same_slot s r then 0 else count r)
+    Before s q = Sound (with_moved s q st) (λ r. if same_slot s r then 0 else count r)
 
-    go : (b : Bool) → (owner_of st (slot_named pair) == a) ≡ b → Result (slot_named pair) (freed_place st a (slot_named pair))
+    go : (b : Bool) → (owner_of st (slot_named pair) == a) ≡ b → Result (slot_named pair) (kept_place st a (slot_named pair))
     go true q =
-        let p : freed_place st a (slot_named pair) ≡ AtHome = ap (λ (x : Bool). if x then AtHome else InCache a) q in
+        let p : kept_place st a (slot_named pair) ≡ AtHome = ap (λ (x : Bool). if x then AtHome else InCache a) q in
         subst (λ x. Result (slot_named pair) x) (sym p) (subst (λ x. Result x AtHome) z
         (freed_home v st count a e lent d h l f was (ap (owner_of st) z ∙ eqb-true (owner_of st (slot_named pair)) a q)
         (subst (λ x. Before x AtHome) (sym z) (subst (λ x. Before (slot_named pair) x) p sound))))
     go false q =
-        let p : freed_place st a (slot_named pair) ≡ InCache a = ap (λ (x : Bool). if x then AtHome else InCache a) q in
+        let p : kept_place st a (slot_named pair) ≡ InCache a = ap (λ (x : Bool). if x then AtHome else InCache a) q in
         subst (λ x. Result (slot_named pair) x) (sym p) (subst (λ x. Result x (InCache a)) z
         (freed_cache v st count a e lent d h l f was (λ o. eqb-false (owner_of st (slot_named pair)) a q (ap (owner_of st) (sym z) ∙ o))
         (subst (λ x. Before x (InCache a)) (sym z) (subst (λ x. Before (slot_named pair) x) p sound))))

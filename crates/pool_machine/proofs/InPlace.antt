@@ -6,14 +6,14 @@ use Rattle.region_cut.specs.declared.slot.Slot.{Slot}
 use Rattle.region_cut.specs.Slots.{same_slot, times}
 use Rattle.pool_machine.specs.Slots.{one_if}
 use Rattle.pool_machine.specs.State.{State, Place, AtHome, OnLoan, InCache, InBatch, owner_of, slots, cached_bytes, same_place, is_at, class_of}
-use Rattle.pool_machine.specs.Steps.{relocate, move_one, after_send}
+use Rattle.pool_machine.specs.Steps.{after_send}
 use Rattle.pool_machine.specs.Sound.{Sound}
 use Rattle.pool_machine.proofs.Located.{ListName, HomeOf, Loans, CacheOf, BatchOf, same_list, list_at, list_of, is_list}
 use Rattle.pool_machine.proofs.Basics.{same_slot_eq}
 use Rattle.pool_machine.proofs.Moves.{same_list_self, SomeMove, some_moved, one_moves}
 use Rattle.pool_machine.proofs.Listed.{listed}
 use Rattle.region_cut.specs.Classes.{size_of}
-use Rattle.pool_machine.proofs.Words.{near}
+use Rattle.pool_machine.proofs.Words.{near, with_moved}
 
 -- the lists are in place at this state
 abbrev pub PlacedAs : (ListName → List Slot) → State → Type 0
@@ -22,7 +22,7 @@ PlacedAs lists st = (l : ListName) (s : Slot) → times s (lists l) ≡ one_if (
 -- ---- one slot moves
 
 move_named : (st : State) (r : Slot) (q : Place) (l : ListName) → list_of st r ≡ Some l → (s : Slot) →
-    list_of (relocate (move_one r q) st) s ≡ (if same_slot r s && is_list l (list_of st s) then Some (list_at (owner_of st r) q) else list_of st s)
+    list_of (with_moved r q st) s ≡ (if same_slot r s && is_list l (list_of st s) then Some (list_at (owner_of st r) q) else list_of st s)
 move_named st r q l e s = go (same_slot r s) refl
   where
     some_named : (o : ℕ) (p : Option Place) → option_map (list_at o) p ≡ Some l →
@@ -50,11 +50,11 @@ pub moved_in_place : (st : State) (before after : ListName → List Slot) (r : S
     PlacedAs before st → list_of st r ≡ Some l → same_list l (list_at (owner_of st r) q) ≡ false →
     IsPermutation (r ∷ after l) (before l) → IsPermutation (r ∷ before (list_at (owner_of st r) q)) (after (list_at (owner_of st r) q)) →
     ((k : ListName) → same_list k l ≡ false → same_list k (list_at (owner_of st r) q) ≡ false → after k ≡ before k) →
-    PlacedAs after (relocate (move_one r q) st)
+    PlacedAs after (with_moved r q st)
 moved_in_place st before after r q l h there apart out into rest =
     some_moved (λ k s. times s (before k)) (λ k s. times s (after k)) l (list_at (owner_of st r) q) (same_slot r) (list_of st)
     (one_moves before after l (list_at (owner_of st r) q) r (list_of st) h there apart out into rest) h
-    (list_of (relocate (move_one r q) st)) (move_named st r q l there)
+    (list_of (with_moved r q st)) (move_named st r q l there)
 
 -- ---- a bucket is sent
 
@@ -75,7 +75,7 @@ send_named st a t s = go (owner_of st s) (st.place s) (nat_lt (near st a t) (nea
     no false o = refl
 
     go : (o : ℕ) (p : Option Place) (b : Bool) →
-        option_map (list_at o) (option_map (λ old. if same_place (InCache a) (Some old) && b then InBatch st.next else old) p)
+        option_map (list_at o) (option_map (λ old. if same_place (InCache a) p && b then InBatch st.next else old) p)
         ≡ (if b && is_list (CacheOf a) (option_map (list_at o) p) then Some (BatchOf st.next) else option_map (list_at o) p)
     go o None b = no b None
     go o (Some AtHome) b = no b (Some (HomeOf o))

@@ -11,13 +11,13 @@ use Rattle.region_cut.specs.Slots.{same_slot}
 use Rattle.pool_machine.specs.Slots.{has_index}
 use Rattle.pool_machine.specs.State.{Place, AtHome, OnLoan, InCache, InBatch, Waiting, State, owner_of, class_of, slots, home_with, in_bucket, inbox, digits_of, same_place, is_at}
 use Rattle.pool_machine.specs.Refusals.{refusal, lacks_desk, slot_named}
-use Rattle.pool_machine.specs.Steps.{Answer, relocate, move_one, move_bucket, move_batch, with_holder, with_chunk, front_of, after_send, after_take, after_free, after, Answers, Run}
+use Rattle.pool_machine.specs.Steps.{Answer, kept_place, with_holder, with_chunk, front_of, after_send, after_take, after_free, after, Answers, Run}
 use Rattle.pool_machine.specs.Forwards.{counted, forwards}
 use Rattle.pool_machine.specs.Sound.{Member, GoesNearer, FitsIn, Fits, FitsWaiting, Rising, Sound}
 use Rattle.pool_machine.specs.declared.chunk.DrawnChunk.{DrawnChunk}
 use Rattle.pool_machine.proofs.Basics.{same_slot_eq, none_holds, Member-append_left, Member_last, Member-push_cases, Member-filter, filter_member, Member-map, map_member, FrontOf, front_is, link_keeps, any_witness}
 use Rattle.digit_route.proofs.SharedLaws.{shared_by_others, shared_on_the_way}
-use Rattle.pool_machine.proofs.Words.{freed_place, link_one, owner_or, near, front_ready}
+use Rattle.pool_machine.proofs.Words.{with_moved, link_one, owner_or, near, front_ready}
 
 pub Rising-filter : (p : Waiting → Bool) (ws : List Waiting) → Rising ws → Rising (filter p ws)
 Rising-filter p [] r = tt
@@ -76,12 +76,12 @@ holder_sound st c a x h = record {
 moved_sound : (st : State) (c : Slot → ℕ) (r : Slot) (q : Place) (n : ℕ) → Sound st c →
     (same_place AtHome (st.place r) ≡ true) ⊎ (same_place OnLoan (st.place r) ≡ true) →
     FitsIn st (owner_of st r) n q → n < digits_of st →
-    Sound (relocate (move_one r q) st) (λ s. if same_slot r s then n else c s)
+    Sound (with_moved r q st) (λ s. if same_slot r s then n else c s)
 moved_sound st c r q n h was fit l = record {
   desks_fit = h.desks_fit;
   digits_fit = h.digits_fit;
   chunks_fit = h.chunks_fit;
-  placed = λ s. placed_same (move_one r q s) (st.place s) ∙ h.placed s;
+  placed = λ s. placed_same (λ p. if same_slot r s then q else p) (st.place s) ∙ h.placed s;
   fits = λ s. fits_at s (same_slot r s) refl (st.place s) (h.fits s);
   waits = λ w m. (let k = h.waits w m in record {
     numbered = k.numbered;
@@ -228,7 +228,7 @@ send_sound st c a t h al tl ne found = record {
   desks_fit = h.desks_fit;
   digits_fit = h.digits_fit;
   chunks_fit = h.chunks_fit;
-  placed = λ s. placed_same (move_bucket st a t s) (st.place s) ∙ h.placed s;
+  placed = λ s. placed_same (λ p. if in_bucket st a t s then InBatch st.next else p) (st.place s) ∙ h.placed s;
   fits = λ s. fits_at s (nat_lt (near st a t) (near st (owner_of st s) t)) refl (st.place s) (h.fits s);
   waits = λ w m. waits_at w (Member-push_cases w sent st.waiting m);
   rising = Rising-push sent st.waiting (λ w m. (h.waits w m).numbered) h.rising;
@@ -269,7 +269,7 @@ send_sound st c a t h al tl ne found = record {
             subst (λ x. x < near st (owner_of st s) t) (sym k) l
 
     fits_at : (s : Slot) (b : Bool) → nat_lt (near st a t) (near st (owner_of st s) t) ≡ b → (p : Option Place) → Fits st (owner_of st s) (c s) p →
-        Fits new (owner_of st s) (c s) (option_map (λ old. if same_place (InCache a) (Some old) && b then InBatch st.next else old) p)
+        Fits new (owner_of st s) (c s) (option_map (λ old. if same_place (InCache a) p && b then InBatch st.next else old) p)
     fits_at s b e None f = tt
     fits_at s b e (Some AtHome) f = f
     fits_at s b e (Some OnLoan) f = f
@@ -282,8 +282,12 @@ send_sound st c a t h al tl ne found = record {
         cached true q false e = f
         cached false q b e = f
 
+    -- where a slot goes that was at p
+    sent_from : Slot → Option Place → Option Place
+    sent_from s p = option_map (λ q. if same_place (InCache a) p && nat_lt (near st a t) (near st (owner_of st s) t) then InBatch st.next else q) p
+
     bucket_parts : (x : Bool) (p : Option Place) (y z : Bool) → same_place (InCache a) p ≡ x → ((x && y) && z) ≡ true →
-        (option_map (λ old. if same_place (InCache a) (Some old) && y then InBatch st.next else old) p ≡ Some (InBatch st.next)) × (z ≡ true)
+        (option_map (λ old. if same_place (InCache a) p && y then InBatch st.next else old) p ≡ Some (InBatch st.next)) × (z ≡ true)
     bucket_parts true None y z e g = absurd (false≢true e)
     bucket_parts true (Some p) true true e g = (ap (λ b. Some (if b && true then InBatch st.next else p)) e, refl)
     bucket_parts true (Some p) true false e g = absurd (false≢true g)
@@ -295,7 +299,7 @@ send_sound st c a t h al tl ne found = record {
       numbered = (let l = k.numbered in omega arith);
       a_desk = k.a_desk;
       leaves = k.leaves;
-      reaches = (k.reaches.0, ap (option_map (move_bucket st a t k.reaches.0)) k.reaches.1, k.reaches.2);
+      reaches = (k.reaches.0, ap (sent_from k.reaches.0) k.reaches.1, k.reaches.2);
     })
     waits_at w (inr e) = subst (λ v. FitsWaiting new v) (sym e) (
         let s = found.0 in
@@ -310,7 +314,7 @@ take_sound st c b h bl front = record {
   desks_fit = h.desks_fit;
   digits_fit = h.digits_fit;
   chunks_fit = h.chunks_fit;
-  placed = λ s. placed_same (move_batch st b (front_of st b) s) (st.place s) ∙ h.placed s;
+  placed = λ s. placed_same (λ p. if is_at st (InBatch (front_of st b)) s then kept_place st b s else p) (st.place s) ∙ h.placed s;
   fits = λ s. fits_at s (owner_of st s == b) refl (st.place s) (h.fits s);
   waits = λ w m. (let k = filter_member (λ v. not (front_of st b == v.number)) w st.waiting m in waits_at w k.1 (h.waits w k.0));
   rising = Rising-filter (λ v. not (front_of st b == v.number)) st.waiting h.rising;
@@ -347,7 +351,7 @@ take_sound st c b h bl front = record {
 
     fits_at : (s : Slot) (y : Bool) → (owner_of st s == b) ≡ y → (p : Option Place) → Fits st (owner_of st s) (c s) p →
         Fits (after_take st b) (owner_of st s) (if same_place (InBatch (front_of st b)) p && not y then suc (c s) else c s)
-        (option_map (λ old. if same_place (InBatch (front_of st b)) (Some old) then (if y then AtHome else InCache b) else old) p)
+        (option_map (λ old. if same_place (InBatch (front_of st b)) p then (if y then AtHome else InCache b) else old) p)
     fits_at s y q None f = tt
     fits_at s y q (Some AtHome) f = f
     fits_at s y q (Some OnLoan) f = f
@@ -369,6 +373,10 @@ take_sound st c b h bl front = record {
     few_at s y q (Some (InCache d)) f = h.few s
     few_at s y q (Some (InBatch n)) f = few_in s n (front_of st b == n) refl y q f
 
+    -- where a slot goes that was at p
+    taken_from : Slot → Option Place → Option Place
+    taken_from s p = option_map (λ q. if same_place (InBatch (front_of st b)) p then kept_place st b s else q) p
+
     waits_at : (w : Waiting) → not (front_of st b == w.number) ≡ true → FitsWaiting st w → FitsWaiting (after_take st b) w
     waits_at w e k = record {
       numbered = k.numbered;
@@ -376,7 +384,7 @@ take_sound st c b h bl front = record {
       leaves = k.leaves;
       reaches = (
         k.reaches.0,
-        ap (option_map (move_batch st b (front_of st b) k.reaches.0)) k.reaches.1
+        ap (taken_from k.reaches.0) k.reaches.1
             ∙ ap (λ x. Some (if x then (if owner_of st k.reaches.0 == b then AtHome else InCache b) else InBatch w.number))
             (not-true (front_of st b == w.number) e),
         k.reaches.2,
@@ -391,9 +399,9 @@ a_desk_from st a e = leb-false st.desks a e
 home_is : (st : State) (a z : ℕ) (s : Slot) → home_with st a z s ≡ true → same_place AtHome (st.place s) ≡ true
 home_is st a z s e = (and_parts (same_place AtHome (st.place s)) ((owner_of st s == a) && (class_of st s == z)) e).0
 
-pub alloc_step : (st : State) (c : Slot → ℕ) (a z : ℕ) (s : Slot) → Sound st c → home_with st a z s ≡ true → Sound (relocate (move_one s OnLoan) st) c
+pub alloc_step : (st : State) (c : Slot → ℕ) (a z : ℕ) (s : Slot) → Sound st c → home_with st a z s ≡ true → Sound (with_moved s OnLoan st) c
 alloc_step st c a z s h e =
-    same_counts (relocate (move_one s OnLoan) st) (λ r. if same_slot s r then c s else c r) c (λ r. agree r (same_slot s r) refl)
+    same_counts (with_moved s OnLoan st) (λ r. if same_slot s r then c s else c r) c (λ r. agree r (same_slot s r) refl)
     (moved_sound st c s OnLoan (c s) h (inl (home_is st a z s e)) tt (h.few s))
   where
     agree : (r : Slot) (b : Bool) → same_slot s r ≡ b → (if b then c s else c r) ≡ c r
@@ -406,7 +414,7 @@ free_step st c a pair h e =
     let e1 = none_holds (lacks_desk st a) _ _ e in
     let e2 = none_holds _ _ _ e1.1 in
     let e3 = none_holds (not (same_place OnLoan (st.place (slot_named pair)))) _ _ e2.1 in
-    moved_sound st c (slot_named pair) (freed_place st a (slot_named pair)) 0 h (inr (not-false (same_place OnLoan (st.place (slot_named pair))) e3.0))
+    moved_sound st c (slot_named pair) (kept_place st a (slot_named pair)) 0 h (inr (not-false (same_place OnLoan (st.place (slot_named pair))) e3.0))
     (fit (owner_of st (slot_named pair) == a) refl) (lt_of_le_of_lt zero-le (h.few (slot_named pair)))
   where
     fit : (b : Bool) → (owner_of st (slot_named pair) == a) ≡ b → FitsIn st (owner_of st (slot_named pair)) 0 (if b then AtHome else InCache a)

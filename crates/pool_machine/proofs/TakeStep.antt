@@ -93,7 +93,7 @@ take_named st b s = go (st.place s) (owner_of st s == b) refl
         go false false e q = ap (λ (x : Bool). if x then Some (CacheOf b) else o) (sym q)
 
     go : (p : Option Place) (y : Bool) → (owner_of st s == b) ≡ y →
-        option_map (list_at (owner_of st s)) (option_map (λ old. if same_place (InBatch (front_of st b)) (Some old) then
+        option_map (list_at (owner_of st s)) (option_map (λ old. if same_place (InBatch (front_of st b)) p then
         (if y then AtHome else InCache b) else old) p)
         ≡ (if is_list (BatchOf (front_of st b)) (if y && is_list (BatchOf (front_of st b)) (option_map (list_at (owner_of st s)) p) then Some
         (HomeOf b) else option_map (list_at (owner_of st s)) p)

@@ -4,9 +4,10 @@ use Rattle.std.specs.Prelude.{slice_get}
 use Rattle.std.specs.Option.{option_map_or}
 use Rattle.digit_route.specs.Digits.{common}
 use Rattle.region_cut.specs.declared.slot.Slot.{Slot}
+use Rattle.region_cut.specs.Slots.{same_slot}
 use Rattle.pool_machine.specs.declared.chunk.DrawnChunk.{DrawnChunk}
-use Rattle.pool_machine.specs.State.{Place, AtHome, InCache, InBatch, State, Waiting, owner_of, cached_bytes, is_at, slots_at}
-use Rattle.pool_machine.specs.Steps.{after_free, front_of}
+use Rattle.pool_machine.specs.State.{Place, AtHome, InBatch, State, Waiting, owner_of, cached_bytes, is_at, slots_at}
+use Rattle.pool_machine.specs.Steps.{moved, after_free, front_of}
 
 -- the owner and the class of a chunk, 0 where it isn't drawn
 abbrev pub owner_or : Option DrawnChunk → ℕ
@@ -27,9 +28,9 @@ is_unlinked n w = (n == w.number) && not w.linked
 abbrev pub link_one : ℕ → Waiting → Waiting
 link_one n w = if n == w.number then record w { linked = true } else w
 
--- where a slot goes that a frees
-abbrev pub freed_place : State → ℕ → Slot → Place
-freed_place st a s = if owner_of st s == a then AtHome else InCache a
+-- one slot goes to a place
+abbrev pub with_moved : Slot → Place → State → State
+with_moved r q st = moved (same_slot r) (λ s. q) st
 
 -- the bytes in the cache of a, once the slot was freed there
 abbrev pub bytes_with : State → ℕ → Slot → ℕ

@@ -1,10 +1,9 @@
 -- What an accepted request does, one step of the machine, and runs.
-use Rattle.std.specs.Prelude.{◌≡◌, ◌≢◌, ⊤, ◌≤◌, ℕ, suc, ◌<◌, true, false, ◌&&◌, not, ◌==◌, nat_lt, List, [], ◌∷◌, ◌++◌}
+use Rattle.std.specs.Prelude.{◌≡◌, ◌≢◌, ⊤, ◌≤◌, ℕ, suc, ◌<◌, Bool, true, false, ◌&&◌, not, ◌==◌, nat_lt, List, [], ◌∷◌, ◌++◌}
 use Rattle.std.specs.Prelude.{map, length, filter, Option, Some, None, Ok, Err, Result, if◌then◌else◌, option_map, ◌⊎◌}
 use Rattle.region_cut.specs.declared.slot.Slot.{Slot}
 use Rattle.std.specs.Option.{option_map_or}
 use Rattle.region_cut.specs.Classes.{slots_of}
-use Rattle.digit_route.specs.Digits.{common}
 use Rattle.pool_machine.specs.declared.request.Request.{Request}
 use Rattle.pool_machine.specs.declared.request.Request.TheVariants.{Adopt, Retire, Claim, Alloc, Free, Send, Link, Take}
 use Rattle.pool_machine.specs.declared.reply.Reply.{Reply}
@@ -14,7 +13,7 @@ use Rattle.pool_machine.specs.declared.refusal.Refusal.{Refusal}
 use Rattle.pool_machine.specs.declared.refusal.Refusal.TheVariants.{NoMemory}
 use Rattle.region_cut.specs.Slots.{same_slot}
 use Rattle.pool_machine.specs.State.{Place, AtHome, OnLoan, InCache, InBatch, Waiting, State, profile_at, least_class}
-use Rattle.pool_machine.specs.State.{owner_of, same_place, home_with, bucket, cached_bytes, slots_at, front}
+use Rattle.pool_machine.specs.State.{owner_of, is_at, home_with, in_bucket, bucket, cached_bytes, slots_at, front}
 use Rattle.pool_machine.specs.Refusals.{slot_named, refusal, may_grow}
 
 -- what a request is answered
@@ -23,24 +22,13 @@ Answer = Result Reply Refusal
 
 -- ---- where slots go
 
--- each slot goes from its place to the one that f tells
-abbrev pub relocate : (Slot → Place → Place) → State → State
-relocate f st = record st { place = λ s. option_map (f s) (st.place s) }
+-- the slots for which f holds go to the places that `to` tells, and the others stay
+abbrev pub moved : (Slot → Bool) → (Slot → Place) → State → State
+moved f to st = record st { place = λ s. option_map (λ p. if f s then to s else p) (st.place s) }
 
--- the slot s goes to p
-abbrev pub move_one : Slot → Place → Slot → Place → Place
-move_one s p r old = if same_slot s r then p else old
-
--- the bucket of a for t goes into the next batch
-abbrev pub move_bucket : State → ℕ → ℕ → Slot → Place → Place
-move_bucket st a t s old =
-    if same_place (InCache a) (Some old) && nat_lt (common st.digits a t) (common st.digits (owner_of st s) t)
-    then InBatch st.next else old
-
--- of a batch that b takes, the slots that b owns go home, and the others into the cache of b
-abbrev pub move_batch : State → ℕ → ℕ → Slot → Place → Place
-move_batch st b n s old =
-    if same_place (InBatch n) (Some old) then (if owner_of st s == b then AtHome else InCache b) else old
+-- where a slot goes that desk a freed or took: home where a owns it, else into the cache of a
+abbrev pub kept_place : State → ℕ → Slot → Place
+kept_place st a s = if owner_of st s == a then AtHome else InCache a
 
 -- the number of the front of the inbox of b, 0 where there is none
 abbrev pub front_of : State → ℕ → ℕ
@@ -59,20 +47,20 @@ with_chunk k a c st = record st {
   place = λ s. if (k == s.chunk) && nat_lt s.index (slots_of c) then Some AtHome else st.place s;
 }
 
--- the slot was freed by a: it is at home where a owns it, else in the cache of a
+-- the slot was freed by a
 abbrev pub after_free : State → ℕ → Slot → State
-after_free st a s = relocate (move_one s (if owner_of st s == a then AtHome else InCache a)) st
+after_free st a s = moved (same_slot s) (λ r. kept_place st a s) st
 
 -- the bucket of a for t is the batch with the next number, which waits to be linked
 abbrev pub after_send : State → ℕ → ℕ → State
-after_send st a t = record (relocate (move_bucket st a t) st) {
+after_send st a t = record (moved (in_bucket st a t) (λ s. InBatch st.next) st) {
   next = suc st.next;
   waiting = st.waiting ++ record { number = st.next; sender = a; address = t; linked = false } ∷ [];
 }
 
 -- the front of the inbox of b was taken
 abbrev pub after_take : State → ℕ → State
-after_take st b = record (relocate (move_batch st b (front_of st b)) st) {
+after_take st b = record (moved (is_at st (InBatch (front_of st b))) (kept_place st b) st) {
   waiting = filter (λ w. not (front_of st b == w.number)) st.waiting;
 }
 
@@ -83,7 +71,7 @@ after st (Adopt a x) (Ok r) = with_holder a (Some x) st
 after st (Retire a) (Ok r) = with_holder a None st
 after st (Claim a c) (Ok (Chunk k)) = with_chunk k a c st
 after st (Claim a c) (Ok _) = st
-after st (Alloc a n) (Ok (Lent s)) = relocate (move_one s OnLoan) st
+after st (Alloc a n) (Ok (Lent s)) = moved (same_slot s) (λ r. OnLoan) st
 after st (Alloc a n) (Ok _) = st
 after st (Free a pair) (Ok r) = after_free st a (slot_named pair)
 after st (Send a t) (Ok r) = after_send st a t
