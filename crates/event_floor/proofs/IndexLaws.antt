@@ -23,24 +23,24 @@ Entry sender inbox = record { sender = sender; inbox = inbox }
 pushed_before : (ps : List QueuedState) (p : QueuedState) (n s : ℕ) → HasUnlinked ps n s → HasUnlinked (ps ++ p ∷ []) n s
 pushed_before ps p n s (k, l, unlinked, is) =
     let e : batch_at (ps ++ p ∷ []) k ≡ batch_at ps k = get_or_append_left ps (p ∷ []) no_batch k l in
-    (k, (let a = length-append ps (p ∷ []) in omega (arith, l, a)), subst (λ z. IsUnlinked n z) (sym e) unlinked, ap (λ (z : QueuedState). z.sender) e ∙ is)
+    (k, (let a = length-append ps (p ∷ []) in omega (arith, l, a)), subst (λ z. IsUnlinked n z) (sym e) unlinked, ap (λ (z : QueuedState). z.batch.sender) e ∙ is)
 
-pushed_here : (ps : List QueuedState) (p : QueuedState) → p.linked ≡ false → HasUnlinked (ps ++ p ∷ []) p.number p.sender
+pushed_here : (ps : List QueuedState) (p : QueuedState) → p.batch.linked ≡ false → HasUnlinked (ps ++ p ∷ []) p.batch.number p.batch.sender
 pushed_here ps p unlinked =
     let e : batch_at (ps ++ p ∷ []) (length ps) ≡ p = get_or-append_seam ps p [] no_batch in
-    (length ps, (let a = length-append ps (p ∷ []) in omega (arith, a)), subst (λ z. IsUnlinked p.number z) (sym e) (refl, unlinked), ap (λ (z : QueuedState). z.sender) e)
+    (length ps, (let a = length-append ps (p ∷ []) in omega (arith, a)), subst (λ z. IsUnlinked p.batch.number z) (sym e) (refl, unlinked), ap (λ (z : QueuedState). z.batch.sender) e)
 
-pushed_cases : (ps : List QueuedState) (p : QueuedState) (n s : ℕ) → HasUnlinked (ps ++ p ∷ []) n s → HasUnlinked ps n s ⊎ ((p.number ≡ n) × (p.sender ≡ s))
+pushed_cases : (ps : List QueuedState) (p : QueuedState) (n s : ℕ) → HasUnlinked (ps ++ p ∷ []) n s → HasUnlinked ps n s ⊎ ((p.batch.number ≡ n) × (p.batch.sender ≡ s))
 pushed_cases ps p n s (k, l, unlinked, is) =
     ⊎_elim (λ (m : k < length ps).
     let e : batch_at (ps ++ p ∷ []) k ≡ batch_at ps k = get_or_append_left ps (p ∷ []) no_batch k m in
-    inl (k, m, subst (λ z. IsUnlinked n z) e unlinked, sym (ap (λ (z : QueuedState). z.sender) e) ∙ is))
+    inl (k, m, subst (λ z. IsUnlinked n z) e unlinked, sym (ap (λ (z : QueuedState). z.batch.sender) e) ∙ is))
     (λ (m : length ps ≤ k).
     let last : k ≡ length ps = (let a = length-append ps (p ∷ []) in omega (arith, l, m, a)) in
     let e : batch_at (ps ++ p ∷ []) k ≡ p = ap (batch_at (ps ++ p ∷ [])) last ∙ get_or-append_seam ps p [] no_batch in
-    inr ((subst (λ z. IsUnlinked n z) e unlinked).0, sym (ap (λ (z : QueuedState). z.sender) e) ∙ is)) (cases_lt k (length ps))
+    inr ((subst (λ z. IsUnlinked n z) e unlinked).0, sym (ap (λ (z : QueuedState). z.batch.sender) e) ∙ is)) (cases_lt k (length ps))
 
-popped : (p : QueuedState) (ps : List QueuedState) (n s : ℕ) → p.linked ≡ true → HasUnlinked (p ∷ ps) n s → HasUnlinked ps n s
+popped : (p : QueuedState) (ps : List QueuedState) (n s : ℕ) → p.batch.linked ≡ true → HasUnlinked (p ∷ ps) n s → HasUnlinked ps n s
 popped p ps n s linked (zero, l, unlinked, is) = absurd (cc)
 popped p ps n s linked (suc k, l, unlinked, is) = (k, omega (arith, l), unlinked, is)
 
@@ -52,7 +52,7 @@ abbrev pub linked_at : List QueuedState → ℕ → List QueuedState
 linked_at ps k = set ps k (as_linked (batch_at ps k))
 
 -- two places with one number are one
-one_place : (ps : List QueuedState) (i j : ℕ) → NumbersRise ps → i < length ps → j < length ps → (batch_at ps i).number ≡ (batch_at ps j).number → i ≡ j
+one_place : (ps : List QueuedState) (i j : ℕ) → NumbersRise ps → i < length ps → j < length ps → (batch_at ps i).batch.number ≡ (batch_at ps j).batch.number → i ≡ j
 one_place ps i j rise l m e =
     ⊎_elim (λ (below : i < j). let r = rise i j no_batch below m in absurd (omega (arith, r, e)))
     (λ (above : j ≤ i). ⊎_elim (λ (same : (eqb i j ≡ true) × (i ≡ j)). same.1)
@@ -63,17 +63,17 @@ linked_cases ps k number n s rise l is_unlinked (i, m, unlinked, is) =
     let m' : i < length ps = (let e = length-set ps k (as_linked (batch_at ps k)) in omega (arith, m, e)) in
     ⊎_elim (λ (same : (eqb i k ≡ true) × (i ≡ k)).
     let e : batch_at (linked_at ps k) i ≡ as_linked (batch_at ps k) = ap (batch_at (linked_at ps k)) same.1 ∙ get_or-set_same ps k (as_linked (batch_at ps k)) no_batch l in
-    let says : true ≡ false = sym (ap (λ (z : QueuedState). z.linked) e) ∙ unlinked.1 in absurd (cc))
+    let says : true ≡ false = sym (ap (λ (z : QueuedState). z.batch.linked) e) ∙ unlinked.1 in absurd (cc))
     (λ (other : (eqb i k ≡ false) × (i ≢ k)).
     let e : batch_at (linked_at ps k) i ≡ batch_at ps i = get_or-set_other ps k i (as_linked (batch_at ps k)) no_batch other.1 in
     let was : IsUnlinked n (batch_at ps i) = subst (λ z. IsUnlinked n z) e unlinked in
-    ((i, m', was, sym (ap (λ (z : QueuedState). z.sender) e) ∙ is), λ (q : n ≡ number). other.1 (one_place ps i k rise m' l (was.0 ∙ (q ∙ sym is_unlinked.0))))) (eqb_tells i k)
+    ((i, m', was, sym (ap (λ (z : QueuedState). z.batch.sender) e) ∙ is), λ (q : n ≡ number). other.1 (one_place ps i k rise m' l (was.0 ∙ (q ∙ sym is_unlinked.0))))) (eqb_tells i k)
 
 linked_others : (ps : List QueuedState) (k number n s : ℕ) → IsUnlinked number (batch_at ps k) → HasUnlinked ps n s → n ≢ number → HasUnlinked (linked_at ps k) n s
 linked_others ps k number n s is_unlinked (i, m, unlinked, is) ne =
-    let apart : i ≢ k = λ (q : i ≡ k). ne (sym unlinked.0 ∙ (ap (λ z. (batch_at ps z).number) q ∙ is_unlinked.0)) in
+    let apart : i ≢ k = λ (q : i ≡ k). ne (sym unlinked.0 ∙ (ap (λ z. (batch_at ps z).batch.number) q ∙ is_unlinked.0)) in
     let e : batch_at (linked_at ps k) i ≡ batch_at ps i = get_or-set_other ps k i (as_linked (batch_at ps k)) no_batch apart in
-    (i, (let q = length-set ps k (as_linked (batch_at ps k)) in omega (arith, m, q)), subst (λ z. IsUnlinked n z) (sym e) unlinked, ap (λ (z : QueuedState). z.sender) e ∙ is)
+    (i, (let q = length-set ps k (as_linked (batch_at ps k)) in omega (arith, m, q)), subst (λ z. IsUnlinked n z) (sym e) unlinked, ap (λ (z : QueuedState). z.batch.sender) e ∙ is)
 
 -- ---- in the inboxes of all desks, where that of b is another
 
@@ -95,7 +95,7 @@ set_cases old b ps n s c l (m, h) =
 
 -- ---- the index, after a batch is taken
 
-pub index_taken : (old : List (List QueuedState)) (v : UnlinkedState) (b : ℕ) (p : QueuedState) (ps : List QueuedState) → IsIndexOf old v → b < length old → inbox_at old b ≡ p ∷ ps → p.linked ≡ true
+pub index_taken : (old : List (List QueuedState)) (v : UnlinkedState) (b : ℕ) (p : QueuedState) (ps : List QueuedState) → IsIndexOf old v → b < length old → inbox_at old b ≡ p ∷ ps → p.batch.linked ≡ true
     → IsIndexOf (set old b ps) v
 index_taken old v b p ps index l front linked = record {
   desks = index.desks ∙ sym (length-set old b ps);
@@ -127,8 +127,8 @@ none_some a e = absurd (cc)
 
 -- ---- after a batch is sent
 
-pub index_sent : (old : List (List QueuedState)) (v w : UnlinkedState) (t number sender : ℕ) (p : QueuedState) → IsIndexOf old v → t < length old → p.number ≡ number → p.sender ≡ sender
-    → p.linked ≡ false → unlinked_of v number ≡ None → w.desks ≡ v.desks → ((n : ℕ) → unlinked_of w n ≡ cond (nat_eq number n) (Some (Entry sender t)) (unlinked_of v n))
+pub index_sent : (old : List (List QueuedState)) (v w : UnlinkedState) (t number sender : ℕ) (p : QueuedState) → IsIndexOf old v → t < length old → p.batch.number ≡ number → p.batch.sender ≡ sender
+    → p.batch.linked ≡ false → unlinked_of v number ≡ None → w.desks ≡ v.desks → ((n : ℕ) → unlinked_of w n ≡ cond (nat_eq number n) (Some (Entry sender t)) (unlinked_of v n))
     → IsIndexOf (set old t (inbox_at old t ++ p ∷ [])) w
 index_sent old v w t number sender p index l is_number is_sender unlinked absent desks becomes =
     let ps = inbox_at old t in
@@ -145,7 +145,7 @@ index_sent old v w t number sender p index l is_number is_sender unlinked absent
           ⊎_elim (λ (same : (eqb number n ≡ true) × (number ≡ n)).
           let e : Entry sender t ≡ h = some_is (Entry sender t) h (sym (now n same.0) ∙ found) in
           let last : HasUnlinked (ps ++ p ∷ []) n sender = subst (λ z. HasUnlinked (ps ++ p ∷ []) n z) is_sender
-          (subst (λ z. HasUnlinked (ps ++ p ∷ []) z p.sender) (is_number ∙ same.1) (pushed_here ps p unlinked)) in
+          (subst (λ z. HasUnlinked (ps ++ p ∷ []) z p.batch.sender) (is_number ∙ same.1) (pushed_here ps p unlinked)) in
           subst (λ (z : Unlinked). WaitsUnlinked (set old t (ps ++ p ∷ [])) n z.sender z.inbox) e (here n sender last))
           (λ (other : (eqb number n ≡ false) × (number ≢ n)).
           let u = index.waits n h (sym (still n other.0) ∙ found) in
@@ -156,7 +156,7 @@ index_sent old v w t number sender p index l is_number is_sender unlinked absent
       known = λ n s c u.
           ⊎_elim (λ (at : (c ≡ t) × HasUnlinked (ps ++ p ∷ []) n s).
           ⊎_elim (λ (before : HasUnlinked ps n s). kept n s c (subst (λ z. WaitsUnlinked old n s z) (sym at.0) (l, before)))
-          (λ (last : (p.number ≡ n) × (p.sender ≡ s)).
+          (λ (last : (p.batch.number ≡ n) × (p.batch.sender ≡ s)).
           let e : number ≡ n = sym is_number ∙ last.0 in
           let q : Entry sender t ≡ Entry s c = ap (λ z. Entry z t) (sym is_sender ∙ last.1) ∙ ap (Entry s) (sym at.0) in
           ⊎_elim (λ (same : (eqb number n ≡ true) × (number ≡ n)). now n same.0 ∙ ap Some q)
@@ -192,7 +192,7 @@ index_refused old v w u number h index absent desks desks' added removed =
 
 -- a number above all is not there
 pub absent_above : (old : List (List QueuedState)) (v : UnlinkedState) (number : ℕ) (o : Option Unlinked) → IsIndexOf old v
-    → ((b : ℕ) → b < length old → All (λ (p : QueuedState). p.number < number) (inbox_at old b)) → unlinked_of v number ≡ o → o ≡ None
+    → ((b : ℕ) → b < length old → All (λ (p : QueuedState). p.batch.number < number) (inbox_at old b)) → unlinked_of v number ≡ o → o ≡ None
 absent_above old v number None index below is = refl
 absent_above old v number (Some h) index below is =
     let (l, (k, m, unlinked, sender)) = index.waits number h is in let b = below h.inbox l k no_batch m in let e = unlinked.0 in absurd (omega (arith, b, e))
@@ -204,7 +204,7 @@ pub index_linked : (old : List (List QueuedState)) (v w : UnlinkedState) (b k nu
     → IsIndexOf (set old b (linked_at (inbox_at old b) k)) w
 index_linked old v w b k number index rise l m unlinked desks becomes =
     let ps = inbox_at old b in
-    let there = index.known number (batch_at ps k).sender b (l, (k, m, unlinked, refl)) in
+    let there = index.known number (batch_at ps k).batch.sender b (l, (k, m, unlinked, refl)) in
     let kept : (n s c : ℕ) → n ≢ number → WaitsUnlinked old n s c → unlinked_of w n ≡ Some (Entry s c) = λ n s c ne u.
     ⊎_elim (λ (same : (eqb number n ≡ true) × (number ≡ n)). absurd (ne (sym same.1)))
     (λ (other : (eqb number n ≡ false) × (number ≢ n)). becomes n ∙ (ap (λ z. cond z None (unlinked_of v n)) other.0 ∙ index.known n s c u)) (eqb_tells number n) in
@@ -226,7 +226,7 @@ index_linked old v w b k number index rise l m unlinked desks becomes =
           kept n s c was.1 (subst (λ z. WaitsUnlinked old n s z) (sym at.0) (l, was.0)))
           (λ (other : (c ≢ b) × WaitsUnlinked old n s c).
           let ne : n ≢ number = λ (e : n ≡ number).
-          other.0 (ap (λ (z : Unlinked). z.inbox) (some_is (Entry s c) (Entry (batch_at ps k).sender b) (sym (index.known n s c other.1) ∙ (ap (unlinked_of v) e ∙ there)))) in
+          other.0 (ap (λ (z : Unlinked). z.inbox) (some_is (Entry s c) (Entry (batch_at ps k).batch.sender b) (sym (index.known n s c other.1) ∙ (ap (unlinked_of v) e ∙ there)))) in
           kept n s c ne other.1) (set_cases old b (linked_at ps k) n s c l u);
     }
 
@@ -235,10 +235,10 @@ index_linked old v w b k number index rise l m unlinked desks becomes =
 -- a batch that still has to be linked is known by its number, from any stand-in
 unlinked_known : (old : List (List QueuedState)) (v : UnlinkedState) (b k number : ℕ) (d : QueuedState) → IsIndexOf old v → b < length old → k < length (inbox_at old b)
     → IsUnlinked number (get_or (inbox_at old b) k d)
-    → unlinked_of v number ≡ Some (Entry (get_or (inbox_at old b) k d).sender b)
+    → unlinked_of v number ≡ Some (Entry (get_or (inbox_at old b) k d).batch.sender b)
 unlinked_known old v b k number d index l m unlinked =
     let e : get_or (inbox_at old b) k d ≡ batch_at (inbox_at old b) k = get_or_default (inbox_at old b) k d no_batch m in
-    index.known number (get_or (inbox_at old b) k d).sender b (l, (k, m, subst (λ z. IsUnlinked number z) e unlinked, sym (ap (λ (z : QueuedState). z.sender) e)))
+    index.known number (get_or (inbox_at old b) k d).batch.sender b (l, (k, m, subst (λ z. IsUnlinked number z) e unlinked, sym (ap (λ (z : QueuedState). z.batch.sender) e)))
 
 pub none_waits : (old : List (List QueuedState)) (v : UnlinkedState) (number : ℕ) → IsIndexOf old v → unlinked_of v number ≡ None → NoneQueued (IsUnlinked number) old
 none_waits old v number index absent b l k d m unlinked = none_some _ (sym absent ∙ unlinked_known old v b k number d index l m unlinked)
@@ -250,7 +250,7 @@ tells_unlinked old v sender true index (n, h, found, is) =
     let (l, (k, m, unlinked, sent)) = index.waits n h found in
     (h.inbox, l, (k, batch_at (inbox_at old h.inbox) k, m, get_or_default (inbox_at old h.inbox) k (batch_at (inbox_at old h.inbox) k) no_batch m, (sent ∙ is, unlinked.1)))
 tells_unlinked old v sender false index none = λ b l k d m unlinked.
-    none (get_or (inbox_at old b) k d).number (Entry (get_or (inbox_at old b) k d).sender b) (unlinked_known old v b k _ d index l m (refl, unlinked.1)) unlinked.0
+    none (get_or (inbox_at old b) k d).batch.number (Entry (get_or (inbox_at old b) k d).batch.sender b) (unlinked_known old v b k _ d index l m (refl, unlinked.1)) unlinked.0
 
 -- so many inboxes with no batch, and nothing in the index
 pub index_new : (count : ℕ) → IsIndexOf (replicate count []) (record { desks = count; entries = [] })

@@ -9,14 +9,14 @@ use Rattle.std.specs.List.Sorted.{IsNonDecreasingBy}
 use Rattle.event_floor.specs.Inboxes.{QueuedState, NumbersRise, IsUnlinked}
 
 -- so they don't fall
-pub rises_weakly : (ps : List QueuedState) → NumbersRise ps → IsNonDecreasingBy (λ (p : QueuedState). p.number) ps
+pub rises_weakly : (ps : List QueuedState) → NumbersRise ps → IsNonDecreasingBy (λ (p : QueuedState). p.batch.number) ps
 rises_weakly ps h i j d l m =
     ⊎_elim (λ (same : _ × (i ≡ j)). rw same.1 (omega arith))
     (λ (other : _ × (i ≢ j)). let e = other.1 in let r = h i j d (omega (arith, l, e)) m in omega (arith, r)) (eqb_tells i j)
 
 -- no batch has the number, where the first whose number isn't below it isn't such a batch
-pub none_unlinked : (ps : List QueuedState) (number i : ℕ) → NumbersRise ps → ((k : ℕ) (d : QueuedState) → k < i → (get_or ps k d).number < number)
-    → ((k : ℕ) (d : QueuedState) → i ≤ k → k < length ps → number ≤ (get_or ps k d).number) → ((d : QueuedState) → i < length ps → IsUnlinked number (get_or ps i d) → ⊥)
+pub none_unlinked : (ps : List QueuedState) (number i : ℕ) → NumbersRise ps → ((k : ℕ) (d : QueuedState) → k < i → (get_or ps k d).batch.number < number)
+    → ((k : ℕ) (d : QueuedState) → i ≤ k → k < length ps → number ≤ (get_or ps k d).batch.number) → ((d : QueuedState) → i < length ps → IsUnlinked number (get_or ps i d) → ⊥)
     → All (λ (p : QueuedState). IsUnlinked number p → ⊥) ps
 none_unlinked ps number i h below above other k d l unlinked =
     let is = unlinked.0 in
@@ -35,7 +35,7 @@ not_unlinked ps number i x answer asked denied read d l unlinked =
     absurd (cc)
 
 -- a batch with a greater number than all others goes behind them
-pub rises_sent : (ps : List QueuedState) (p : QueuedState) → NumbersRise ps → All (λ (q : QueuedState). q.number < p.number) ps → NumbersRise (ps ++ p ∷ [])
+pub rises_sent : (ps : List QueuedState) (p : QueuedState) → NumbersRise ps → All (λ (q : QueuedState). q.batch.number < p.batch.number) ps → NumbersRise (ps ++ p ∷ [])
 rises_sent ps p h below i j d l m =
     let long = length-append ps (p ∷ []) in
     ⊎_elim (λ (k : j < length ps).

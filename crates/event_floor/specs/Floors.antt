@@ -103,9 +103,9 @@ pub record IsDeskOf (digits : Scheme) (limit desks chunks a : ℕ) (s : AnyDesk)
 -- a batch in the inbox of b: it was numbered before, it is addressed to b, it has the floor's digits, and its buffers
 -- are known
 pub record IsQueuedAt (digits : Scheme) (desks chunks next b : ℕ) (p : QueuedState) : Type 0 where
-  pub numbered : p.number < next
-  pub address : p.address ≡ b
-  pub sender : p.sender < desks
+  pub numbered : p.batch.number < next
+  pub address : p.batch.address ≡ b
+  pub sender : p.batch.sender < desks
   pub digits_are : p.digits ≡ digits
   pub known : All (FitsFloor desks chunks) p.buffers
 

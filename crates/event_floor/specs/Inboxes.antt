@@ -1,5 +1,5 @@
 -- The batches that wait in the inboxes.
-use Rattle.std.specs.Prelude.{ℕ, ◌≡◌, ◌<◌, Bool, true, false, List, [], ◌∷◌, ◌++◌, length, slice_index_or, slice_set}
+use Rattle.std.specs.Prelude.{ℕ, ◌≡◌, ◌<◌, true, false, List, [], ◌∷◌, ◌++◌, length, slice_index_or, slice_set}
 use Rattle.std.specs.Prelude.{All, Any}
 use Rattle.std.specs.List.{flat_map, AllPairs}
 use Rattle.slot_chain.specs.Buffer.{Buffer}
@@ -8,39 +8,30 @@ use Rattle.slot_chain.specs.Counts.{capped}
 use Rattle.digit_route.specs.States.{BatchState}
 use Rattle.digit_route.specs.Route.{GivesBucket}
 use Rattle.pool_desk.specs.Desks.{DeskState}
+use Rattle.pool_machine.specs.State.{Waiting}
 
--- a batch that waits: its number on the floor, who sent it, whose inbox it is in, how numbers are read, whether it is
--- linked, its buffers
+-- a batch that waits: what the machine sees of it, how numbers are read, its buffers
 pub record QueuedState : Type 0 where
-  pub number : ℕ
-  pub sender : ℕ
-  pub address : ℕ
+  pub batch : Waiting
   pub digits : Scheme
-  pub linked : Bool
   pub buffers : List Buffer
 
 -- a batch as it was sent, and the same batch once it is linked
 abbrev pub sent_as : ℕ → BatchState → QueuedState
 sent_as number b = record {
-  number = number;
-  sender = b.sender;
-  address = b.address;
+  batch = record { number = number; sender = b.sender; address = b.address; linked = false };
   digits = b.digits;
-  linked = false;
   buffers = b.items;
 }
 
 abbrev pub as_linked : QueuedState → QueuedState
-as_linked p = record p { linked = true }
+as_linked p = record p { batch = record p.batch { linked = true } }
 
 -- a batch that no desk stands for
 abbrev pub no_batch : QueuedState
 no_batch = record {
-  number = 0;
-  sender = 0;
-  address = 0;
+  batch = record { number = 0; sender = 0; address = 0; linked = false };
   digits = record { width = 0; bits = 0 };
-  linked = false;
   buffers = [];
 }
 
@@ -54,11 +45,11 @@ buffers_in queued = flat_map (λ (p : QueuedState). p.buffers) queued
 
 -- it has this number, and still has to be linked
 abbrev pub IsUnlinked : ℕ → QueuedState → Type 0
-IsUnlinked number p = (p.number ≡ number) × (p.linked ≡ false)
+IsUnlinked number p = (p.batch.number ≡ number) × (p.batch.linked ≡ false)
 
 -- it was sent by this desk, and still has to be linked
 abbrev pub IsUnlinkedOf : ℕ → QueuedState → Type 0
-IsUnlinkedOf sender p = (p.sender ≡ sender) × (p.linked ≡ false)
+IsUnlinkedOf sender p = (p.batch.sender ≡ sender) × (p.batch.linked ≡ false)
 
 -- such a batch waits in some inbox, and in none
 abbrev pub SomeQueued : (QueuedState → Type 0) → List (List QueuedState) → Type 0
@@ -75,12 +66,12 @@ IsUnlinkedAt inboxes number inbox place =
 
 -- each batch has a greater number than those before it
 abbrev pub NumbersRise : List QueuedState → Type 0
-NumbersRise queued = AllPairs (λ (p q : QueuedState). p.number < q.number) queued
+NumbersRise queued = AllPairs (λ (p q : QueuedState). p.batch.number < q.batch.number) queued
 
 -- nothing can be taken: the inbox is empty, or its front still has to be linked
 abbrev pub HasNoFront : List QueuedState → Type 0
 HasNoFront [] = Unit {0}
-HasNoFront (p ∷ ps) = p.linked ≡ false
+HasNoFront (p ∷ ps) = p.batch.linked ≡ false
 
 -- the desk's bucket for t left its cache and waits behind all others, as a batch of this number with so many buffers
 pub record SendsInto (before : DeskState) (t number count : ℕ) (old : List QueuedState) (after : DeskState)
@@ -96,8 +87,8 @@ pub record SendsInto (before : DeskState) (t number count : ℕ) (old : List Que
 pub record LeavesFront (b : BatchState) (old new : List QueuedState) : Type 0 where
   pub front : QueuedState
   pub is_front : old ≡ front ∷ new
-  pub linked : front.linked ≡ true
-  pub address : b.address ≡ front.address
+  pub linked : front.batch.linked ≡ true
+  pub address : b.address ≡ front.batch.address
   pub digits : b.digits ≡ front.digits
   pub items : b.items ≡ front.buffers
 

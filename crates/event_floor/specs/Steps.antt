@@ -186,7 +186,7 @@ pub record TakesFront (old : FloorState) (b home on : ℕ) (new : FloorState) : 
   pub rest : List QueuedState
   pub held : IsHeld old b before
   pub is_front : inbox_at old.inboxes b ≡ front ∷ rest
-  pub linked : front.linked ≡ true
+  pub linked : front.batch.linked ≡ true
   pub handles : Handles before front.buffers after
   pub counted : CountsOf before.number front.buffers (record { home = home; on = on })
   pub same : new ≡ with_inbox (with_desk old b after) b rest

@@ -28,7 +28,7 @@ pub record AreCounted (counts : List ℕ) (entries : List (ℕ × Unlinked)) : T
 abbrev pub HasUnlinked : List QueuedState → ℕ → ℕ → Type 0
 HasUnlinked queued number sender =
     (place : ℕ) × (place < length queued) × IsUnlinked number (slice_index_or queued place no_batch)
-    × ((slice_index_or queued place no_batch).sender ≡ sender)
+    × ((slice_index_or queued place no_batch).batch.sender ≡ sender)
 
 abbrev pub WaitsUnlinked : List (List QueuedState) → ℕ → ℕ → ℕ → Type 0
 WaitsUnlinked inboxes number sender inbox =

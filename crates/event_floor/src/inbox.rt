@@ -48,9 +48,9 @@ impl<'r> Inbox<'r> {
 
     // The place of the first batch whose number isn't below this one.
     fn place_of(&self, number: u32) -> usize
-        ensures below { (k : ℕ) (d : QueuedState) → k < result → (slice_index_or self.now k d).number < number }
+        ensures below { (k : ℕ) (d : QueuedState) → k < result → (slice_index_or self.now k d).batch.number < number }
         ensures above { (k : ℕ) (d : QueuedState) → result ≤ k → k < length self.now
-            → number ≤ (slice_index_or self.now k d).number }
+            → number ≤ (slice_index_or self.now k d).batch.number }
         ensures rising { NumbersRise self.now }
     {
         self.batches
@@ -84,7 +84,7 @@ impl<'r> Inbox<'r> {
     /// number. Room for it is made first, so a refusal changes nothing.
     pub(crate) fn send(&mut self, desk: &mut Desk<'r>, t: u16, number: u32) -> Result<u64, NoMemory>
         requires routes { RouteFault desk.old.digits desk.old.number t desk.old.cached None }
-        requires later { All (λ (p : QueuedState). p.number < number) self.old }
+        requires later { All (λ (p : QueuedState). p.batch.number < number) self.old }
         ensures sends { IfOk result (λ count. SendsInto desk.old t number count self.old desk.new self.new) }
         ensures refused { OnErr result (self.new ≡ self.old) }
         ensures refused_desk { OnErr result (desk.new ≡ desk.old) }

@@ -58,7 +58,7 @@ impl<'r> Inboxes<'r> {
         requires sender { desk.old.number < length self.old }
         requires there { t < length self.old }
         requires later { (b : ℕ) → b < length self.old
-            → All (λ (p : QueuedState). p.number < number) (inbox_at self.old b) }
+            → All (λ (p : QueuedState). p.batch.number < number) (inbox_at self.old b) }
         ensures sends { IfOk result (λ count. SendsTo desk.old t number count self.old desk.new self.new) }
         ensures refused { OnErr result (self.new ≡ self.old) }
         ensures refused_desk { OnErr result (desk.new ≡ desk.old) }

@@ -23,11 +23,13 @@ impl<'r> Model for QueuedBatch<'r> {
     ghost Value = { QueuedState };
 
     ghost view = { λ w. record {
-      number = w.number;
-      sender = w.batch.sender;
-      address = w.batch.address;
+      batch = record {
+        number = w.number;
+        sender = w.batch.sender;
+        address = w.batch.address;
+        linked = w.linked;
+      };
       digits = w.batch.digits;
-      linked = w.linked;
       buffers = w.batch.items;
     } };
 }
@@ -46,14 +48,14 @@ impl<'r> QueuedBatch<'r> {
 
     /// Its number on the floor.
     pub(crate) fn number(&self) -> u32
-        ensures { result ≡ self.now.number }
+        ensures { result ≡ self.now.batch.number }
     {
         self.number
     }
 
     /// Whether it is linked.
     pub(crate) fn is_linked(&self) -> bool
-        ensures { result ≡ self.now.linked }
+        ensures { result ≡ self.now.batch.linked }
     {
         self.linked
     }
@@ -88,8 +90,8 @@ impl<'r> QueuedBatch<'r> {
 
     /// The batch alone.
     pub(crate) fn into_batch(self) -> Batch<'r>
-        ensures sender { result.sender ≡ self.entry.sender }
-        ensures address { result.address ≡ self.entry.address }
+        ensures sender { result.sender ≡ self.entry.batch.sender }
+        ensures address { result.address ≡ self.entry.batch.address }
         ensures digits { result.digits ≡ self.entry.digits }
         ensures items { result.items ≡ self.entry.buffers }
     {

@@ -3,7 +3,6 @@ use Rattle.std.proofs.Common.{◌≡◌, ◌≢◌, ℕ, ◌<◌, ◌≤◌, not
 use Rattle.std.proofs.lemmas.Bool.{leb-false, or_parts}
 use Rattle.std.proofs.lemmas.List.Elements.{All-head}
 use Rattle.std.proofs.lemmas.List.Sorted.{All-permutation, IsPermutation-sym, length_permutation}
-use Rattle.pool_machine.specs.declared.request.Request.{Request}
 use Rattle.pool_machine.specs.declared.request.Request.TheVariants.{Adopt, Retire, Free, Send}
 use Rattle.pool_machine.specs.declared.reply.Reply.{Reply}
 use Rattle.pool_machine.specs.declared.reply.Reply.TheVariants.{Done, Chunk, Slot as Lent, Home, Cached, Due, Batch, Counts}
@@ -11,7 +10,7 @@ use Rattle.region_cut.specs.Classes.{size_of}
 use Rattle.region_cut.specs.Slots.{same_slot}
 use Rattle.pool_machine.specs.State.{owner_of}
 use Rattle.pool_machine.specs.Refusals.{refusal, slot_named}
-use Rattle.pool_machine.specs.Steps.{Answer, Replies, with_holder, after_free, after_send}
+use Rattle.pool_machine.specs.Steps.{Replies, with_holder, after_free, after_send}
 use Rattle.pool_machine.specs.Listing.{Listing, DeskListing, Entry, desk_listing, Labelled}
 use Rattle.pool_machine.proofs.Located.{Located, LocatedStep}
 use Rattle.pool_machine.proofs.Basics.{none_holds}

@@ -1,9 +1,10 @@
 -- Batches by their numbers: each number stands once, in the inbox of its address.
 use Rattle.std.proofs.Common.{◌≡◌, ◌≢◌, ℕ, zero, suc, ◌<◌, true, ◌==◌, List, [], ◌∷◌, ◌++◌, map, length, get_or, flat_map, if◌then◌else◌, Bool, refl, sym, ap, ap₂, ◌∙◌, subst, arith, inl, inr}
 use Rattle.std.proofs.lemmas.Bool.{eqb-true, eq-eqb, ne_eqb}
-use Rattle.pool_machine.specs.State.{State, Waiting, inbox}
+use Rattle.pool_machine.specs.State.{State, Waiting}
 use Rattle.pool_machine.specs.Sound.{Member, Rising}
-use Rattle.pool_machine.specs.Listing.{Listing, BatchListing, as_waiting, slots_seen, ShowsFrame}
+use Rattle.pool_machine.specs.Listing.{Listing, BatchListing, slots_seen, ShowsFrame}
+use Rattle.pool_machine.proofs.Words.{as_waiting}
 use Rattle.pool_machine.proofs.Located.{inbox_listing, BatchOf, slots_in, if_numbered}
 use Rattle.pool_machine.proofs.Basics.{filter_member, Member-filter}
 use Rattle.pool_machine.proofs.Keeps.{Rising-filter}
@@ -34,11 +35,11 @@ member_row u (w ∷ ws) (inr m) = let h = member_row u ws m in (suc h.0, (let l 
 
 -- the numbers of an inbox rise, so a number stands at one place
 one_place : (ws : List BatchListing) → Rising (map as_waiting ws) → (i j : ℕ) (d : BatchListing) → i < length ws → j < length ws
-    → (get_or ws i d).number ≡ (get_or ws j d).number → i ≡ j
+    → (get_or ws i d).batch.number ≡ (get_or ws j d).batch.number → i ≡ j
 one_place [] r i j d l m e = absurd (omega arith)
 one_place (w ∷ ws) r zero zero d l m e = refl
-one_place (w ∷ ws) r zero (suc j) d l m e = absurd (let k : w.number < (get_or ws j d).number = r.0 _ (row_member ws j d (omega arith)) in let z : w.number ≡ (get_or ws j d).number = e in omega arith)
-one_place (w ∷ ws) r (suc i) zero d l m e = absurd (let k : w.number < (get_or ws i d).number = r.0 _ (row_member ws i d (omega arith)) in let z : (get_or ws i d).number ≡ w.number = e in omega arith)
+one_place (w ∷ ws) r zero (suc j) d l m e = absurd (let k : w.batch.number < (get_or ws j d).batch.number = r.0 _ (row_member ws j d (omega arith)) in let z : w.batch.number ≡ (get_or ws j d).batch.number = e in omega arith)
+one_place (w ∷ ws) r (suc i) zero d l m e = absurd (let k : w.batch.number < (get_or ws i d).batch.number = r.0 _ (row_member ws i d (omega arith)) in let z : (get_or ws i d).batch.number ≡ w.batch.number = e in omega arith)
 one_place (w ∷ ws) r (suc i) (suc j) d l m e = ap suc (one_place ws r.1 i j d (omega arith) (omega arith) e)
 
 -- of all lists only one has something
@@ -62,7 +63,7 @@ flat_only f (x ∷ xs) (suc j) d l e =
 module _ (v : Listing) (st : State) (f : ShowsFrame v st) (r : Rising st.waiting) where
   -- a batch of an inbox waits for its desk, and the other way round
   pub waits_there : (b j : ℕ) (d : BatchListing) → j < length (inbox_listing v b) →
-      Member (as_waiting (get_or (inbox_listing v b) j d)) st.waiting × ((b == (get_or (inbox_listing v b) j d).address) ≡ true)
+      Member (as_waiting (get_or (inbox_listing v b) j d)) st.waiting × ((b == (get_or (inbox_listing v b) j d).batch.address) ≡ true)
   waits_there b j d l = filter_member (λ w. b == w.address) (as_waiting (get_or (inbox_listing v b) j d)) st.waiting
       (subst (λ ws. Member (as_waiting (get_or (inbox_listing v b) j d)) ws) (f.inboxes b) (row_member (inbox_listing v b) j d l))
 
@@ -75,7 +76,7 @@ module _ (v : Listing) (st : State) (f : ShowsFrame v st) (r : Rising st.waiting
 
   -- a number stands in one inbox
   one_inbox : (a b i j : ℕ) (d e : BatchListing) → i < length (inbox_listing v a) → j < length (inbox_listing v b)
-      → (get_or (inbox_listing v a) i d).number ≡ (get_or (inbox_listing v b) j e).number → a ≡ b
+      → (get_or (inbox_listing v a) i d).batch.number ≡ (get_or (inbox_listing v b) j e).batch.number → a ≡ b
   one_inbox a b i j d e l m q =
       let x = waits_there a i d l in
       let y = waits_there b j e m in
@@ -86,16 +87,16 @@ module _ (v : Listing) (st : State) (f : ShowsFrame v st) (r : Rising st.waiting
     abbrev w : BatchListing
     w = get_or (inbox_listing v b) j d
 
-    row_only : flat_map (if_numbered w.number) (inbox_listing v b) ≡ slots_seen w.buffers
-    row_only = flat_only (if_numbered w.number) (inbox_listing v b) j d m
+    row_only : flat_map (if_numbered w.batch.number) (inbox_listing v b) ≡ slots_seen w.buffers
+    row_only = flat_only (if_numbered w.batch.number) (inbox_listing v b) j d m
         (λ i k n. ap (λ (t : Bool). if t then slots_seen (get_or (inbox_listing v b) i d).buffers else [])
-        (ne_eqb w.number (get_or (inbox_listing v b) i d).number (λ q. n (sym (one_place (inbox_listing v b) (row_rises b) j i d m k q)))))
-        ∙ ap (λ (t : Bool). if t then slots_seen w.buffers else []) (eq-eqb w.number w.number refl)
+        (ne_eqb w.batch.number (get_or (inbox_listing v b) i d).batch.number (λ q. n (sym (one_place (inbox_listing v b) (row_rises b) j i d m k q)))))
+        ∙ ap (λ (t : Bool). if t then slots_seen w.buffers else []) (eq-eqb w.batch.number w.batch.number refl)
 
     -- the batch is all that has its number
-    pub batch_only : slots_in v (BatchOf w.number) ≡ slots_seen w.buffers
-    batch_only = flat_only (λ ws. flat_map (if_numbered w.number) ws) v.inboxes b [] l
-        (λ a k n. flat_none (if_numbered w.number) (get_or v.inboxes a []) d
+    pub batch_only : slots_in v (BatchOf w.batch.number) ≡ slots_seen w.buffers
+    batch_only = flat_only (λ ws. flat_map (if_numbered w.batch.number) ws) v.inboxes b [] l
+        (λ a k n. flat_none (if_numbered w.batch.number) (get_or v.inboxes a []) d
         (λ i k'. ap (λ (t : Bool). if t then slots_seen (get_or (inbox_listing v a) i d).buffers else [])
-        (ne_eqb w.number (get_or (inbox_listing v a) i d).number (λ q. n (sym (one_inbox b a j i d d m k' q))))))
+        (ne_eqb w.batch.number (get_or (inbox_listing v a) i d).batch.number (λ q. n (sym (one_inbox b a j i d d m k' q))))))
         ∙ row_only

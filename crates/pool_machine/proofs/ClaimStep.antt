@@ -222,11 +222,11 @@ module _ (v : Listing) (st : State) (count : Slot → ℕ) (a c k : ℕ) (d : De
     cached = λ b. subst (λ xs. All (Counted new count) xs) (sym (desk_keeps (λ p. p.cache) v a d l f.cache b))
         (All-both (λ (e : Entry). list_of st e.slot ≡ Some (CacheOf b)) (Counted st count) (Counted new count) (desk_listing v b).cache
         (relabel (CacheOf b)) (cache_place v st count h b) (h.cached b));
-    queued = λ b. All-both (λ (w : BatchListing). All (λ (e : Entry). list_of st e.slot ≡ Some (BatchOf w.number)) w.buffers)
+    queued = λ b. All-both (λ (w : BatchListing). All (λ (e : Entry). list_of st e.slot ≡ Some (BatchOf w.batch.number)) w.buffers)
         (λ (w : BatchListing). All (Counted st count) w.buffers)
         (λ (w : BatchListing). All (Counted new count) w.buffers) (inbox_listing v b)
-        (λ w p q. All-both (λ (e : Entry). list_of st e.slot ≡ Some (BatchOf w.number)) (Counted st count) (Counted new count) w.buffers
-        (relabel (BatchOf w.number)) p q)
+        (λ w p q. All-both (λ (e : Entry). list_of st e.slot ≡ Some (BatchOf w.batch.number)) (Counted st count) (Counted new count) w.buffers
+        (relabel (BatchOf w.batch.number)) p q)
         (queued_place v st count h b) (h.queued b);
   }
 

@@ -32,12 +32,12 @@ seen_counts xs k d l =
     (same_slot_self s) m in
     subst (λ z. 0 < z) (sym e) n
 
-pub batch_counts : (s : Slot) (n : ℕ) (ws : List BatchListing) (j : ℕ) (d : BatchListing) → j < length ws → (get_or ws j d).number ≡ n →
+pub batch_counts : (s : Slot) (n : ℕ) (ws : List BatchListing) (j : ℕ) (d : BatchListing) → j < length ws → (get_or ws j d).batch.number ≡ n →
     times s (slots_seen (get_or ws j d).buffers) ≤ times s (flat_map (if_numbered n) ws)
 batch_counts s n [] j d l e = absurd (omega arith)
 batch_counts s n (w ∷ ws) zero d l e =
     let f : times s (if_numbered n w) ≡ times s (slots_seen w.buffers) =
-    ap (λ (b : Bool). times s (if b then slots_seen w.buffers else [])) (eq-eqb n w.number (sym e)) in
+    ap (λ (b : Bool). times s (if b then slots_seen w.buffers else [])) (eq-eqb n w.batch.number (sym e)) in
     let g = count_append (same_slot s) (if_numbered n w) (flat_map (if_numbered n) ws) in
     omega (arith, f, g)
 batch_counts s n (w ∷ ws) (suc j) d l e =
@@ -104,11 +104,11 @@ queued_stay : (v : Listing) (st : State) (count : Slot → ℕ) (r : Slot) (q : 
 queued_stay v st count r q b h e = λ j d l. λ k c m.
     let w = get_or (inbox_listing v b) j d in
     let f = get_or w.buffers k c in
-    let p = batch_counts f.slot w.number (inbox_listing v b) j d l refl in
-    let g = inbox_counts f.slot w.number v.inboxes b in
+    let p = batch_counts f.slot w.batch.number (inbox_listing v b) j d l refl in
+    let g = inbox_counts f.slot w.batch.number v.inboxes b in
     label_stays st count r q f
-    (apart_slots st r f.slot (BatchOf w.number) e
-    (named_there v st count h (BatchOf w.number) f.slot (lt_of_lt_of_le (seen_counts w.buffers k c m) (le_trans p g))) refl)
+    (apart_slots st r f.slot (BatchOf w.batch.number) e
+    (named_there v st count h (BatchOf w.batch.number) f.slot (lt_of_lt_of_le (seen_counts w.buffers k c m) (le_trans p g))) refl)
     (h.queued b j d l k c m)
 
 -- ---- a free

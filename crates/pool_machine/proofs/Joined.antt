@@ -35,21 +35,21 @@ module _ (s : Slot) (f : DeskListing → List Slot) where
 
 -- the batches, where the slot is in none but those of one number
 module _ (s : Slot) (n : ℕ) where
-  one_inbox : (ws : List BatchListing) → ((j : ℕ) (d : BatchListing) → j < length ws → (n == (get_or ws j d).number) ≡ false →
+  one_inbox : (ws : List BatchListing) → ((j : ℕ) (d : BatchListing) → j < length ws → (n == (get_or ws j d).batch.number) ≡ false →
       times s (slots_seen (get_or ws j d).buffers) ≡ 0) →
       times s (flat_map (λ (w : BatchListing). slots_seen w.buffers) ws) ≡ times s (flat_map (if_numbered n) ws)
   one_inbox [] h = refl
   one_inbox (w ∷ ws) h =
       count_append (same_slot s) (slots_seen w.buffers) (flat_map (λ (w : BatchListing). slots_seen w.buffers) ws)
-      ∙ (ap₂ ◌+◌ (here (n == w.number) refl) (one_inbox ws (λ j d l e. h (suc j) d (omega arith) e))
+      ∙ (ap₂ ◌+◌ (here (n == w.batch.number) refl) (one_inbox ws (λ j d l e. h (suc j) d (omega arith) e))
       ∙ sym (count_append (same_slot s) (if_numbered n w) (flat_map (if_numbered n) ws)))
     where
-      here : (b : Bool) → (n == w.number) ≡ b → times s (slots_seen w.buffers) ≡ times s (if n == w.number then slots_seen w.buffers else [])
+      here : (b : Bool) → (n == w.batch.number) ≡ b → times s (slots_seen w.buffers) ≡ times s (if n == w.batch.number then slots_seen w.buffers else [])
       here true e = ap (λ (b : Bool). times s (if b then slots_seen w.buffers else [])) (sym e)
       here false e = h zero w (omega arith) e ∙ ap (λ (b : Bool). times s (if b then slots_seen w.buffers else [])) (sym e)
 
   all_inboxes : (is : List (List BatchListing)) →
-      ((b j : ℕ) (d : BatchListing) → j < length (get_or is b []) → (n == (get_or (get_or is b []) j d).number) ≡ false →
+      ((b j : ℕ) (d : BatchListing) → j < length (get_or is b []) → (n == (get_or (get_or is b []) j d).batch.number) ≡ false →
       times s (slots_seen (get_or (get_or is b []) j d).buffers) ≡ 0) →
       times s (flat_map (λ ws. flat_map (λ (w : BatchListing). slots_seen w.buffers) ws) is) ≡ times s
       (flat_map (λ ws. flat_map (if_numbered n) ws) is)
@@ -94,14 +94,14 @@ module _ (v : Listing) (st : State) (count : Slot → ℕ) (h : Located v st cou
   unfolding batches
   batches_of n o e f = all_inboxes s n v.inboxes (λ b j d l q. none b j d l q) ∙ at_list (BatchOf n) o e
     where
-      none : (b j : ℕ) (d : BatchListing) → j < length (get_or v.inboxes b []) → (n == (get_or (get_or v.inboxes b []) j d).number) ≡ false →
+      none : (b j : ℕ) (d : BatchListing) → j < length (get_or v.inboxes b []) → (n == (get_or (get_or v.inboxes b []) j d).batch.number) ≡ false →
           times s (slots_seen (get_or (get_or v.inboxes b []) j d).buffers) ≡ 0
       none b j d l q =
           let w = get_or (get_or v.inboxes b []) j d in
-          let p = batch_counts s w.number (get_or v.inboxes b []) j d l refl in
-          let g = inbox_counts s w.number v.inboxes b in
-          let z : times s (slots_in v (BatchOf w.number)) ≡ 0 = at_list (BatchOf w.number) o e ∙ ap one_if (f w.number q) in
-          let t : times s (slots_seen w.buffers) ≤ times s (slots_in v (BatchOf w.number)) = le_trans p g in
+          let p = batch_counts s w.batch.number (get_or v.inboxes b []) j d l refl in
+          let g = inbox_counts s w.batch.number v.inboxes b in
+          let z : times s (slots_in v (BatchOf w.batch.number)) ≡ 0 = at_list (BatchOf w.batch.number) o e ∙ ap one_if (f w.batch.number q) in
+          let t : times s (slots_seen w.buffers) ≤ times s (slots_in v (BatchOf w.batch.number)) = le_trans p g in
           omega arith
 
   in_desks : (o : ℕ) → o < st.desks → o < length v.desks

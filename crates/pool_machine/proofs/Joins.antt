@@ -1,9 +1,7 @@
 -- Steps join to runs, and runs are the headline.
-use Rattle.std.proofs.Common.{List, [], ◌∷◌, ◌++◌, ℕ, refl, sym, subst}
-use Rattle.region_cut.specs.declared.slot.Slot.{Slot}
+use Rattle.std.proofs.Common.{List, [], ◌∷◌, ◌++◌, refl, sym, subst}
 use Rattle.pool_machine.specs.declared.request.Request.{Request}
-use Rattle.pool_machine.specs.State.{State}
-use Rattle.pool_machine.specs.Steps.{Answer, Answers, Run, after}
+use Rattle.pool_machine.specs.Steps.{Answer, after}
 use Rattle.pool_machine.specs.Forwards.{counted, forwards}
 use Rattle.pool_machine.specs.Listing.{Listing, Shown}
 use Rattle.pool_machine.specs.Headline.{Applies, AppliesAll, ShowsSome, Headline}

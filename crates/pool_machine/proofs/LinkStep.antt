@@ -8,13 +8,13 @@ use Rattle.pool_machine.specs.declared.reply.Reply.TheVariants.{Done}
 use Rattle.region_cut.specs.Slots.{times}
 use Rattle.pool_machine.specs.State.{State, Waiting, inbox}
 use Rattle.pool_machine.specs.Sound.{Member, Rising}
-use Rattle.pool_machine.specs.Listing.{Listing, BatchListing, as_waiting, Counted}
+use Rattle.pool_machine.specs.Listing.{Listing, BatchListing, Counted}
 use Rattle.pool_machine.proofs.Located.{inbox_listing, ListName, HomeOf, Loans, CacheOf, BatchOf, slots_in, if_numbered, Located, LocatedStep}
 use Rattle.pool_machine.proofs.Basics.{filter_member, link_keeps}
 use Rattle.pool_machine.proofs.Batches.{same_number, row_member, waits_there, row_rises}
 use Rattle.pool_machine.proofs.Keeps.{link_sound}
 use Rattle.pool_machine.proofs.Refusals.{refusal_seen, refusal_agrees}
-use Rattle.pool_machine.proofs.Words.{link_one}
+use Rattle.pool_machine.proofs.Words.{as_waiting, link_one}
 
 -- ---- links
 
@@ -26,16 +26,16 @@ links_none n [] f = refl
 links_none n (x ∷ xs) f = ap₂ ◌∷◌ (link_same n x (f x (inl refl))) (links_none n xs (λ u m. f u (inr m)))
 
 abbrev pub linked : BatchListing → BatchListing
-linked w = record w { linked = true }
+linked w = record w { batch = record w.batch { linked = true } }
 
-link_row : (ws : List BatchListing) (j n : ℕ) (d : BatchListing) → Rising (map as_waiting ws) → j < length ws → (get_or ws j d).number ≡ n →
+link_row : (ws : List BatchListing) (j n : ℕ) (d : BatchListing) → Rising (map as_waiting ws) → j < length ws → (get_or ws j d).batch.number ≡ n →
     map as_waiting (set ws j (linked (get_or ws j d))) ≡ map (link_one n) (map as_waiting ws)
 link_row [] j n d r l e = absurd (omega arith)
 link_row (w ∷ ws) zero n d r l e = ap₂ ◌∷◌
-    (sym (ap (λ (b : Bool). if b then record (as_waiting w) { linked = true } else as_waiting w) (eq-eqb n w.number (sym e))))
-    (sym (links_none n (map as_waiting ws) (λ u m. ne_eqb n u.number (λ q. absurd (let k : w.number < u.number = r.0 u m in omega arith)))))
+    (sym (ap (λ (b : Bool). if b then record (as_waiting w) { linked = true } else as_waiting w) (eq-eqb n w.batch.number (sym e))))
+    (sym (links_none n (map as_waiting ws) (λ u m. ne_eqb n u.number (λ q. absurd (let k : w.batch.number < u.number = r.0 u m in omega arith)))))
 link_row (w ∷ ws) (suc j) n d r l e = ap₂ ◌∷◌
-    (sym (link_same n (as_waiting w) (ne_eqb n w.number (λ q. absurd (let k : w.number < (get_or ws j d).number =
+    (sym (link_same n (as_waiting w) (ne_eqb n w.batch.number (λ q. absurd (let k : w.batch.number < (get_or ws j d).batch.number =
     r.0 _ (row_member ws j d (omega arith)) in omega arith)))))
     (link_row ws j n d r.1 (omega arith) e)
 
@@ -59,7 +59,7 @@ abbrev pub after_link : Listing → ℕ → ℕ → BatchListing → Listing
 after_link v b j w = record v { inboxes = set v.inboxes b (set (inbox_listing v b) j (linked w)) }
 
 module _ (v : Listing) (st : State) (count : Slot → ℕ) (n b j : ℕ) (d : BatchListing)
-    (h : Located v st count) (l : b < length v.inboxes) (m : j < length (inbox_listing v b)) (e : (get_or (inbox_listing v b) j d).number ≡ n) where
+    (h : Located v st count) (l : b < length v.inboxes) (m : j < length (inbox_listing v b)) (e : (get_or (inbox_listing v b) j d).batch.number ≡ n) where
   w : BatchListing
   w = get_or (inbox_listing v b) j d
 
@@ -128,7 +128,7 @@ module _ (v : Listing) (st : State) (count : Slot → ℕ) (n b j : ℕ) (d : Ba
 -- an accepted link
 pub link_applies : (v : Listing) (n b j : ℕ) (d : BatchListing) → refusal_seen v (Link n) ≡ None → b < length v.inboxes →
     j < length (inbox_listing v b) →
-    (get_or (inbox_listing v b) j d).number ≡ n → LocatedStep v (Link n) (Ok Done) (after_link v b j (get_or (inbox_listing v b) j d))
+    (get_or (inbox_listing v b) j d).batch.number ≡ n → LocatedStep v (Link n) (Ok Done) (after_link v b j (get_or (inbox_listing v b) j d))
 link_applies v n b j d z l m e st count h = (
   record st { waiting = map (link_one n) st.waiting },
   (

@@ -47,7 +47,7 @@ is_list l (Some m) = same_list l m
 
 -- the slots of a batch, where it has the number n
 abbrev pub if_numbered : ℕ → BatchListing → List Slot
-if_numbered n w = if n == w.number then slots_seen w.buffers else []
+if_numbered n w = if n == w.batch.number then slots_seen w.buffers else []
 
 -- the slots of the list of this name
 abbrev pub slots_in : Listing → ListName → List Slot

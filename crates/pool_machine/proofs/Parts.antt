@@ -8,7 +8,7 @@ use Rattle.region_cut.specs.Slots.{same_slot, times}
 use Rattle.pool_machine.specs.Slots.{one_if}
 use Rattle.pool_machine.specs.State.{State, Place, owner_of, slots, in_bucket, bucket, opening, is_slot, class_of, cached_bytes}
 use Rattle.pool_machine.specs.Sound.{Sound}
-use Rattle.pool_machine.specs.Listing.{slots_seen, Listing, DeskListing, Entry, BatchListing, desk_listing, empty_desk, as_waiting, Labelled, Counted}
+use Rattle.pool_machine.specs.Listing.{slots_seen, Listing, DeskListing, Entry, BatchListing, desk_listing, empty_desk, Labelled, Counted}
 use Rattle.pool_machine.proofs.Located.{ListName, HomeOf, Loans, CacheOf, BatchOf, list_at, list_of, is_list, slots_in, if_numbered, Located}
 use Rattle.pool_machine.proofs.Basics.{same_slot_eq}
 use Rattle.pool_machine.proofs.Enumerate.{count_cons}
@@ -21,7 +21,7 @@ use Rattle.std.proofs.lemmas.List.{length-replicate}
 use Rattle.digit_route.specs.Digits.{Scheme, IsScheme}
 use Rattle.region_cut.specs.Classes.{size_of}
 use Rattle.pool_machine.proofs.InPlace.{bytes_listed}
-use Rattle.pool_machine.proofs.Words.{near}
+use Rattle.pool_machine.proofs.Words.{as_waiting, near}
 
 module _ (st : State) (p : ℕ → Bool) where
   -- a test of the owner is a test of the slot

@@ -17,14 +17,14 @@ module _ (v : Listing) (st : State) (count : Slot → ℕ) (h : Located v st cou
   cache_place b = λ k d l. named_there v st count h (CacheOf b) (get_or (desk_listing v b).cache k d).slot
       (seen_counts (desk_listing v b).cache k d l)
 
-  pub queued_place : (b : ℕ) → All (λ (w : BatchListing). All (λ (e : Entry). list_of st e.slot ≡ Some (BatchOf w.number)) w.buffers)
+  pub queued_place : (b : ℕ) → All (λ (w : BatchListing). All (λ (e : Entry). list_of st e.slot ≡ Some (BatchOf w.batch.number)) w.buffers)
       (inbox_listing v b)
   queued_place b = λ j d l k c m.
       let w = get_or (inbox_listing v b) j d in
       let f = get_or w.buffers k c in
-      named_there v st count h (BatchOf w.number) f.slot
-      (lt_of_lt_of_le (seen_counts w.buffers k c m) (le_trans (batch_counts f.slot w.number (inbox_listing v b) j d l refl)
-      (inbox_counts f.slot w.number v.inboxes b)))
+      named_there v st count h (BatchOf w.batch.number) f.slot
+      (lt_of_lt_of_le (seen_counts w.buffers k c m) (le_trans (batch_counts f.slot w.batch.number (inbox_listing v b) j d l refl)
+      (inbox_counts f.slot w.batch.number v.inboxes b)))
 
 -- two facts of each element
 pub All-both : {A : Type 0} (P Q R : A → Type 0) (xs : List A) → ((x : A) → P x → Q x → R x) → All P xs → All Q xs → All R xs

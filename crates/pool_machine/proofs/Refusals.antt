@@ -13,9 +13,9 @@ use Rattle.region_cut.specs.Classes.{classes_of, largest_of}
 use Rattle.region_cut.specs.Slots.{same_slot, times}
 use Rattle.pool_machine.specs.Slots.{one_if}
 use Rattle.pool_machine.specs.State.{profile_at, least_class, State, Waiting, owner_of, class_of, slots, home_with, has_home, in_bucket, inbox, OnLoan, InCache, same_place, is_at}
-use Rattle.pool_machine.specs.Refusals.{first, conditions, refusal, lacks_desk, is_idle, slot_named, may_grow}
+use Rattle.pool_machine.specs.Refusals.{first, conditions, refusal, lacks_desk, slot_named, may_grow}
 use Rattle.pool_machine.specs.Sound.{Member}
-use Rattle.pool_machine.specs.Listing.{Listing, Entry, BatchListing, slots_seen, desk_listing, as_waiting}
+use Rattle.pool_machine.specs.Listing.{Listing, Entry, BatchListing, slots_seen, desk_listing}
 use Rattle.pool_machine.proofs.Located.{inbox_listing, HomeOf, Loans, CacheOf, list_of, is_list, Located, LocatedStep}
 use Rattle.digit_route.specs.Digits.{Scheme, common}
 use Rattle.digit_route.specs.Profiles.{profile_of}
@@ -23,7 +23,7 @@ use Rattle.pool_machine.proofs.Basics.{Member-filter}
 use Rattle.pool_machine.proofs.Enumerate.{count_cons}
 use Rattle.pool_machine.proofs.InPlace.{in_cache_is}
 use Rattle.pool_machine.proofs.PartBy.{part_any, home_with_is, lent_named, bools_agree, any_same}
-use Rattle.pool_machine.proofs.Words.{is_unlinked, near, front_ready}
+use Rattle.pool_machine.proofs.Words.{as_waiting, is_unlinked, near, front_ready}
 
 -- whether the bucket for t takes an owner's buffers
 abbrev pub goes_by : Scheme → ℕ → ℕ → ℕ → Bool
@@ -199,7 +199,7 @@ module _ (v : Listing) (st : State) (count : Slot → ℕ) (h : Located v st cou
   no_desk_is : (a : ℕ) → lacks_desk st a ≡ nat_le (length v.desks) a
   no_desk_is a = ap (λ n. nat_le n a) (sym h.frame.desks)
 
-  idle_is : (a : ℕ) → is_idle st a ≡ is_none (desk_listing v a).worker
+  idle_is : (a : ℕ) → is_none (st.holder a) ≡ is_none (desk_listing v a).worker
   idle_is a = ap is_none (sym (h.frame.holder a))
 
   pub home_any : (a c : ℕ) → has_home st a c ≡ list_any (λ (e : Entry). e.class == c) (desk_listing v a).home

@@ -10,7 +10,7 @@ use Rattle.region_cut.specs.Slots.{same_slot, times}
 use Rattle.pool_machine.specs.State.{State, Waiting, owner_of, inbox}
 use Rattle.pool_machine.specs.Refusals.{refusal}
 use Rattle.pool_machine.specs.Steps.{after_send}
-use Rattle.pool_machine.specs.Listing.{slots_seen, Listing, DeskListing, Entry, BatchListing, desk_listing, as_waiting, Labelled, Counted}
+use Rattle.pool_machine.specs.Listing.{slots_seen, Listing, DeskListing, Entry, BatchListing, desk_listing, Labelled, Counted}
 use Rattle.pool_machine.proofs.Located.{inbox_listing, ListName, HomeOf, Loans, CacheOf, BatchOf, same_list, slots_in, if_numbered, Located}
 use Rattle.pool_machine.proofs.Enumerate.{count_append}
 use Rattle.pool_machine.proofs.Moves.{SomeMove}
@@ -18,7 +18,7 @@ use Rattle.pool_machine.proofs.InPlace.{sent_in_place}
 use Rattle.pool_machine.proofs.Parts.{part_times}
 use Rattle.pool_machine.proofs.FloorSteps.{with_desk, desk_here, desk_other, desk_keeps}
 use Rattle.pool_machine.proofs.Keeps.{send_step}
-use Rattle.pool_machine.proofs.Words.{near}
+use Rattle.pool_machine.proofs.Words.{as_waiting, near}
 
 -- whether the bucket for t takes the buffers of an owner
 abbrev pub nearer_owner : State → ℕ → ℕ → ℕ → Bool
@@ -32,7 +32,7 @@ pub record SendEdits (v : Listing) (st : State) (a t : ℕ) (bs : List Entry) (d
   pub left : IsPermutation (filter (λ (e : Entry). not (nearer_owner st a t e.owner)) (desk_listing v a).cache) d.cache
 
 abbrev pub new_batch : Listing → ℕ → ℕ → List Entry → BatchListing
-new_batch v a t bs = record { number = v.next; sender = a; address = t; linked = false; buffers = bs }
+new_batch v a t bs = record { batch = record { number = v.next; sender = a; address = t; linked = false }; buffers = bs }
 
 abbrev pub after_sending : Listing → ℕ → ℕ → List Entry → DeskListing → Listing
 after_sending v a t bs d = record (with_desk v a d) { inboxes = set v.inboxes t (inbox_listing v t ++ new_batch v a t bs ∷ []); next = suc v.next }

@@ -1,5 +1,5 @@
 -- Lists that show a state, from lists that have each slot in its place, and back.
-use Rattle.std.proofs.Common.{◌≡◌, ℕ, zero, suc, ◌+◌, ◌^◌, ◌<◌, ◌≤◌, Bool, true, false, ◌==◌, List, [], ◌∷◌, filter, length, get_or, flat_map, All, Option, Some, None, option_map, if◌then◌else◌, IsPermutation, refl, sym, ap, ap₂, ◌∙◌, subst, arith, ⊎_elim}
+use Rattle.std.proofs.Common.{◌≡◌, ℕ, zero, suc, ◌+◌, ◌^◌, ◌<◌, ◌≤◌, Bool, true, false, ◌==◌, List, [], ◌∷◌, filter, length, get_or, flat_map, Option, Some, None, option_map, if◌then◌else◌, IsPermutation, refl, sym, ap, ap₂, ◌∙◌, subst, arith, ⊎_elim}
 use Rattle.std.proofs.Math.ListN.{get_or-eq_default}
 use Rattle.std.proofs.lemmas.Bool.{cases_lt, false≢true, eqb-true}
 use Rattle.region_cut.specs.declared.slot.Slot.{Slot}
@@ -61,13 +61,13 @@ shown v st c r h = record {
 }
   where
     batch_listed : (b j : ℕ) (d : BatchListing) → j < length (inbox_listing v b)
-        → IsPermutation (slots_seen (get_or (inbox_listing v b) j d).buffers) (slots_at st (InBatch (get_or (inbox_listing v b) j d).number))
+        → IsPermutation (slots_seen (get_or (inbox_listing v b) j d).buffers) (slots_at st (InBatch (get_or (inbox_listing v b) j d).batch.number))
     batch_listed b j d m = ⊎_elim
         (λ (l : b < length v.inboxes).
         let w = get_or (inbox_listing v b) j d in
-        named_slots v st c (BatchOf w.number) (λ s. same_place (InBatch w.number) (st.place s)) (slots_seen w.buffers) h
-        (λ s. ap (times s) (sym (batch_only v st h.frame h.sound.rising b j d l m)) ∙ h.in_place (BatchOf w.number) s)
-        (λ s. queued_is w.number (owner_of st s) (st.place s)))
+        named_slots v st c (BatchOf w.batch.number) (λ s. same_place (InBatch w.batch.number) (st.place s)) (slots_seen w.buffers) h
+        (λ s. ap (times s) (sym (batch_only v st h.frame h.sound.rising b j d l m)) ∙ h.in_place (BatchOf w.batch.number) s)
+        (λ s. queued_is w.batch.number (owner_of st s) (st.place s)))
         (λ (l : length v.inboxes ≤ b).
         let none : length (inbox_listing v b) ≡ 0 = ap length (get_or-eq_default v.inboxes [] l) in
         absurd (omega (arith, none, m))) (cases_lt b (length v.inboxes))
@@ -75,7 +75,7 @@ shown v st c r h = record {
 -- ---- from lists to places
 
 no_batch : BatchListing
-no_batch = record { number = 0; sender = 0; address = 0; linked = false; buffers = [] }
+no_batch = record { batch = record { number = 0; sender = 0; address = 0; linked = false }; buffers = [] }
 
 row_zero : (s : Slot) (n : ℕ) (ws : List BatchListing) → ((j : ℕ) (d : BatchListing) → j < length ws → times s (if_numbered n (get_or ws j d)) ≡ 0)
     → times s (flat_map (if_numbered n) ws) ≡ 0
@@ -103,10 +103,10 @@ module _ (v : Listing) (st : State) (c : Slot → ℕ) (h : Shown v st c) where
       times_permuted s xs (filter q (slots st)) p ∙ (filtered_once st c q sound (within st c l q sound same) s ∙ ap one_if (same s))
 
   batch_once : (b j : ℕ) (d : BatchListing) → j < length (inbox_listing v b) → (s : Slot)
-      → times s (slots_seen (get_or (inbox_listing v b) j d).buffers) ≡ one_if (is_list (BatchOf (get_or (inbox_listing v b) j d).number) (list_of st s))
+      → times s (slots_seen (get_or (inbox_listing v b) j d).buffers) ≡ one_if (is_list (BatchOf (get_or (inbox_listing v b) j d).batch.number) (list_of st s))
   batch_once b j d l s =
       let w = get_or (inbox_listing v b) j d in
-      once_in (BatchOf w.number) (λ r. same_place (InBatch w.number) (st.place r)) (slots_seen w.buffers) (λ r. queued_is w.number (owner_of st r) (st.place r))
+      once_in (BatchOf w.batch.number) (λ r. same_place (InBatch w.batch.number) (st.place r)) (slots_seen w.buffers) (λ r. queued_is w.batch.number (owner_of st r) (st.place r))
       (h.batches b j d l).0 s
 
   -- all batches of a number have the slots that are in it
@@ -122,7 +122,7 @@ module _ (v : Listing) (st : State) (c : Slot → ℕ) (h : Shown v st c) where
       waits (Some (InCache a)) f e = absurd (false≢true e)
       waits (Some (InBatch m)) f e = let w = f.1.1 in (w.0, w.1, w.2 ∙ sym (eqb-true n m e))
 
-      there : (b j : ℕ) → j < length (inbox_listing v b) → (get_or (inbox_listing v b) j no_batch).number ≡ n
+      there : (b j : ℕ) → j < length (inbox_listing v b) → (get_or (inbox_listing v b) j no_batch).batch.number ≡ n
           → times s (slots_in v (BatchOf n)) ≡ one_if (is_list (BatchOf n) (list_of st s))
       there b j l e = ⊎_elim
           (λ (k : b < length v.inboxes). subst (λ m. times s (slots_in v (BatchOf m)) ≡ one_if (is_list (BatchOf m) (list_of st s))) e
@@ -133,13 +133,13 @@ module _ (v : Listing) (st : State) (c : Slot → ℕ) (h : Shown v st c) where
       -- no slot in it: no batch of the number has the slot
       none : is_list (BatchOf n) (list_of st s) ≡ false → (b j : ℕ) (d : BatchListing) → j < length (inbox_listing v b)
           → times s (if_numbered n (get_or (inbox_listing v b) j d)) ≡ 0
-      none e b j d l = at (n == (get_or (inbox_listing v b) j d).number) refl
+      none e b j d l = at (n == (get_or (inbox_listing v b) j d).batch.number) refl
         where
-          at : (t : Bool) → (n == (get_or (inbox_listing v b) j d).number) ≡ t → times s (if_numbered n (get_or (inbox_listing v b) j d)) ≡ 0
+          at : (t : Bool) → (n == (get_or (inbox_listing v b) j d).batch.number) ≡ t → times s (if_numbered n (get_or (inbox_listing v b) j d)) ≡ 0
           at true q =
               ap (λ (t : Bool). times s (if t then slots_seen (get_or (inbox_listing v b) j d).buffers else [])) q
               ∙ (batch_once b j d l s
-              ∙ ap one_if (ap (λ m. is_list (BatchOf m) (list_of st s)) (sym (eqb-true n (get_or (inbox_listing v b) j d).number q)) ∙ e))
+              ∙ ap one_if (ap (λ m. is_list (BatchOf m) (list_of st s)) (sym (eqb-true n (get_or (inbox_listing v b) j d).batch.number q)) ∙ e))
           at false q = ap (λ (t : Bool). times s (if t then slots_seen (get_or (inbox_listing v b) j d).buffers else [])) q
 
       go : (t : Bool) → is_list (BatchOf n) (list_of st s) ≡ t → times s (slots_in v (BatchOf n)) ≡ one_if (is_list (BatchOf n) (list_of st s))

@@ -12,7 +12,7 @@ use Rattle.pool_machine.specs.State.{State, Waiting, Place, AtHome, OnLoan, InCa
 use Rattle.pool_machine.specs.Refusals.{refusal}
 use Rattle.pool_machine.specs.Steps.{after_take, front_of}
 use Rattle.pool_machine.specs.Sound.{Member, Rising}
-use Rattle.pool_machine.specs.Listing.{slots_seen, Listing, DeskListing, Entry, BatchListing, desk_listing, as_waiting, Labelled, Counted}
+use Rattle.pool_machine.specs.Listing.{slots_seen, Listing, DeskListing, Entry, BatchListing, desk_listing, Labelled, Counted}
 use Rattle.pool_machine.proofs.Located.{inbox_listing, ListName, HomeOf, Loans, CacheOf, BatchOf, same_list, list_at, list_of, is_list, slots_in, if_numbered, Located, LocatedStep}
 use Rattle.pool_machine.proofs.Basics.{none_holds, filter_member}
 use Rattle.pool_machine.proofs.Enumerate.{count_append}
@@ -24,7 +24,7 @@ use Rattle.pool_machine.proofs.Keeps.{take_step}
 use Rattle.pool_machine.proofs.Batches.{same_number, row_member, waits_there, row_rises}
 use Rattle.pool_machine.proofs.Places.{cache_place, queued_place, All-both}
 use Rattle.pool_machine.proofs.Refusals.{refusal_seen, refusal_agrees}
-use Rattle.pool_machine.proofs.Words.{front_number}
+use Rattle.pool_machine.proofs.Words.{as_waiting, front_number}
 
 abbrev pub passed_on : Entry → Entry
 passed_on e = record e { forwards = e.forwards + 1 }
@@ -71,7 +71,7 @@ slots_passed [] = refl
 slots_passed (x ∷ xs) = ap (λ ss. x.slot ∷ ss) (slots_passed xs)
 
 module _ (s : Slot) (n : ℕ) where
-  row_none : (ws : List BatchListing) → ((j : ℕ) (d : BatchListing) → j < length ws → (n == (get_or ws j d).number) ≡ false) →
+  row_none : (ws : List BatchListing) → ((j : ℕ) (d : BatchListing) → j < length ws → (n == (get_or ws j d).batch.number) ≡ false) →
       times s (flat_map (if_numbered n) ws) ≡ 0
   row_none [] f = refl
   row_none (w ∷ ws) f =
@@ -80,7 +80,7 @@ module _ (s : Slot) (n : ℕ) where
       (row_none ws (λ j d l. f (suc j) d (omega arith)))
 
   rows_none : (is : List (List BatchListing)) → ((c j : ℕ) (d : BatchListing) → j < length (get_or is c []) →
-      (n == (get_or (get_or is c []) j d).number) ≡ false) →
+      (n == (get_or (get_or is c []) j d).batch.number) ≡ false) →
       times s (flat_map (λ ws. flat_map (if_numbered n) ws) is) ≡ 0
   rows_none [] f = refl
   rows_none (ws ∷ is) f =
@@ -128,7 +128,7 @@ module _ (v : Listing) (st : State) (count : Slot → ℕ) (b : ℕ) (w : BatchL
   row_is : inbox st b ≡ as_waiting w ∷ map as_waiting rest
   row_is = sym (h.frame.inboxes b) ∙ ap (map as_waiting) f.front
 
-  number_is : front_of st b ≡ w.number
+  number_is : front_of st b ≡ w.batch.number
   number_is = ap front_number row_is
 
   here : inbox_listing new b ≡ rest
@@ -151,21 +151,21 @@ module _ (v : Listing) (st : State) (count : Slot → ℕ) (b : ℕ) (w : BatchL
   apart c q u k = ne_eqb (front_of st b) u.number (λ r. eqb-false b c q (
       let x = waits_there v st h.frame h.sound.rising b 0 w nonempty in
       let y = filter_member (λ w. c == w.address) u st.waiting k in
-      let z = same_number st.waiting _ u h.sound.rising x.0 y.0 (ap (λ (p : BatchListing). p.number) first_is ∙ (sym number_is ∙ r)) in
+      let z = same_number st.waiting _ u h.sound.rising x.0 y.0 (ap (λ (p : BatchListing). p.batch.number) first_is ∙ (sym number_is ∙ r)) in
       eqb-true b _ x.1 ∙ (ap (λ (w : Waiting). w.address) z ∙ sym (eqb-true c u.address y.1))))
 
   behind : (u : Waiting) → Member u (map as_waiting rest) → (front_of st b == u.number) ≡ false
-  behind u k = ne_eqb (front_of st b) u.number (λ r. let z : w.number < u.number = rises.0 u k in let e = number_is in absurd (omega arith))
+  behind u k = ne_eqb (front_of st b) u.number (λ r. let z : w.batch.number < u.number = rises.0 u k in let e = number_is in absurd (omega arith))
 
-  left_apart : (c j : ℕ) (p : BatchListing) → j < length (inbox_listing new c) → (front_of st b == (get_or (inbox_listing new c) j p).number) ≡ false
+  left_apart : (c j : ℕ) (p : BatchListing) → j < length (inbox_listing new c) → (front_of st b == (get_or (inbox_listing new c) j p).batch.number) ≡ false
   left_apart c j p = go (b == c) refl
     where
-      go : (y : Bool) → (b == c) ≡ y → j < length (inbox_listing new c) → (front_of st b == (get_or (inbox_listing new c) j p).number) ≡ false
-      go true q = subst (λ z. j < length (inbox_listing new z) → (front_of st b == (get_or (inbox_listing new z) j p).number) ≡ false)
+      go : (y : Bool) → (b == c) ≡ y → j < length (inbox_listing new c) → (front_of st b == (get_or (inbox_listing new c) j p).batch.number) ≡ false
+      go true q = subst (λ z. j < length (inbox_listing new z) → (front_of st b == (get_or (inbox_listing new z) j p).batch.number) ≡ false)
           (eqb-true b c q)
-          (subst (λ ws. j < length ws → (front_of st b == (get_or ws j p).number) ≡ false) (sym here)
+          (subst (λ ws. j < length ws → (front_of st b == (get_or ws j p).batch.number) ≡ false) (sym here)
           (λ m. behind _ (row_member rest j p m)))
-      go false q = subst (λ ws. j < length ws → (front_of st b == (get_or ws j p).number) ≡ false) (sym (other c q))
+      go false q = subst (λ ws. j < length ws → (front_of st b == (get_or ws j p).batch.number) ≡ false) (sym (other c q))
           (λ m. apart c q _ (subst (λ ws. Member (as_waiting (get_or (inbox_listing v c) j p)) ws) (h.frame.inboxes c)
           (row_member (inbox_listing v c) j p m)))
 
@@ -176,15 +176,15 @@ module _ (v : Listing) (st : State) (count : Slot → ℕ) (b : ℕ) (w : BatchL
   batch_is s =
       let x = popped s (front_of st b) w rest v.inboxes b bl f.front in
       let y : times s (if_numbered (front_of st b) w) ≡ times s (slots_seen w.buffers) =
-      ap (λ (b : Bool). times s (if b then slots_seen w.buffers else [])) (eq-eqb (front_of st b) w.number number_is) in
+      ap (λ (b : Bool). times s (if b then slots_seen w.buffers else [])) (eq-eqb (front_of st b) w.batch.number number_is) in
       let z : times s (flat_map (λ ws. flat_map (if_numbered (front_of st b)) ws) (set v.inboxes b rest)) ≡ 0 = gone s in
       omega (arith, x, y, z)
 
   buffers_counted : All (Counted st count) w.buffers
   buffers_counted = subst (λ (p : BatchListing). All (Counted st count) p.buffers) first_is (h.queued b 0 w nonempty)
 
-  buffers_placed : All (λ (e : Entry). list_of st e.slot ≡ Some (BatchOf w.number)) w.buffers
-  buffers_placed = subst (λ (p : BatchListing). All (λ (e : Entry). list_of st e.slot ≡ Some (BatchOf p.number)) p.buffers) first_is
+  buffers_placed : All (λ (e : Entry). list_of st e.slot ≡ Some (BatchOf w.batch.number)) w.buffers
+  buffers_placed = subst (λ (p : BatchListing). All (λ (e : Entry). list_of st e.slot ≡ Some (BatchOf p.batch.number)) p.buffers) first_is
       (queued_place v st count h b 0 w nonempty)
 
   owners : All (λ (e : Entry). e.owner ≡ owner_of st e.slot) w.buffers
@@ -250,14 +250,14 @@ module _ (v : Listing) (st : State) (count : Slot → ℕ) (b : ℕ) (w : BatchL
       Counted next risen e
   relabel m g e p c = (c.0, c.1, c.2 ∙ kept m e.slot p g)
 
-  on_label : (e : Entry) → list_of st e.slot ≡ Some (BatchOf w.number) × Counted st count e → not (e.owner == b) ≡ true →
+  on_label : (e : Entry) → list_of st e.slot ≡ Some (BatchOf w.batch.number) × Counted st count e → not (e.owner == b) ≡ true →
       Counted next risen (passed_on e)
   on_label e p t = (
     p.1.0,
     p.1.1,
     (let c : e.forwards ≡ count e.slot = p.1.2 in omega (arith, c)) ∙ ap₂ (λ (x y : Bool). if x && y then suc (count e.slot) else count e.slot)
         (sym (queued_is (front_of st b) (owner_of st e.slot) (st.place e.slot)
-        ∙ (ap (is_list (BatchOf (front_of st b))) p.0 ∙ eq-eqb (front_of st b) w.number number_is)))
+        ∙ (ap (is_list (BatchOf (front_of st b))) p.0 ∙ eq-eqb (front_of st b) w.batch.number number_is)))
         (sym (ap (λ o. not (o == b)) (sym p.1.0) ∙ t)),
   )
 
@@ -269,10 +269,10 @@ module _ (v : Listing) (st : State) (count : Slot → ℕ) (b : ℕ) (w : BatchL
   cache_labels = All-permutation (Counted next risen) _ d.cache f.cache
       (All-append (Counted next risen) (map passed_on (filter (λ (e : Entry). not (e.owner == b)) w.buffers)) (desk_listing v b).cache
       (All-map (Counted next risen) passed_on (filter (λ (e : Entry). not (e.owner == b)) w.buffers)
-      (All-both (λ (e : Entry). list_of st e.slot ≡ Some (BatchOf w.number) × Counted st count e) (λ (e : Entry). not (e.owner == b) ≡ true)
+      (All-both (λ (e : Entry). list_of st e.slot ≡ Some (BatchOf w.batch.number) × Counted st count e) (λ (e : Entry). not (e.owner == b) ≡ true)
       (λ e. Counted next risen (passed_on e))
       (filter (λ (e : Entry). not (e.owner == b)) w.buffers) on_label
-      (All-filter (λ (e : Entry). not (e.owner == b)) (λ (e : Entry). list_of st e.slot ≡ Some (BatchOf w.number) × Counted st count e) w.buffers
+      (All-filter (λ (e : Entry). not (e.owner == b)) (λ (e : Entry). list_of st e.slot ≡ Some (BatchOf w.batch.number) × Counted st count e) w.buffers
       (λ k e m. (buffers_placed k e m, buffers_counted k e m)))
       (filter_passes (λ (e : Entry). not (e.owner == b)) w.buffers)))
       (old_cache b))
@@ -294,14 +294,14 @@ module _ (v : Listing) (st : State) (count : Slot → ℕ) (b : ℕ) (w : BatchL
   cached_at c false q = subst (λ (x : DeskListing). All (Counted next risen) x.cache) (sym (desk_other v b c d q)) (old_cache c)
 
   -- a batch that stays
-  queued_stays : (p : BatchListing) → (front_of st b == p.number) ≡ false →
-      All (λ (e : Entry). list_of st e.slot ≡ Some (BatchOf p.number)) p.buffers → All (Counted st count) p.buffers →
+  queued_stays : (p : BatchListing) → (front_of st b == p.batch.number) ≡ false →
+      All (λ (e : Entry). list_of st e.slot ≡ Some (BatchOf p.batch.number)) p.buffers → All (Counted st count) p.buffers →
       All (Counted next risen) p.buffers
-  queued_stays p g x y = All-both (λ (e : Entry). list_of st e.slot ≡ Some (BatchOf p.number)) (Counted st count) (Counted next risen) p.buffers
-      (relabel (BatchOf p.number) g) x y
+  queued_stays p g x y = All-both (λ (e : Entry). list_of st e.slot ≡ Some (BatchOf p.batch.number)) (Counted st count) (Counted next risen) p.buffers
+      (relabel (BatchOf p.batch.number) g) x y
 
   Both : BatchListing → Type 0
-  Both p = All (λ (e : Entry). list_of st e.slot ≡ Some (BatchOf p.number)) p.buffers × All (Counted st count) p.buffers
+  Both p = All (λ (e : Entry). list_of st e.slot ≡ Some (BatchOf p.batch.number)) p.buffers × All (Counted st count) p.buffers
 
   all_both : (c : ℕ) → All Both (inbox_listing v c)
   unfolding Both
@@ -325,7 +325,7 @@ module _ (v : Listing) (st : State) (count : Slot → ℕ) (b : ℕ) (w : BatchL
       ∙ (sym (filter_all (λ w. not (front_of st b == w.number)) (map as_waiting rest) (λ u m. ap not (behind u m)))
       ∙ (ap (λ (x : Bool). cond (not x) (as_waiting w ∷ filter (λ w. not (front_of st b == w.number)) (map as_waiting rest))
       (filter (λ w. not (front_of st b == w.number)) (map as_waiting rest)))
-      (sym (eq-eqb (front_of st b) w.number number_is))
+      (sym (eq-eqb (front_of st b) w.batch.number number_is))
       ∙ (ap (filter (λ w. not (front_of st b == w.number))) (sym row_is)
       ∙ filter_swap (λ w. not (front_of st b == w.number)) (λ w. b == w.address) st.waiting))))
   waiting_at c false q = ap (map as_waiting) (other c q) ∙ (h.frame.inboxes c

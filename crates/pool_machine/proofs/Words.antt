@@ -7,6 +7,7 @@ use Rattle.region_cut.specs.declared.slot.Slot.{Slot}
 use Rattle.region_cut.specs.Slots.{same_slot}
 use Rattle.pool_machine.specs.declared.chunk.DrawnChunk.{DrawnChunk}
 use Rattle.pool_machine.specs.State.{Place, AtHome, InBatch, State, Waiting, owner_of, cached_bytes, is_at, slots_at}
+use Rattle.pool_machine.specs.Listing.{BatchListing}
 use Rattle.pool_machine.specs.Steps.{moved, after_free, front_of}
 
 -- the owner and the class of a chunk, 0 where it isn't drawn
@@ -46,6 +47,10 @@ going_on st b = filter (λ s. not (owner_of st s == b)) (slots_at st (InBatch (f
 -- how many leading digits the numbers of two desks share
 abbrev pub near : State → ℕ → ℕ → ℕ
 near st x y = common st.digits x y
+
+-- a batch of a list, without its buffers
+abbrev pub as_waiting : BatchListing → Waiting
+as_waiting w = w.batch
 
 -- the front of an inbox may be taken
 abbrev pub front_ready : List Waiting → Bool

@@ -1,5 +1,5 @@
 -- What the machine speaks of in a floor: its lists of slots, and how they show a state.
-use Rattle.std.specs.Prelude.{◌≡◌, ℕ, Bool, List, [], map, length, slice_get, slice_index_or, All, Option, None}
+use Rattle.std.specs.Prelude.{◌≡◌, ℕ, List, [], map, length, slice_get, slice_index_or, All, Option, None}
 use Rattle.std.specs.Prelude.{IsPermutation}
 use Rattle.region_cut.specs.declared.slot.Slot.{Slot}
 use Rattle.digit_route.specs.Digits.{Scheme}
@@ -23,10 +23,7 @@ pub record DeskListing : Type 0 where
 
 -- a batch in an inbox
 pub record BatchListing : Type 0 where
-  pub number : ℕ
-  pub sender : ℕ
-  pub address : ℕ
-  pub linked : Bool
+  pub batch : Waiting
   pub buffers : List Entry
 
 -- a floor: the drawn chunks are the first ones, in order; the desks and their inboxes stand by their numbers
@@ -47,10 +44,6 @@ empty_desk = record { worker = None; home = []; cache = [] }
 -- the desk of a number
 abbrev pub desk_listing : Listing → ℕ → DeskListing
 desk_listing v a = slice_index_or v.desks a empty_desk
-
--- the batch as the machine sees it
-abbrev pub as_waiting : BatchListing → Waiting
-as_waiting w = record { number = w.number; sender = w.sender; address = w.address; linked = w.linked }
 
 -- ---- the state that a floor shows
 
@@ -76,7 +69,7 @@ pub record ShowsFrame (v : Listing) (st : State) : Type 0 where
   pub chunks : v.chunks ≡ st.chunks
   pub drawn : (k : ℕ) → slice_get v.drawn k ≡ st.drawn k
   pub holder : (a : ℕ) → (desk_listing v a).worker ≡ st.holder a
-  pub inboxes : (b : ℕ) → map as_waiting (slice_index_or v.inboxes b []) ≡ inbox st b
+  pub inboxes : (b : ℕ) → map (λ (w : BatchListing). w.batch) (slice_index_or v.inboxes b []) ≡ inbox st b
 
 -- the list has these slots, each as often as it is there, and this holds of each entry
 abbrev pub HasSlots : (Entry → Type 0) → List Entry → List Slot → Type 0
@@ -91,4 +84,4 @@ pub record Shown (v : Listing) (st : State) (count : Slot → ℕ) : Type 0 wher
   pub lent : HasSlots (Labelled st) v.lent (slots_at st OnLoan)
   pub caches : (a : ℕ) → HasSlots (Counted st count) (desk_listing v a).cache (slots_at st (InCache a))
   pub batches : (b : ℕ) → All (λ (w : BatchListing).
-      HasSlots (Counted st count) w.buffers (slots_at st (InBatch w.number))) (slice_index_or v.inboxes b [])
+      HasSlots (Counted st count) w.buffers (slots_at st (InBatch w.batch.number))) (slice_index_or v.inboxes b [])

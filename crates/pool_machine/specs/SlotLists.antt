@@ -1,5 +1,5 @@
 -- Which slots are where, as it is told of a state.
-use Rattle.std.specs.Prelude.{ℕ, Bool, ◌&&◌, ◌==◌, List, filter, flat_map, count_by, is_some}
+use Rattle.std.specs.Prelude.{ℕ, ◌&&◌, ◌==◌, List, filter, flat_map, count_by, is_some}
 use Rattle.std.specs.List.{range_with_len}
 use Rattle.region_cut.specs.declared.slot.Slot.{Slot}
 use Rattle.pool_machine.specs.State.{State, Waiting, AtHome, InBatch, owner_of, slots, is_at, slots_at, inbox}

@@ -11,7 +11,8 @@ use Rattle.pool_desk.specs.Homes.{slot_at}
 use Rattle.pool_machine.specs.declared.chunk.DrawnChunk.{DrawnChunk}
 use Rattle.pool_machine.specs.Headline.{joined}
 use Rattle.pool_machine.proofs.Located.{inbox_listing}
-use Rattle.pool_machine.specs.Listing.{DeskListing, BatchListing, slots_seen, as_waiting, Shown}
+use Rattle.pool_machine.proofs.Words.{as_waiting}
+use Rattle.pool_machine.specs.Listing.{DeskListing, BatchListing, slots_seen, Shown}
 use Rattle.region_cut.specs.Slots.{same_slot, times}
 use Rattle.pool_machine.specs.Slots.{one_if}
 use Rattle.pool_machine.specs.State.{State, Waiting, is_slot, OnLoan, InCache, InBatch, slots_at}
@@ -190,11 +191,11 @@ module _ (v : FloorState) (st : State) (c : Slot → ℕ) (h : Shown (listing_of
   pub queue_listed : (b : ℕ) → IsPermutation (map slot_of (buffers_in (inbox_at v.inboxes b))) (queued_slots st b)
   queue_listed b =
       let ws = inbox_listing (listing_of v) b in
-      let told : flat_map (λ (w : BatchListing). slots_at st (InBatch w.number)) ws ≡ queued_slots st b =
+      let told : flat_map (λ (w : BatchListing). slots_at st (InBatch w.batch.number)) ws ≡ queued_slots st b =
       sym (flat_of_map (λ (w : Waiting). slots_at st (InBatch w.number)) as_waiting ws) ∙ ap (flat_map (λ (w : Waiting). slots_at st (InBatch w.number))) (h.frame.inboxes b) in
       subst (λ xs. IsPermutation xs (queued_slots st b)) (queue_seen b)
       (subst (λ ys. IsPermutation (flat_map (λ (w : BatchListing). slots_seen w.buffers) ws) ys) told
-      (flat_permuted (λ (w : BatchListing). slots_seen w.buffers) (λ (w : BatchListing). slots_at st (InBatch w.number)) ws
+      (flat_permuted (λ (w : BatchListing). slots_seen w.buffers) (λ (w : BatchListing). slots_at st (InBatch w.batch.number)) ws
       (λ j d m. (h.batches b j d m).0)))
 
 pub floor_lists : (v : FloorState) (st : State) (count : Slot → ℕ) → Shown (listing_of v) st count → ListsSlots v st

@@ -141,7 +141,7 @@ link_done v w n s =
     (link_applies (listing_of v) n s.inbox s.place (batch_of no_batch) (link_accepted v n some)
     (subst (λ m. s.inbox < m) (sym (length-map v.inboxes (map batch_of))) s.unlinked.0)
     (subst (λ ws. s.place < length ws) (sym (inbox_seen v s.inbox)) (subst (λ m. s.place < m) (sym (length-map ps batch_of)) s.unlinked.1))
-    (ap (λ (x : BatchListing). x.number) row ∙ s.unlinked.2.0))
+    (ap (λ (x : BatchListing). x.batch.number) row ∙ s.unlinked.2.0))
 
 -- ---- Take
 

@@ -22,14 +22,14 @@ use Rattle.pool_machine.specs.State.{Waiting, least_class}
 use Rattle.region_cut.specs.Slots.{same_slot}
 use Rattle.pool_machine.specs.Refusals.{first, slot_named}
 use Rattle.pool_machine.proofs.Located.{inbox_listing}
-use Rattle.pool_machine.specs.Listing.{Entry, DeskListing, desk_listing, as_waiting}
+use Rattle.pool_machine.specs.Listing.{Entry, DeskListing, desk_listing}
 use Rattle.event_floor.specs.headline.Listing.{entry_of, batch_of, listing_of}
 use Rattle.pool_machine.proofs.Refusals.{refusal_seen, goes_by, any_queued, any_of_row}
 use Rattle.event_floor.proofs.headline.Least.{holds_within, least_is}
 use Rattle.event_floor.proofs.headline.Lists.{any-map, All-not-from_Any}
 use Rattle.event_floor.proofs.headline.Tables.{none_lent, one_lent}
 use Rattle.event_floor.proofs.headline.Views.{leb_past, ltb_past, any_of, none_of, hits, passes, held_seen, idle_seen, no_desk_seen, is_desk_seen, no_desk_first, idle_first, held_first, has_class_seen, lacks_class_seen, inbox_seen}
-use Rattle.pool_machine.proofs.Words.{is_unlinked, front_ready}
+use Rattle.pool_machine.proofs.Words.{as_waiting, is_unlinked, front_ready}
 
 abbrev pub Says : FloorState → Request → Refusal → Type 0
 Says v q r = refusal_seen (listing_of v) q ≡ Some r
@@ -45,7 +45,7 @@ adopt_refused v a x _ h = elim h [ ]
 
 -- ---- batches
 
-unlinked_seen : (n : ℕ) (p : QueuedState) → is_unlinked n (as_waiting (batch_of p)) ≡ ((n == p.number) && not p.linked)
+unlinked_seen : (n : ℕ) (p : QueuedState) → is_unlinked n (as_waiting (batch_of p)) ≡ ((n == p.batch.number) && not p.batch.linked)
 unlinked_seen n p = refl
 
 -- some batch passes, and none does
@@ -92,16 +92,16 @@ abbrev pub is_unlinked_of : ℕ → Waiting → Bool
 is_unlinked_of a w = (a == w.sender) && not w.linked
 
 pub some_unlinked_of : (v : FloorState) (a : ℕ) → SomeQueued (IsUnlinkedOf a) v.inboxes → any_queued (is_unlinked_of a) (listing_of v).inboxes ≡ true
-some_unlinked_of v a h = queued_some v (IsUnlinkedOf a) (is_unlinked_of a) (λ x p. two_true (a == x.sender) x.linked (is_eqb a x.sender (sym p.0)) p.1) h
+some_unlinked_of v a h = queued_some v (IsUnlinkedOf a) (is_unlinked_of a) (λ x p. two_true (a == x.batch.sender) x.batch.linked (is_eqb a x.batch.sender (sym p.0)) p.1) h
 
 pub none_unlinked_of : (v : FloorState) (a : ℕ) → NoneQueued (IsUnlinkedOf a) v.inboxes → any_queued (is_unlinked_of a) (listing_of v).inboxes ≡ false
-none_unlinked_of v a h = queued_none v (IsUnlinkedOf a) (is_unlinked_of a) (λ x f. one_false (a == x.sender) x.linked (λ p. f (sym (eqb_is a x.sender p.0), p.1))) h
+none_unlinked_of v a h = queued_none v (IsUnlinkedOf a) (is_unlinked_of a) (λ x f. one_false (a == x.batch.sender) x.batch.linked (λ p. f (sym (eqb_is a x.batch.sender p.0), p.1))) h
 
 pub some_unlinked : (v : FloorState) (n : ℕ) → SomeQueued (IsUnlinked n) v.inboxes → any_queued (is_unlinked n) (listing_of v).inboxes ≡ true
-some_unlinked v n h = queued_some v (IsUnlinked n) (is_unlinked n) (λ x p. two_true (n == x.number) x.linked (is_eqb n x.number (sym p.0)) p.1) h
+some_unlinked v n h = queued_some v (IsUnlinked n) (is_unlinked n) (λ x p. two_true (n == x.batch.number) x.batch.linked (is_eqb n x.batch.number (sym p.0)) p.1) h
 
 pub none_unlinked : (v : FloorState) (n : ℕ) → NoneQueued (IsUnlinked n) v.inboxes → any_queued (is_unlinked n) (listing_of v).inboxes ≡ false
-none_unlinked v n h = queued_none v (IsUnlinked n) (is_unlinked n) (λ x f. one_false (n == x.number) x.linked (λ p. f (sym (eqb_is n x.number p.0), p.1))) h
+none_unlinked v n h = queued_none v (IsUnlinked n) (is_unlinked n) (λ x f. one_false (n == x.batch.number) x.batch.linked (λ p. f (sym (eqb_is n x.batch.number p.0), p.1))) h
 
 -- ---- Retire
 
@@ -370,7 +370,7 @@ take_refused v b Nothing h =
     ∙ hits (no_front v b) Nothing [] (ap (λ ws. not (front_ready (map as_waiting ws))) (inbox_seen v b) ∙ no_front_seen (inbox_at v.inboxes b) h.1)
 take_refused v b _ h = elim h [ ]
 
-pub take_accepted : (v : FloorState) (b : ℕ) (d : DeskState) (p : QueuedState) (rest : List QueuedState) → IsHeld v b d → inbox_at v.inboxes b ≡ p ∷ rest → p.linked ≡ true
+pub take_accepted : (v : FloorState) (b : ℕ) (d : DeskState) (p : QueuedState) (rest : List QueuedState) → IsHeld v b d → inbox_at v.inboxes b ≡ p ∷ rest → p.batch.linked ≡ true
     → refusal_seen (listing_of v) (Take b) ≡ None
 take_accepted v b d p rest l e t =
     held_first v b ((no_front v b, Nothing) ∷ []) d l

@@ -28,13 +28,7 @@ desk_of (Held d) = record {
 }
 
 abbrev pub batch_of : QueuedState → BatchListing
-batch_of p = record {
-  number = p.number;
-  sender = p.sender;
-  address = p.address;
-  linked = p.linked;
-  buffers = map entry_of p.buffers;
-}
+batch_of p = record { batch = p.batch; buffers = map entry_of p.buffers }
 
 abbrev pub listing_of : FloorState → Listing
 listing_of v = record {

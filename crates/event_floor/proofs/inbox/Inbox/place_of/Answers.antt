@@ -7,8 +7,8 @@ use Rattle.event_floor.proofs.inbox.Inbox.place_of.Goals as goal
 
 pub returns : goal.returns
 returns c =
-    let point = IsPartitionPoint-from_clause (λ (p : QueuedState). ltb p.number c.args.number) c.self.inside.batches.items c.partition_point.result c.partition_point.ensures.partitioned
-    (IsPartitionedBy-ltb (λ (p : QueuedState). p.number) c.self.inside.batches.items c.args.number (rises_weakly c.self.inside.batches.items c.self.invariant)) (λ a r f' k. search rules) in
+    let point = IsPartitionPoint-from_clause (λ (p : QueuedState). ltb p.batch.number c.args.number) c.self.inside.batches.items c.partition_point.result c.partition_point.ensures.partitioned
+    (IsPartitionedBy-ltb (λ (p : QueuedState). p.batch.number) c.self.inside.batches.items c.args.number (rises_weakly c.self.inside.batches.items c.self.invariant)) (λ a r f' k. search rules) in
     rw (← c.self.view_is) (record {
       below = λ k d l. ltb-true _ _ (point.0 k d (omega arith) l);
       above = λ k d l m. ltb-false _ _ (point.1 k d l m);

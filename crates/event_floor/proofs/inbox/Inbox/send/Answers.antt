@@ -16,7 +16,7 @@ invariant_of-self-2 c =
     let queued : c.push_back_reserved.new.self.items ≡ c.self.inside.batches.items ++ p ∷ [] =
     c.push_back_reserved.ensures.items ∙ (ap (λ z. z ++ c.new.result ∷ []) c.in_ok-try_reserve.ensures.items ∙ ap (λ (z : QueuedState). c.self.inside.batches.items ++ z ∷ []) c.new.ensures) in
     subst (λ z. NumbersRise z) (sym queued)
-    (rises_sent c.self.inside.batches.items p c.self.invariant (subst (λ z. All (λ (q : QueuedState). q.number < c.args.number) z) (sym c.self.view_is) c.requires.later))
+    (rises_sent c.self.inside.batches.items p c.self.invariant (subst (λ z. All (λ (q : QueuedState). q.batch.number < c.args.number) z) (sym c.self.view_is) c.requires.later))
 
 pub returns-clause-sends : goal.returns-clause-sends
 returns-clause-sends c =

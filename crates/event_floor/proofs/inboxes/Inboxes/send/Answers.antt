@@ -10,14 +10,14 @@ pub send-requires-clause-later : goal.send-requires-clause-later
 send-requires-clause-later c =
     let there : c.args.t < length c.self.inside.inboxes.items = subst (λ (z : List (List QueuedState)). c.args.t < length z) (sym c.self.view_is) c.requires.there in
     let same : inbox_at c.self.inside.inboxes.items c.args.t ≡ c.index_mut.result.now = inbox_read _ _ _ there c.index_mut.ensures.value in
-    let later = subst (λ (z : List (List QueuedState)). (b : ℕ) → b < length z → All (λ (p : QueuedState). p.number < c.args.number) (inbox_at z b)) (sym c.self.view_is) c.requires.later in
-    subst (λ z. All (λ (p : QueuedState). p.number < c.args.number) z) same (later c.args.t there)
+    let later = subst (λ (z : List (List QueuedState)). (b : ℕ) → b < length z → All (λ (p : QueuedState). p.batch.number < c.args.number) (inbox_at z b)) (sym c.self.view_is) c.requires.later in
+    subst (λ z. All (λ (p : QueuedState). p.batch.number < c.args.number) z) same (later c.args.t there)
 
 pub invariant_of-self-in-Ok : goal.invariant_of-self-in-Ok
 invariant_of-self-in-Ok c =
     let there : c.args.t < length c.self.inside.inboxes.items = subst (λ (z : List (List QueuedState)). c.args.t < length z) (sym c.self.view_is) c.requires.there in
     let same : inbox_at c.self.inside.inboxes.items c.args.t ≡ c.index_mut.result.now = inbox_read _ _ _ there c.index_mut.ensures.value in
-    let later = subst (λ (z : List (List QueuedState)). (b : ℕ) → b < length z → All (λ (p : QueuedState). p.number < c.args.number) (inbox_at z b)) (sym c.self.view_is) c.requires.later in
+    let later = subst (λ (z : List (List QueuedState)). (b : ℕ) → b < length z → All (λ (p : QueuedState). p.batch.number < c.args.number) (inbox_at z b)) (sym c.self.view_is) c.requires.later in
     let absent = absent_above _ c.self.inside.unlinked c.args.number _ c.self.invariant later refl in
     let s = c.in-Ok.ensures.sends in
     let p = sent_as c.args.number s.batch in
@@ -29,7 +29,7 @@ pub invariant_of-self-in-Err : goal.invariant_of-self-in-Err
 invariant_of-self-in-Err c =
     let there : c.args.t < length c.self.inside.inboxes.items = subst (λ (z : List (List QueuedState)). c.args.t < length z) (sym c.self.view_is) c.requires.there in
     let same : inbox_at c.self.inside.inboxes.items c.args.t ≡ c.index_mut.result.now = inbox_read _ _ _ there c.index_mut.ensures.value in
-    let later = subst (λ (z : List (List QueuedState)). (b : ℕ) → b < length z → All (λ (p : QueuedState). p.number < c.args.number) (inbox_at z b)) (sym c.self.view_is) c.requires.later in
+    let later = subst (λ (z : List (List QueuedState)). (b : ℕ) → b < length z → All (λ (p : QueuedState). p.batch.number < c.args.number) (inbox_at z b)) (sym c.self.view_is) c.requires.later in
     let absent = absent_above _ c.self.inside.unlinked c.args.number _ c.self.invariant later refl in
     let stays : set c.self.inside.inboxes.items c.args.t c.send.new.self ≡ c.self.inside.inboxes.items =
     ap (set c.self.inside.inboxes.items c.args.t) (c.in-Err.ensures.refused ∙ sym same) ∙ set-get_or c.self.inside.inboxes.items c.args.t [] in
