@@ -1,6 +1,6 @@
 -- The state of the machine: a pool as it is seen from outside, whatever lists and tables keep it.
 use Rattle.std.specs.Prelude.{ℕ, Bool, true, false, ◌&&◌, ◌==◌, nat_lt, nat_le, List, [], map, filter, flat_map, sum_by}
-use Rattle.std.specs.Prelude.{take, slice_get, Option, Some, None}
+use Rattle.std.specs.Prelude.{take, Option, Some, None}
 use Rattle.std.specs.List.{list_any, range_with_len, position_or_len}
 use Rattle.std.specs.Option.{option_map_or}
 use Rattle.region_cut.specs.declared.profile.Profile.{Profile}
@@ -138,7 +138,3 @@ cached_bytes st a = sum_by (λ s. size_of (class_of st s)) (slots_at st (InCache
 -- the batches that wait for desk b, the front first
 abbrev pub inbox : State → ℕ → List Waiting
 inbox st b = filter (λ w. b == w.address) st.waiting
-
--- the front of these
-abbrev pub front : State → ℕ → Option Waiting
-front st b = slice_get (inbox st b) 0

@@ -1,6 +1,7 @@
 -- What an accepted request does, one step of the machine, and runs.
-use Rattle.std.specs.Prelude.{◌≡◌, ◌≢◌, ⊤, ◌≤◌, ℕ, suc, ◌<◌, Bool, true, false, ◌&&◌, not, ◌==◌, nat_lt, List, [], ◌∷◌, ◌++◌}
-use Rattle.std.specs.Prelude.{map, length, filter, Option, Some, None, Ok, Err, Result, if◌then◌else◌, option_map, ◌⊎◌}
+use Rattle.std.specs.Prelude.{◌≡◌, ◌≢◌, ⊤, ◌⊎◌, ◌≤◌, ℕ, suc, ◌<◌, Bool, true, false, ◌&&◌, not, ◌==◌, nat_lt}
+use Rattle.std.specs.Prelude.{List, [], ◌∷◌, ◌++◌, map, length, filter, slice_get, Option, Some, None, option_map}
+use Rattle.std.specs.Prelude.{Ok, Err, Result, if◌then◌else◌}
 use Rattle.region_cut.specs.declared.slot.Slot.{Slot}
 use Rattle.std.specs.Option.{option_map_or}
 use Rattle.region_cut.specs.Classes.{slots_of}
@@ -13,7 +14,7 @@ use Rattle.pool_machine.specs.declared.refusal.Refusal.{Refusal}
 use Rattle.pool_machine.specs.declared.refusal.Refusal.TheVariants.{NoMemory}
 use Rattle.region_cut.specs.Slots.{same_slot}
 use Rattle.pool_machine.specs.State.{Place, AtHome, OnLoan, InCache, InBatch, Waiting, State, profile_at, least_class}
-use Rattle.pool_machine.specs.State.{owner_of, is_at, home_with, in_bucket, bucket, cached_bytes, slots_at, front}
+use Rattle.pool_machine.specs.State.{owner_of, is_at, home_with, in_bucket, bucket, cached_bytes, slots_at, inbox}
 use Rattle.pool_machine.specs.Refusals.{slot_named, refusal, may_grow}
 
 -- what a request is answered
@@ -32,7 +33,7 @@ kept_place st a s = if owner_of st s == a then AtHome else InCache a
 
 -- the number of the front of the inbox of b, 0 where there is none
 abbrev pub front_of : State → ℕ → ℕ
-front_of st b = option_map_or (λ (w : Waiting). w.number) (front st b) 0
+front_of st b = option_map_or (λ (w : Waiting). w.number) (slice_get (inbox st b) 0) 0
 
 -- ---- the state after an accepted request
 
@@ -70,15 +71,14 @@ after st q (Err r) = st
 after st (Adopt a x) (Ok r) = with_holder a (Some x) st
 after st (Retire a) (Ok r) = with_holder a None st
 after st (Claim a c) (Ok (Chunk k)) = with_chunk k a c st
-after st (Claim a c) (Ok _) = st
 after st (Alloc a n) (Ok (Lent s)) = moved (same_slot s) (λ r. OnLoan) st
-after st (Alloc a n) (Ok _) = st
 after st (Free a pair) (Ok r) = after_free st a (slot_named pair)
 after st (Send a t) (Ok r) = after_send st a t
 after st (Link n) (Ok r) = record st {
   waiting = map (λ (w : Waiting). if n == w.number then record w { linked = true } else w) st.waiting;
 }
 after st (Take b) (Ok r) = after_take st b
+after st _ _ = st
 
 -- ---- answers
 
