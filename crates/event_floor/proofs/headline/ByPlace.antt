@@ -1,15 +1,15 @@
 -- The names of a floor's buffers, read by the places of its lists.
-use Rattle.std.proofs.Common.{◌≡◌, ℕ, zero, suc, ◌<◌, ◌≤◌, List, [], ◌∷◌, length, get_or, All, Option, Some, None, sym, subst, ⊎_elim, arith}
+use Rattle.std.proofs.Common.{◌≡◌, ℕ, zero, suc, ◌<◌, ◌≤◌, Bool, false, ◌==◌, List, [], ◌∷◌, length, get_or, All, Option, Some, None, sym, subst, ⊎_elim}
 use Rattle.std.specs.Prelude.{IfSome}
 use Rattle.std.specs.List.{slice_get}
-use Rattle.std.specs.Option.{option_to_list}
+use Rattle.std.specs.Option.{option_to_list, option_map_or}
 use Rattle.std.proofs.lemmas.Bool.{cases_lt}
 use Rattle.std.proofs.lemmas.Option.{slice_get_within, slice_get-get_or, get_or_from_slice_get}
 use Rattle.std.proofs.Math.ListN.{get_or-eq_default}
 use Rattle.std.proofs.lemmas.List.Elements.{All-nil, All-cons, All-head, All-append}
 use Rattle.region_cut.specs.Carved.{Carved}
 use Rattle.slot_chain.specs.Buffer.{Buffer}
-use Rattle.event_floor.specs.declared.any_desk.AnyDesk.{AnyDesk}
+use Rattle.pool_machine.specs.declared.chunk.DrawnChunk.{DrawnChunk}
 use Rattle.event_floor.specs.Lent.{buffers_lent}
 use Rattle.event_floor.specs.Inboxes.{QueuedState, inbox_at}
 use Rattle.event_floor.specs.Floors.{FloorState, desk_at, desk_count, no_desk}
@@ -24,6 +24,12 @@ pub record NamesByPlace (names : List Carved) (v : FloorState) : Type 0 where
   pub desks : (a : ℕ) → a < desk_count v → IsNamedDesk names v.drawn a (desk_at v a)
   pub lent : (i : ℕ) → IfSome (get_or v.lent i None) (HasName names)
   pub queued : (b : ℕ) → All (λ (p : QueuedState). All (HasName names) p.buffers) (inbox_at v.inboxes b)
+
+-- ---- owners
+
+-- the chunk was drawn for desk a
+abbrev pub is_drawn_for : ℕ → Option DrawnChunk → Bool
+is_drawn_for a o = option_map_or (λ (d : DrawnChunk). d.owner == a) o false
 
 -- ---- the table of the lent buffers
 

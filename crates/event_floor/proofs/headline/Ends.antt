@@ -32,8 +32,8 @@ use Rattle.event_floor.specs.headline.EndsKnown.{buffers_of, fresh_of, undrawn_p
 use Rattle.event_floor.specs.headline.Listing.{desk_of, listing_of}
 use Rattle.event_floor.specs.headline.Headline.{Shows}
 use Rattle.pool_machine.proofs.Shown.{located}
-use Rattle.event_floor.specs.headline.Names.{HasName, HasNoName, IsNamed, chunks_of, is_drawn_for}
-use Rattle.event_floor.proofs.headline.ByPlace.{NamesByPlace, by_place, by_list}
+use Rattle.event_floor.specs.headline.Names.{HasName, HasNoName, IsNamed, chunks_of}
+use Rattle.event_floor.proofs.headline.ByPlace.{NamesByPlace, is_drawn_for, by_place, by_list}
 use Rattle.event_floor.specs.headline.Whole.{IsStocked, IsWhole}
 use Rattle.event_floor.proofs.headline.Lists.{All-first, All-second}
 use Rattle.event_floor.proofs.headline.Found.{All-flat, All-parts, found, at_each_desk, buffers_named, taken_buffer}

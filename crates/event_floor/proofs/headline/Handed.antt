@@ -27,8 +27,8 @@ use Rattle.pool_machine.specs.Slots.{one_if}
 use Rattle.pool_machine.specs.State.{State}
 use Rattle.pool_machine.proofs.Located.{Located}
 use Rattle.event_floor.specs.headline.Listing.{listing_of}
-use Rattle.event_floor.specs.headline.Names.{HasName, HasNoName, IsNamedHome, IsNamedChunk, IsNamedDesk, chunks_of, drew, is_drawn_for}
-use Rattle.event_floor.proofs.headline.ByPlace.{NamesByPlace}
+use Rattle.event_floor.specs.headline.Names.{HasName, HasNoName, IsNamedHome, IsNamedChunk, IsNamedDesk, chunks_of, drew}
+use Rattle.event_floor.proofs.headline.ByPlace.{NamesByPlace, is_drawn_for}
 use Rattle.pool_machine.proofs.Enumerate.{count_cons}
 use Rattle.event_floor.proofs.headline.Named.{held_named, changed_named, desk_named, each_place}
 use Rattle.event_floor.proofs.headline.Stands.{stands_behind}

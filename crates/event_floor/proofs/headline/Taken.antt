@@ -25,8 +25,8 @@ use Rattle.event_floor.specs.Desks.{home_of, cached_of}
 use Rattle.event_floor.specs.Floors.{FloorState, desk_at, no_desk}
 use Rattle.event_floor.specs.Steps.{DrawsChunk}
 use Rattle.pool_machine.specs.Slots.{one_if}
-use Rattle.event_floor.specs.headline.Names.{HasName, IsNamedHome, IsNamedChunk, IsNamedDesk, chunks_of, drew, is_drawn_for}
-use Rattle.event_floor.proofs.headline.ByPlace.{NamesByPlace}
+use Rattle.event_floor.specs.headline.Names.{HasName, IsNamedHome, IsNamedChunk, IsNamedDesk, chunks_of, drew}
+use Rattle.event_floor.proofs.headline.ByPlace.{NamesByPlace, is_drawn_for}
 use Rattle.pool_machine.proofs.Enumerate.{count_cons}
 use Rattle.event_floor.proofs.headline.Named.{held_named}
 use Rattle.event_floor.proofs.headline.Stands.{stands_take, stands_drop, stands_whole}

@@ -1,6 +1,7 @@
 -- The names by which the bytes of the slots are known when the region's borrow ends.
 use Rattle.std.specs.Prelude.{◌≡◌, ℕ, ◌+◌, ◌-◌, ◌*◌, ◌≤◌, ◌<◌, Bool, false, ◌==◌, List, length, slice_get}
-use Rattle.std.specs.Prelude.{count_by, Option, Some, None, All}
+use Rattle.std.specs.Prelude.{cond, count_by, Some, All}
+use Rattle.std.specs.Option.{option_map_or}
 use Rattle.std.specs.Borrow.{GName}
 use Rattle.region_cut.specs.Limits.{chunk_size}
 use Rattle.region_cut.specs.Carved.{Carved}
@@ -17,7 +18,6 @@ use Rattle.event_floor.specs.Inboxes.{QueuedState}
 use Rattle.event_floor.specs.Desks.{home_of, cached_of}
 use Rattle.event_floor.specs.Lent.{buffers_lent}
 use Rattle.event_floor.specs.Floors.{FloorState}
-use Rattle.pool_machine.specs.Slots.{one_if}
 
 -- the buffer of place i of a chunk has the i-th name that was taken of the chunk, the chunk's class, and as many bytes
 -- as the class says
@@ -49,20 +49,16 @@ abbrev pub chunks_of : AnyDesk → List Carved
 chunks_of (Idle d) = d.drawn
 chunks_of (Held d) = d.drawn
 
--- the chunk was drawn for desk a
-abbrev pub is_drawn_for : ℕ → Option DrawnChunk → Bool
-is_drawn_for a None = false
-is_drawn_for a (Some d) = d.owner == a
-
+-- chunk k was drawn for desk a
 abbrev pub drew : List DrawnChunk → ℕ → ℕ → Bool
-drew drawn a k = is_drawn_for a (slice_get drawn k)
+drew drawn a k = option_map_or (λ (d : DrawnChunk). d.owner == a) (slice_get drawn k) false
 
 -- desk a: all its buffers have their names, and it knows each chunk that was drawn for it once, and no other
 pub record IsNamedDesk (names : List Carved) (drawn : List DrawnChunk) (a : ℕ) (s : AnyDesk) : Type 0 where
   pub home : All (IsNamedHome names) (home_of s)
   pub cached : All (HasName names) (cached_of s)
   pub same : All (λ (c : Carved). slice_get names c.chunk ≡ Some c) (chunks_of s)
-  pub once : (k : ℕ) → count_by (λ (c : Carved). c.chunk == k) (chunks_of s) ≡ one_if (drew drawn a k)
+  pub once : (k : ℕ) → count_by (λ (c : Carved). c.chunk == k) (chunks_of s) ≡ cond (drew drawn a k) 1 0
 
 -- chunk k was drawn for its class, over the part of its number; no more names were taken of it than it has slots, and
 -- what is left of it are the bytes behind them
@@ -80,7 +76,7 @@ pub record AreNames (names : List Carved) (v : FloorState) : Type 0 where
   pub chunks : (k : ℕ) (c : Carved) → slice_get names k ≡ Some c → IsNamedChunk v.parts v.drawn k c
   pub desks : (a : ℕ) (s : AnyDesk) → slice_get v.desks a ≡ Some s → IsNamedDesk names v.drawn a s
   pub lent : All (HasName names) (buffers_lent v.lent)
-  pub queued : All (λ (inbox : List QueuedState). All (λ (p : QueuedState). All (HasName names) p.buffers) inbox) v.inboxes
+  pub queued : All (λ inbox. All (λ (p : QueuedState). All (HasName names) p.buffers) inbox) v.inboxes
 
 -- some list is that of the floor's drawn chunks, by which each buffer has the name of its place
 unfoldable pub IsNamed : FloorState → Type 0
