@@ -20,9 +20,9 @@ pub(crate) struct Node<'r> {
     pub(crate) forwards: u32,
     pub(crate) lease: Lease<'r>,
     // Nothing reads it. What stands behind changes from list to list, and what stands before is read
-    // by each thread that has the buffer: with 80 bytes between what is read and what is written they
-    // share no cache line of 64, wherever a box lies. The last word is in the line of the link: a write
-    // to it has the processor fetch that line.
+    // by each thread that has the buffer. What is written begins with the last word here, 80 bytes
+    // behind the beginning of what is read, so they share no cache line of 64, wherever a box lies. That
+    // word is in the line of the link: a write to it has the processor fetch that line.
     pub(crate) apart: [u64; 7],
     pub(crate) below: Below<'r>,
     pub(crate) beside: Beside<'r>,

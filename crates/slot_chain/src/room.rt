@@ -1,5 +1,5 @@
 //! The room that a buffer takes in memory.
-ghost use Rattle.std.specs.Prelude.{◌≡◌, [], ◌<◌, length};
+ghost use Rattle.std.specs.Prelude.{◌≡◌, ◌<◌, length};
 ghost use Rattle.region_cut.specs.Classes.{size_of};
 ghost use Rattle.region_cut.specs.Pieces.{place_of, slice_of};
 ghost use Rattle.slot_chain.specs.Buffer.{owner_limit};
@@ -38,19 +38,14 @@ impl<'r> Room<'r> {
     /// Makes an empty room: a box of 120 bytes, and in memory of its own 120 bytes for the names of
     /// fifteen others. [`NoMemory`] is answered only where the allocator refused one of the two.
     pub fn new(alloc: Global) -> Result<Room<'r>, NoMemory> {
-        Room::beside(alloc, Beside::with_room(alloc)?)
+        let mut room = Room::for_one_thread(alloc)?;
+        room.node.beside = Beside::with_room(alloc)?;
+        Ok(room)
     }
 
     /// The same without the names of others, for lists that stay with one thread. On a list that
     /// goes to another, such a box is linked.
     pub fn for_one_thread(alloc: Global) -> Result<Room<'r>, NoMemory> {
-        Room::beside(alloc, Beside::new(alloc))
-    }
-
-    // A box that names others so.
-    fn beside(alloc: Global, beside: Beside<'r>) -> Result<Room<'r>, NoMemory>
-        requires { beside ≡ [] }
-    {
         let node = Node {
             slot: Slot { chunk: 0, index: 0 },
             class: Class::FIRST,
@@ -59,7 +54,7 @@ impl<'r> Room<'r> {
             lease: Lease::new(Default::default()),
             apart: [0; 7],
             below: Below::new(),
-            beside,
+            beside: Beside::new(alloc),
             alloc,
         };
         Ok(Room {
