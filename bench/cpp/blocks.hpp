@@ -1,8 +1,10 @@
 // Buffers that are handed from thread to thread, in blocks, so that the hand-over costs little beside the allocator.
 #pragma once
+#include <atomic>
 #include <cstddef>
 #include <cstdlib>
 #include <mutex>
+#include <sched.h>
 #include <utility>
 #include <vector>
 
@@ -11,9 +13,23 @@ constexpr size_t BLOCK = 64;
 
 template <class Lent> using Block = std::vector<Lent>;
 
+// A lock that a thread looks at a hundred times, as at the Rattle program's, before it lets others run.
+class Lock {
+  std::atomic<bool> taken{false};
+
+public:
+  void lock() {
+    while (taken.exchange(true)) {
+      for (int i = 0; i < 100 && taken.load(); i++) __builtin_ia32_pause();
+      if (taken.load()) sched_yield();
+    }
+  }
+  void unlock() { taken.store(false); }
+};
+
 // blocks under a lock, the oldest first
 template <class Lent> class alignas(128) Queue {
-  std::mutex lock;
+  Lock lock;
   std::vector<Block<Lent>> blocks;
   size_t first = 0;
   size_t length = 0;
@@ -22,13 +38,13 @@ public:
   explicit Queue(size_t most) : blocks(most) {}
 
   void push(Block<Lent> block) {
-    std::lock_guard<std::mutex> guard(lock);
+    std::lock_guard<Lock> guard(lock);
     if (length == blocks.size()) abort();
     blocks[(first + length++) % blocks.size()] = std::move(block);
   }
 
   bool pop(Block<Lent> &block) {
-    std::lock_guard<std::mutex> guard(lock);
+    std::lock_guard<Lock> guard(lock);
     if (length == 0) return false;
     block = std::move(blocks[first]);
     first = (first + 1) % blocks.size();
