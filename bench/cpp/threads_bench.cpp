@@ -41,8 +41,8 @@ public:
   }
 };
 
-// what one thread does, from turn to turn
-template <class Lender> struct Worker {
+// what one thread does, from turn to turn; no two share a cache line
+template <class Lender> struct alignas(128) Worker {
   using Lent = typename Lender::Lent;
 
   uint64_t number;

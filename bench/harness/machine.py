@@ -22,6 +22,6 @@ def described(given):
     load = os.getloadavg()[0]
     return (
         f"{datetime.date.today()}, {commit()}, {processor()}, {os.cpu_count()} cores, load {load:.1f}, "
-        f"pinned to core {given.core} but for what has threads\n"
+        f"pinned to core {given.core}, or each thread to a core of its own\n"
         f"{given.rounds} runs of 3 turns of {given.count} buffers, in turn"
     )

@@ -49,6 +49,12 @@ def threads_bench():
     return compiled("threads_bench", [*folder.iterdir()], ["g++", *flags, folder / "threads_bench.cpp"])
 
 
+def pin():
+    source = HERE / "cpp" / "pin.cpp"
+    flags = ["-std=c++17", "-O2", "-Wall", "-Wextra", "-shared", "-fPIC"]
+    return compiled("pin.so", [source], ["g++", *flags, source])
+
+
 def steps():
     source = HERE / "cpp" / "steps.cpp"
     return compiled("steps", [source], ["g++", "-std=c++17", "-O2", "-Wall", "-Wextra", source])

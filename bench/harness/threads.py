@@ -1,5 +1,5 @@
 """The table with threads: workers of a pool, over each of the two inboxes, beside the allocators that a program would
-take instead. Nothing is pinned."""
+take instead. Each thread is pinned to a core of its own."""
 import os
 import statistics
 import subprocess
@@ -89,7 +89,7 @@ def columns():
 
 
 def run(column, workload, count, measured):
-    env = {**os.environ, "LD_PRELOAD": column.preload}
+    env = {**os.environ, "LD_PRELOAD": f"{programs.pin()} {column.preload}"}
     command = column.command(workload, count, TURNS)
     ran = subprocess.run(command, env=env, stdout=subprocess.PIPE, text=True, check=True, timeout=SECONDS)
     _workload, nanos, total, *of_pool = ran.stdout.split()
