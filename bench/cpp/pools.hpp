@@ -44,6 +44,7 @@ template <class Slots, class Lent> struct Linked {
     top = Slots::below(it);
     return it;
   }
+  Lent pop_ahead() { return pop(); }
 };
 
 // each slot has a boxed node, in which the link lies beside the owner and the class
@@ -90,21 +91,26 @@ struct InSlots {
   static void unlink(Lent) {}
 };
 
-// each slot has a boxed node with room for pointers to a few others: of so many and one, a list that goes to another
-// thread links one, which names the others, so that most nodes are only read there; at home each is linked
+// Each slot has a boxed node, and memory in which the node can name a few others: of so many and one, a list that goes
+// to another thread links one, which names the others, so that most nodes are only read there; at home each is linked.
+// The nodes are laid out as those of the proved pool: what changes stands apart from what each thread reads, and the
+// next node that names others is asked for when the first of those is taken that this one names.
 struct InGroups {
   static constexpr size_t OTHERS = 15;
 
   struct Node {
-    uint32_t slot;
+    uint32_t chunk;
     uint32_t class_number;
     uint16_t owner;
-    uint16_t count;
     uint32_t forwards;
     uint8_t *bytes;
     uint64_t length;
+    uint32_t index;
+    uint64_t apart[6];
+    uint64_t touched;
     Node *below;
-    Node *others[OTHERS];
+    Node **others;
+    uint64_t count;
   };
   using Lent = Node *;
 
@@ -126,11 +132,16 @@ struct InGroups {
       top = it->below;
       return it;
     }
+    Lent pop_ahead() {
+      if (top->count == OTHERS && top->below) top->below->touched = 1;
+      return pop();
+    }
   };
   using Home = Linked<InGroups, Lent>;
 
   static Lent made(Chunks &, uint8_t *bytes, size_t k, uint16_t owner) {
-    return new Node{0, static_cast<uint32_t>(k), owner, 0, 0, bytes, SIZES[k], nullptr, {}};
+    auto others = static_cast<Node **>(malloc(OTHERS * sizeof(Node *)));
+    return new Node{0, static_cast<uint32_t>(k), owner, 0, bytes, SIZES[k], 0, {}, 0, nullptr, others, 0};
   }
   static uint8_t *bytes(Chunks &, Lent it) { return it->bytes; }
   static uint16_t owner(Chunks &, Lent it) { return it->owner; }
@@ -189,7 +200,7 @@ private:
     since_look = 0;
     List come = mailboxes[number].take();
     while (come.some()) {
-      Lent it = come.pop();
+      Lent it = come.pop_ahead();
       if (Slots::owner(chunks, it) != number) abort();
       keep(it);
     }
