@@ -4,8 +4,8 @@
 //   threads_bench WORKLOAD COUNT TURNS LENDER
 //
 // LENDER is malloc, nothing for the loop and the hand-over alone, one of the pools of pools.hpp (boxes, slots or
-// groups), or that of rings.hpp (rings). Each thread runs TURNS turns of COUNT buffers, and the workload, the nanoseconds
-// and the sum of the sizes of all threads are printed.
+// groups), or that of rings.hpp (rings). Each thread runs TURNS turns of COUNT buffers, and the workload, the
+// nanoseconds and the sum of the sizes of all threads are printed.
 #include "blocks.hpp"
 #include "lenders.hpp"
 #include "pcg32.hpp"
