@@ -10,6 +10,7 @@ mod home;
 mod listing;
 mod posting;
 mod refusal;
+mod room;
 mod route;
 
 use digit_route::{Batch, Digits};
@@ -188,6 +189,7 @@ enum Play {
     Keeps,
     Refuses,
     GivesLarge,
+    GoesRound,
 }
 
 // Each plays on desks, chunks and a list of buffers that `hold` has.
@@ -209,6 +211,7 @@ fn run<'r>(
         Play::Keeps => listing::keeps(rt, alloc, desk, other, parts, lent),
         Play::Refuses => refusal::refuses(rt, alloc, desk, parts),
         Play::GivesLarge => refusal::gives_large(rt, alloc, desk, parts),
+        Play::GoesRound => room::goes_round(rt, alloc, desk, other, parts, lent),
     }
 }
 

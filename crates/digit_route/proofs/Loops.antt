@@ -8,7 +8,7 @@ use Rattle.digit_route.specs.Rows.{Row, IsByDigit}
 use Rattle.digit_route.specs.Posts.{GivesAll, buffers_of, shared}
 use Rattle.digit_route.specs.States.{BatchState, PostingState, all_moves}
 
--- a loop that moves the buffers of a chain into a row
+-- a loop that moves the buffers of a magazine into a row
 pub record Scatters (s : Scheme) (j : ℕ) (old : List (List Buffer)) (whole : List Buffer) (new : List (List Buffer)) (rest : List Buffer) (moved : ℕ) : Type 0 where
   pub len : length new ≡ length old
   pub by_digit : IsByDigit s j old → IsByDigit s j new
@@ -22,7 +22,7 @@ pub record Pours (s : Scheme) (j : ℕ) (old from new rest : List (List Buffer))
   pub by_digit : IsByDigit s j old → IsByDigit s j new
   pub items : IsPermutation (flat_map (λ x. x) old ++ flat_map (λ x. x) from) (flat_map (λ x. x) new ++ flat_map (λ x. x) rest)
 
--- a loop that looks for an owner, from the end of a chain
+-- a loop that looks for an owner, from the end of a magazine
 pub record Looked (s : Scheme) (a t : ℕ) (whole rest : List Buffer) (found : Bool) : Type 0 where
   pub seen : List Buffer
   pub parts : whole ≡ rest ++ seen

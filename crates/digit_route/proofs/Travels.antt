@@ -1,23 +1,27 @@
--- Which types of this crate, and of chains, cross threads, each by the lemmas of what it holds.
+-- Which types of this crate, and of lists of buffers, cross threads, each by the lemmas of what it holds.
 use denote.Ref.{NamedLft}
 use denote.Param.Send.{IsSend, sendable}
 use Rattle.std.proofs.Crossing.{crosses}
-use Rattle.slot_chain.proofs.below.Below.TheLaws.TheKnot.{send-Below, send-Beside, send-Node}
+use Rattle.slot_chain.proofs.below.Below.TheLaws.TheKnot.{send-Below, send-Node}
 use Rattle.slot_chain.proofs.lease.Lease.TheSendSync.{the_send as lease_send}
 use Rattle.slot_chain.proofs.link.Link.TheSendSync.{the_send as link_send}
 use Rattle.slot_chain.specs.contracts.chain.Chain as Chain
+use Rattle.slot_chain.specs.contracts.magazine.Magazine as Magazine
 use Rattle.slot_chain.specs.contracts.buf.Buf as Buf
 use Rattle.digit_route.specs.contracts.batch.Batch as Batch
 use Rattle.digit_route.specs.contracts.cache.Cache as Cache
 
 pub chain_send : (a : NamedLft) → IsSend (Chain.the_row a)
-chain_send a = search (sendable, crosses, send-Node, send-Below, send-Beside, link_send, lease_send) depth 40 fits 6000
+chain_send a = search (sendable, crosses, send-Node, send-Below, link_send, lease_send) depth 40 fits 6000
 
 pub buf_send : (a : NamedLft) → IsSend (Buf.the_row a)
-buf_send a = search (sendable, crosses, send-Node, send-Below, send-Beside, link_send, lease_send) depth 40 fits 6000
+buf_send a = search (sendable, crosses, send-Node, send-Below, link_send, lease_send) depth 40 fits 6000
+
+pub magazine_send : (a : NamedLft) → IsSend (Magazine.the_row a)
+magazine_send a = search (sendable, crosses, chain_send, buf_send) depth 40 fits 6000
 
 pub batch_send : (a : NamedLft) → IsSend (Batch.the_row a)
-batch_send a = search (sendable, crosses, chain_send) depth 40 fits 6000
+batch_send a = search (sendable, crosses, magazine_send) depth 40 fits 6000
 
 pub cache_send : (a : NamedLft) → IsSend (Cache.the_row a)
-cache_send a = search (sendable, crosses, chain_send) depth 40 fits 6000
+cache_send a = search (sendable, crosses, magazine_send) depth 40 fits 6000

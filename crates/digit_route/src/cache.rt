@@ -16,18 +16,19 @@ use crate::row::Row;
 use crate::{Batch, BatchSink, Digits, Posting, RouteError};
 use region_cut::Slot;
 use region_cut::endings::Endings;
-use slot_chain::{Buf, NoMemory, Takers};
+use slot_chain::{Buf, NoMemory};
+use std::alloc::Global;
 use std::marker::Model;
 use std::{fmt, mem};
 
 /// The remote cache of a desk: freed buffers of other desks that wait to be posted.
 ///
-/// It is a row of at most 64 chains, one for each value of the owner's first digit, as snmalloc
+/// It is a row of at most 64 magazines, one for each value of the owner's first digit, as snmalloc
 /// keeps its remote deallocations (ISMM 2019). Each owner in it isn't the desk itself, is below 2
 /// to the power of the profile's bits, and shares at least as many digits with the desk as its
 /// buffer was passed on.
 ///
-/// No call but `list_slots` takes memory. The order of the buffers is open.
+/// No call but `list_slots` and [`Cache::make_room`] takes memory. The order of the buffers is open.
 #[must_use]
 #[derive(Drop)]
 pub struct Cache<'r> {
@@ -50,29 +51,14 @@ impl<'r> Model for Cache<'r> {
 }
 
 impl<'r> Cache<'r> {
-    /// An empty cache for the desk `number`. It is due once it has more than `limit` bytes. Any
-    /// thread may take its batches.
+    /// An empty cache for the desk `number`. It is due once it has more than `limit` bytes.
     pub fn new(number: u16, digits: Digits, limit: u64) -> Cache<'r>
         requires number { number < 2 ^ digits.bits }
         requires limit { limit ≤ largest_limit }
         ensures { result ≡ record { number = number; digits = digits; limit = limit; items = [] } }
     {
         Cache {
-            row: Row::new(number, digits, Takers::AnyThread),
-            limit,
-            bytes: 0,
-        }
-    }
-
-    /// An empty cache, as [`Cache::new`] makes it, for desks of one thread: then its lists are
-    /// linked in fewer steps. Its batches may go to other threads as well, where they cost more.
-    pub fn for_one_thread(number: u16, digits: Digits, limit: u64) -> Cache<'r>
-        requires number { number < 2 ^ digits.bits }
-        requires limit { limit ≤ largest_limit }
-        ensures { result ≡ record { number = number; digits = digits; limit = limit; items = [] } }
-    {
-        Cache {
-            row: Row::new(number, digits, Takers::SameThread),
+            row: Row::new(number, digits),
             limit,
             bytes: 0,
         }
@@ -192,7 +178,7 @@ impl<'r> Cache<'r> {
         ensures items { IsPermutation (self.old.items ++ batch.entry.items) self.new.items }
     {
         let size = batch.bytes();
-        self.row.push_all(batch.into_chain());
+        self.row.push_all(batch.into_magazine());
         self.bytes = self.bytes.saturating_add(size);
     }
 
@@ -228,9 +214,18 @@ impl<'r> Cache<'r> {
         ensures address { result.address ≡ t }
         ensures gives { GivesBucket self.old.digits self.old.number self.old.items result self.new.items }
     {
-        let chain = self.row.take_for(t);
-        self.bytes = bytes_left(self.bytes, chain.bytes_total(), &self.row);
-        self.row.batch(t, chain)
+        let magazine = self.row.take_for(t);
+        self.bytes = bytes_left(self.bytes, magazine.bytes_total(), &self.row);
+        self.row.batch(t, magazine)
+    }
+
+    /// Makes room for the pointers to what will be put here, as much as the batches had or wanted that
+    /// were taken out. What has no room is linked, which costs more where another thread takes it. For
+    /// desks of one thread it gains nothing. Where memory is refused, there is less room.
+    pub fn make_room(&mut self, alloc: Global)
+        ensures { self.new ≡ self.old }
+    {
+        self.row.make_room(alloc);
     }
 
     /// Takes out the bucket for some owner of a buffer in it, or says that the cache is empty.
@@ -280,7 +275,7 @@ impl<'r> Cache<'r> {
         ensures value { MatchOption result ((self.old.items ≡ []) × (self.new.items ≡ []))
             (λ b. GivesBucket self.old.digits self.old.number self.old.items b self.new.items) }
     {
-        let empty = Row::new(self.row.number(), self.row.digits(), self.row.takers());
+        let empty = Row::new(self.row.number(), self.row.digits());
         let row = mem::replace(&mut self.row, empty);
         let (batch, row) = first_batch(row, self.limit);
         self.bytes = bytes_left(self.bytes, bytes_of(&batch), &row);

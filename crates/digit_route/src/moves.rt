@@ -1,4 +1,4 @@
-//! Moves of buffers from chain to chain.
+//! Moves of buffers from magazine to magazine.
 ghost use Rattle.std.specs.Prelude.{◌≡◌, ◌^◌, ◌++◌, length, IsPermutation};
 ghost use Rattle.std.specs.List.{flat_map};
 ghost use Rattle.arrayvec.specs.ArrayVec.{array_vec_len};
@@ -6,72 +6,69 @@ ghost use Rattle.slot_chain.specs.Counts.{capped};
 ghost use Rattle.digit_route.specs.Rows.{IsByDigit, Splits};
 
 use crate::Digits;
-use crate::chains::{Chains, push_at};
-use slot_chain::{Chain, Takers};
+use crate::magazines::{Magazines, push_at};
+use slot_chain::Magazine;
 
-/// Moves each buffer of `chain` into the chain of its owner's digit `round`, and counts them.
+/// Moves each buffer of `magazine` into the magazine of its owner's digit `round`, and counts them.
 pub(crate) fn scatter<'r>(
-    chains: &mut Chains<'r>,
+    magazines: &mut Magazines<'r>,
     digits: Digits,
     round: u32,
-    chain: Chain<'r>,
-    takers: Takers,
+    magazine: Magazine<'r>,
 ) -> u64
-    requires { array_vec_len chains.old ≡ 2 ^ digits.width }
-    ensures by_digit { IsByDigit digits round chains.old.items → IsByDigit digits round chains.new.items }
-    ensures items { IsPermutation (flat_map (λ x. x) chains.old.items ++ chain.entry)
-        (flat_map (λ x. x) chains.new.items) }
-    ensures count { result ≡ capped (length chain.entry) }
-    ensures len { array_vec_len chains.new ≡ array_vec_len chains.old }
+    requires { array_vec_len magazines.old ≡ 2 ^ digits.width }
+    ensures by_digit { IsByDigit digits round magazines.old.items → IsByDigit digits round magazines.new.items }
+    ensures items { IsPermutation (flat_map (λ x. x) magazines.old.items ++ magazine.entry)
+        (flat_map (λ x. x) magazines.new.items) }
+    ensures count { result ≡ capped (length magazine.entry) }
+    ensures len { array_vec_len magazines.new ≡ array_vec_len magazines.old }
 {
-    let mut chain = chain;
+    let mut magazine = magazine;
     let mut moved = 0u64;
-    while let Some(item) = chain.pop() {
+    while let Some(item) = magazine.pop() {
         let k = digits.digit(item.owner(), round);
-        push_at(chains, k as usize, item, takers);
+        push_at(magazines, k as usize, item);
         moved = moved.saturating_add(1);
     }
     moved
 }
 
-/// Moves all buffers of `from` into the chains of their owners' digits `round`.
+/// Moves all buffers of `from` into the magazines of their owners' digits `round`.
 pub(crate) fn scatter_all<'r>(
-    chains: &mut Chains<'r>,
+    magazines: &mut Magazines<'r>,
     digits: Digits,
     round: u32,
-    from: Chains<'r>,
-    takers: Takers,
+    from: Magazines<'r>,
 )
-    requires { array_vec_len chains.old ≡ 2 ^ digits.width }
-    ensures by_digit { IsByDigit digits round chains.old.items → IsByDigit digits round chains.new.items }
-    ensures items { IsPermutation (flat_map (λ x. x) chains.old.items ++ flat_map (λ x. x) from.entry.items)
-        (flat_map (λ x. x) chains.new.items) }
-    ensures len { array_vec_len chains.new ≡ array_vec_len chains.old }
+    requires { array_vec_len magazines.old ≡ 2 ^ digits.width }
+    ensures by_digit { IsByDigit digits round magazines.old.items → IsByDigit digits round magazines.new.items }
+    ensures items { IsPermutation (flat_map (λ x. x) magazines.old.items ++ flat_map (λ x. x) from.entry.items)
+        (flat_map (λ x. x) magazines.new.items) }
+    ensures len { array_vec_len magazines.new ≡ array_vec_len magazines.old }
 {
     let mut from = from;
-    while let Some(chain) = from.pop() {
-        let _moved = scatter(chains, digits, round, chain, takers);
+    while let Some(magazine) = from.pop() {
+        let _moved = scatter(magazines, digits, round, magazine);
     }
 }
 
-/// Parts a chain: the buffers whose owners share more than `near` digits with `t`, and the others.
+/// Parts a magazine: the buffers whose owners share more than `near` digits with `t`, and the others.
 pub(crate) fn split<'r>(
-    chain: Chain<'r>,
+    magazine: Magazine<'r>,
     digits: Digits,
     near: u32,
     t: u16,
-    takers: Takers,
-) -> (Chain<'r>, Chain<'r>)
-    ensures { Splits digits near t chain.entry result.0 result.1 }
+) -> (Magazine<'r>, Magazine<'r>)
+    ensures { Splits digits near t magazine.entry result.0 result.1 }
 {
-    let mut chain = chain;
-    let mut nearer = Chain::new();
-    let mut others = Chain::new();
-    while let Some(item) = chain.pop() {
+    let mut magazine = magazine;
+    let mut nearer = Magazine::new();
+    let mut others = Magazine::new();
+    while let Some(item) = magazine.pop() {
         if digits.common(item.owner(), t) > near {
-            takers.push(&mut nearer, item);
+            nearer.push(item);
         } else {
-            takers.push(&mut others, item);
+            others.push(item);
         }
     }
     (nearer, others)

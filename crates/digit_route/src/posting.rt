@@ -15,8 +15,8 @@ use std::marker::Model;
 /// A cache that is being posted, one round for each digit.
 ///
 /// In round `j`, from 0, the owners that are left share the digits below `j` with the desk, and the
-/// buffers stand in a row by digit `j`. Each chain of the row but that of the desk's own digit is
-/// handed out whole, to some owner in it. Then the chain of the desk's own digit is moved, buffer
+/// buffers stand in a row by digit `j`. Each magazine of the row but that of the desk's own digit is
+/// handed out whole, to some owner in it. Then the magazine of the desk's own digit is moved, buffer
 /// by buffer, into the row of round `j + 1`. So a buffer is moved once for each digit that its
 /// owner shares with the desk, less often than a number has digits.
 ///
@@ -107,9 +107,9 @@ impl<'r> Posting<'r> {
         loop {
             match self.row.find_other() {
                 Some(k) => {
-                    let chain = self.row.take(k);
-                    let address = some_owner(&chain);
-                    return Some(self.row.batch(address, chain));
+                    let magazine = self.row.take(k);
+                    let address = some_owner(&magazine);
+                    return Some(self.row.batch(address, magazine));
                 }
                 None => {
                     if self.row.is_empty() {

@@ -9,26 +9,26 @@ ghost use Rattle.digit_route.specs.Rows.{IsLeft, Keeps};
 ghost use Rattle.slot_chain.specs.Slots.{AddsSlots, slot_of};
 ghost use Rattle.digit_route.specs.Route.{GivesBucket};
 
-use crate::chains::{
-    Chains, all_empty, bytes, empty_chains, end_all, find_other, len, list_slots, push_at, set_at,
-    take_at,
+use crate::magazines::{
+    Magazines, all_empty, bytes, empty_magazines, end_all, find_other, len, list_slots, make_room,
+    push_at, set_at, take_at,
 };
 use crate::moves::{scatter, scatter_all, split};
 use crate::walks::{fault_in, some_owner};
 use crate::{Batch, Digits, RouteError};
 use region_cut::Slot;
 use region_cut::endings::Endings;
-use slot_chain::{Buf, Chain, NoMemory, Takers};
+use slot_chain::{Buf, Magazine, NoMemory};
+use std::alloc::Global;
 use std::marker::Model;
 
 /// Buffers of other desks that share the digits below `round` with the desk `number`, each in the
-/// chain of its owner's digit `round`.
+/// magazine of its owner's digit `round`.
 pub(crate) struct Row<'r> {
     number: u16,
     digits: Digits,
     round: u32,
-    takers: Takers,
-    chains: Chains<'r>,
+    magazines: Magazines<'r>,
 }
 
 impl<'r> Model for Row<'r> {
@@ -41,10 +41,10 @@ impl<'r> Model for Row<'r> {
       number = r.number;
       digits = r.digits;
       round = r.round;
-      items = flat_map (λ x. x) r.chains.items;
+      items = flat_map (λ x. x) r.magazines.items;
     } };
 
-    ghost invariant = { λ r. IsRow r.digits r.number r.round r.chains.items };
+    ghost invariant = { λ r. IsRow r.digits r.number r.round r.magazines.items };
 }
 
 // By hand, so that the drop of its array is proved here once, and not again in each crate that lets a
@@ -55,33 +55,26 @@ impl Drop for Row<'_> {
             number: _,
             digits: _,
             round: _,
-            takers: _,
-            chains,
+            magazines,
         } = self;
-        drop(chains);
+        drop(magazines);
     }
 }
 
 impl<'r> Row<'r> {
     /// An empty row, by the first digit.
-    pub(crate) fn new(number: u16, digits: Digits, takers: Takers) -> Row<'r>
+    pub(crate) fn new(number: u16, digits: Digits) -> Row<'r>
         requires { number < 2 ^ digits.bits }
         ensures { result ≡ record { number = number; digits = digits; round = 0; items = [] } }
     {
         let _known = digits.count();
-        let chains = empty_chains(digits.values());
+        let magazines = empty_magazines(digits.values());
         Row {
             number,
             digits,
             round: 0,
-            takers,
-            chains,
+            magazines,
         }
-    }
-
-    /// Who takes its buffers.
-    pub(crate) fn takers(&self) -> Takers {
-        self.takers
     }
 
     /// The desk.
@@ -108,25 +101,32 @@ impl<'r> Row<'r> {
         self.round
     }
 
+    /// Makes room for what comes.
+    pub(crate) fn make_room(&mut self, alloc: Global)
+        ensures { self.new ≡ self.old }
+    {
+        make_room(&mut self.magazines, alloc);
+    }
+
     /// Whether no buffer is left.
     pub(crate) fn is_empty(&self) -> bool
         ensures { IsTrue result ↔ (self.now.items ≡ []) }
     {
-        all_empty(self.chains.as_slice())
+        all_empty(self.magazines.as_slice())
     }
 
     /// How many buffers there are, or the greatest `u64`, found by a walk.
     pub(crate) fn len(&self) -> u64
         ensures { result ≡ capped (length self.now.items) }
     {
-        len(self.chains.as_slice())
+        len(self.magazines.as_slice())
     }
 
     /// The sum of the sizes in bytes, or the greatest `u64`, found by a walk.
     pub(crate) fn bytes(&self) -> u64
         ensures { result ≡ capped (sizes self.now.items) }
     {
-        bytes(self.chains.as_slice())
+        bytes(self.magazines.as_slice())
     }
 
     /// Adds the slots of all buffers, or none.
@@ -134,7 +134,7 @@ impl<'r> Row<'r> {
         ensures ok { OnOk result (AddsSlots (map slot_of self.now.items) slots.old.items slots.new.items) }
         ensures err { OnErr result (slots.new.items ≡ slots.old.items) }
     {
-        list_slots(self.chains.as_slice(), slots)
+        list_slots(self.magazines.as_slice(), slots)
     }
 
     /// Lets go all buffers.
@@ -145,10 +145,9 @@ impl<'r> Row<'r> {
             number: _,
             digits: _,
             round: _,
-            takers: _,
-            chains,
+            magazines,
         } = self;
-        end_all(chains, endings);
+        end_all(magazines, endings);
     }
 
     /// Adds a buffer to a row by the first digit.
@@ -159,22 +158,16 @@ impl<'r> Row<'r> {
         ensures items { IsPermutation (self.old.items ++ item.entry ∷ []) self.new.items }
     {
         let k = self.digits.digit(item.owner(), 0);
-        push_at(&mut self.chains, k as usize, item, self.takers);
+        push_at(&mut self.magazines, k as usize, item);
     }
 
-    /// Adds the buffers of a chain.
-    pub(crate) fn push_all(&mut self, chain: Chain<'r>)
-        requires { All (IsLeft self.old.digits self.old.number self.old.round) chain }
+    /// Adds the buffers of a magazine.
+    pub(crate) fn push_all(&mut self, magazine: Magazine<'r>)
+        requires { All (IsLeft self.old.digits self.old.number self.old.round) magazine }
         ensures same { self.new ≡ record self.old { items = self.new.items } }
-        ensures items { IsPermutation (self.old.items ++ chain.entry) self.new.items }
+        ensures items { IsPermutation (self.old.items ++ magazine.entry) self.new.items }
     {
-        let _moved = scatter(
-            &mut self.chains,
-            self.digits,
-            self.round,
-            chain,
-            self.takers,
-        );
+        let _moved = scatter(&mut self.magazines, self.digits, self.round, magazine);
     }
 
     /// Why no bucket for `t` is taken.
@@ -187,7 +180,7 @@ impl<'r> Row<'r> {
         }
         let k = self.digits.digit(t, 0);
         fault_in(
-            &self.chains.as_slice()[k as usize],
+            &self.magazines.as_slice()[k as usize],
             self.digits,
             self.number,
             t,
@@ -195,7 +188,7 @@ impl<'r> Row<'r> {
     }
 
     /// Takes out the bucket for `t`.
-    pub(crate) fn take_for(&mut self, t: u16) -> Chain<'r>
+    pub(crate) fn take_for(&mut self, t: u16) -> Magazine<'r>
         requires { self.old.round ≡ 0 }
         ensures same { self.new ≡ record self.old { items = self.new.items } }
         ensures taken { TakesBucket self.old.digits self.old.number t self.old.items result self.new.items }
@@ -203,9 +196,9 @@ impl<'r> Row<'r> {
     {
         let near = self.digits.common(self.number, t);
         let k = self.digits.digit(t, 0) as usize;
-        let whole = take_at(&mut self.chains, k);
-        let (nearer, others) = split(whole, self.digits, near, t, self.takers);
-        set_at(&mut self.chains, k, others);
+        let whole = take_at(&mut self.magazines, k);
+        let (nearer, others) = split(whole, self.digits, near, t);
+        set_at(&mut self.magazines, k, others);
         nearer
     }
 
@@ -219,14 +212,14 @@ impl<'r> Row<'r> {
             × Any (λ (b : Buffer). digit self.now.digits b.owner self.now.round ≡ k) self.now.items) }
     {
         let own = self.digits.digit(self.number, self.round);
-        match find_other(self.chains.as_slice(), own as usize) {
+        match find_other(self.magazines.as_slice(), own as usize) {
             None => None,
             Some(k) => Some(k as u16),
         }
     }
 
     /// Takes out all buffers whose owners have the digit `k`.
-    pub(crate) fn take(&mut self, k: u16) -> Chain<'r>
+    pub(crate) fn take(&mut self, k: u16) -> Magazine<'r>
         requires { k < 2 ^ self.old.digits.width }
         ensures same { self.new ≡ record self.old { items = self.new.items } }
         ensures items { IsPermutation self.old.items (result ++ self.new.items) }
@@ -234,7 +227,7 @@ impl<'r> Row<'r> {
         ensures all { All (λ (b : Buffer). digit self.old.digits b.owner self.old.round ≢ k) self.new.items }
         ensures left { All (IsLeft self.old.digits self.old.number self.old.round) self.old.items }
     {
-        take_at(&mut self.chains, k as usize)
+        take_at(&mut self.magazines, k as usize)
     }
 
     /// Takes out a batch of this round: the bucket for an owner whose digit isn't the desk's own.
@@ -249,25 +242,25 @@ impl<'r> Row<'r> {
     {
         match self.find_other() {
             Some(k) => {
-                let chain = self.take(k);
-                let address = some_owner(&chain);
-                Some(self.batch(address, chain))
+                let magazine = self.take(k);
+                let address = some_owner(&magazine);
+                Some(self.batch(address, magazine))
             }
             None => None,
         }
     }
 
-    /// The batch of the desk's own that has the chain's buffers.
-    pub(crate) fn batch(&self, address: u16, chain: Chain<'r>) -> Batch<'r>
-        requires { IsWellRouted self.now.digits self.now.number address chain }
+    /// The batch of the desk's own that has the magazine's buffers.
+    pub(crate) fn batch(&self, address: u16, magazine: Magazine<'r>) -> Batch<'r>
+        requires { IsWellRouted self.now.digits self.now.number address magazine }
         ensures { result ≡ record {
           sender = self.now.number;
           address = address;
           digits = self.now.digits;
-          items = chain.entry;
+          items = magazine.entry;
         } }
     {
-        Batch::new(self.number, address, self.digits, chain)
+        Batch::new(self.number, address, self.digits, magazine)
     }
 
     /// Goes on to the next digit, where all owners that are left have the desk's own, and counts
@@ -282,15 +275,9 @@ impl<'r> Row<'r> {
         ensures keeps { Keeps self.new }
     {
         let own = self.digits.digit(self.number, self.round);
-        let chain = take_at(&mut self.chains, own as usize);
+        let magazine = take_at(&mut self.magazines, own as usize);
         self.round += 1;
-        scatter(
-            &mut self.chains,
-            self.digits,
-            self.round,
-            chain,
-            self.takers,
-        )
+        scatter(&mut self.magazines, self.digits, self.round, magazine)
     }
 
     /// The same buffers by the first digit.
@@ -305,17 +292,15 @@ impl<'r> Row<'r> {
             number,
             digits,
             round: _,
-            takers,
-            chains,
+            magazines,
         } = self;
-        let mut fresh = empty_chains(digits.values());
-        scatter_all(&mut fresh, digits, 0, chains, takers);
+        let mut fresh = empty_magazines(digits.values());
+        scatter_all(&mut fresh, digits, 0, magazines);
         Row {
             number,
             digits,
             round: 0,
-            takers,
-            chains: fresh,
+            magazines: fresh,
         }
     }
 }

@@ -1,31 +1,36 @@
-//! What is found by a walk along one chain.
+//! What is found by a walk along one magazine.
 ghost use Rattle.std.specs.Prelude.{◌≡◌, ◌≢◌, [], Any};
 ghost use Rattle.slot_chain.specs.Buffer.{Buffer};
 ghost use Rattle.digit_route.specs.Digits.{Scheme};
 ghost use Rattle.digit_route.specs.Route.{RouteFault};
 
 use crate::{Digits, RouteError};
-use slot_chain::Chain;
+use slot_chain::Magazine;
 
-/// The owner of some buffer of the chain.
-pub(crate) fn some_owner(chain: &Chain<'_>) -> u16
-    requires { chain.now ≢ [] }
-    ensures { Any (λ (b : Buffer). b.owner ≡ result) chain.now }
+/// The owner of some buffer of the magazine.
+pub(crate) fn some_owner(magazine: &Magazine<'_>) -> u16
+    requires { magazine.now ≢ [] }
+    ensures { Any (λ (b : Buffer). b.owner ≡ result) magazine.now }
 {
-    match chain.walk().next() {
+    match magazine.walk().next() {
         Some(tag) => tag.owner,
         None => unreachable!(),
     }
 }
 
-/// Why desk `a` takes no bucket for `t` out of this chain.
-pub(crate) fn fault_in(chain: &Chain<'_>, digits: Digits, a: u16, t: u16) -> Option<RouteError>
+/// Why desk `a` takes no bucket for `t` out of this magazine.
+pub(crate) fn fault_in(
+    magazine: &Magazine<'_>,
+    digits: Digits,
+    a: u16,
+    t: u16,
+) -> Option<RouteError>
     requires { t ≢ a }
-    ensures { RouteFault digits a t chain.now result }
+    ensures { RouteFault digits a t magazine.now result }
 {
     let near = digits.common(a, t);
     let mut found = false;
-    for tag in chain.walk() {
+    for tag in magazine.walk() {
         if digits.common(tag.owner, t) > near {
             if tag.owner == t {
                 return None;

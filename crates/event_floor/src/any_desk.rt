@@ -37,7 +37,7 @@ pub(crate) fn idle_desks<'r>(
 {
     let mut desks = Vec::with_capacity(alloc, count as usize)?;
     for number in 0..count {
-        let desk = IdleDesk::for_one_thread(number as u16, digits, limit);
+        let desk = IdleDesk::new(number as u16, digits, limit);
         desks.push_reserved(AnyDesk::Idle(desk));
     }
     Ok(desks)

@@ -124,7 +124,7 @@ impl<'r> Inbox<'r> {
         let Inbox { batches } = self;
         let mut batches = batches;
         while let Some(queued) = batches.pop_back() {
-            queued.into_batch().into_chain().end(endings);
+            queued.into_batch().into_magazine().end(endings);
         }
     }
 

@@ -25,8 +25,8 @@ pub fn mark(buf: &mut Buf<'_>, number: u16)
 pub fn mark_of(batch: Batch<'_>) -> Option<u16>
     ensures { IfSome result (λ n. HasMark n batch.entry.items) }
 {
-    let mut chain = batch.into_chain();
-    let buf = chain.pop()?;
+    let mut magazine = batch.into_magazine();
+    let buf = magazine.pop()?;
     let bytes = buf.bytes();
     if bytes.len() >= 2 {
         return Some(u16::from_le_bytes([bytes[0], bytes[1]]));

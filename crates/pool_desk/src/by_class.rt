@@ -16,7 +16,7 @@ use crate::home::Home;
 use arrayvec::ArrayVec;
 use region_cut::endings::Endings;
 use region_cut::{Class, SIZES, Slot};
-use slot_chain::{NoMemory, Takers};
+use slot_chain::NoMemory;
 
 // There is a home for each class, also for those that the profile doesn't use.
 const CLASSES: usize = SIZES.len();
@@ -25,7 +25,7 @@ pub(crate) type ByClass<'r> = ArrayVec<Home<'r>, CLASSES>;
 
 /// Empty homes of all classes.
 #[tactic(auto, using(crate::proofs::ByClassLaws::empties_length), unfolding(crate::specs::HomesState::empties))]
-pub(crate) fn empty_homes<'r>(owner: u16, takers: Takers) -> ByClass<'r>
+pub(crate) fn empty_homes<'r>(owner: u16) -> ByClass<'r>
     requires { owner < owner_limit }
     ensures { result.items ≡ empties owner class_count }
 {
@@ -34,7 +34,7 @@ pub(crate) fn empty_homes<'r>(owner: u16, takers: Takers) -> ByClass<'r>
         let Some(class) = Class::new(k) else {
             unreachable!();
         };
-        homes.push(Home::new(owner, class, takers));
+        homes.push(Home::new(owner, class));
     }
     homes
 }

@@ -31,7 +31,7 @@ use std::marker::Model;
 /// freed here.
 ///
 /// Nothing of it is shared, so no call waits. Only [`Desk::alloc`] of a slot that was never handed
-/// out takes memory, and `list_slots`.
+/// out takes memory, [`Desk::make_room`], and the listings.
 #[must_use]
 #[derive(Drop)]
 pub struct Desk<'r> {
@@ -210,10 +210,10 @@ impl<'r> Desk<'r> {
         ensures parts { Handles self.old batch.entry.items self.new }
         ensures counts { CountsOf self.old.number batch.entry.items result }
     {
-        let mut chain = batch.into_chain();
+        let mut magazine = batch.into_magazine();
         let mut home = 0u64;
         let mut on = 0u64;
-        while let Some(buf) = chain.pop_ahead() {
+        while let Some(buf) = magazine.pop() {
             if self.handle_one(buf) {
                 home = home.saturating_add(1);
             } else {
@@ -275,6 +275,16 @@ impl<'r> Desk<'r> {
             (λ b. All (λ (x : Buffer). common self.old.digits x.owner self.old.number ≡ 0) b.items) }
     {
         self.cache.next_of_first_round()
+    }
+
+    /// Makes room for the pointers to others' buffers that will be freed here, as much as the batches
+    /// had or wanted that were taken out of the cache: to be called after a post. What has no room is
+    /// linked, which costs more where another thread takes it. For desks of one thread it gains
+    /// nothing. Where memory is refused, there is less room.
+    pub fn make_room(&mut self, alloc: Global)
+        ensures { self.new ≡ self.old }
+    {
+        self.cache.make_room(alloc);
     }
 
     /// Takes back into the cache a batch of this desk that could not be posted. Takes no memory.

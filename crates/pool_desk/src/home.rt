@@ -13,7 +13,7 @@ use crate::DeskError;
 use crate::listing::add_unused;
 use region_cut::endings::{Endings, Ties};
 use region_cut::{Bump, Class, Part, Slot};
-use slot_chain::{Buf, Chain, NoMemory, Takers};
+use slot_chain::{Buf, Chain, NoMemory, Room};
 use std::alloc::Global;
 use std::marker::Model;
 
@@ -23,10 +23,11 @@ use std::marker::Model;
 pub(crate) struct Home<'r> {
     owner: u16,
     class: Class,
-    takers: Takers,
     list: Chain<'r>,
     bump: Option<Bump<'r>>,
     ties: Ties,
+    // Nothing reads it. With it a home takes 64 bytes, so that its place in a row is a shift away.
+    apart: u64,
 }
 
 impl<'r> Model for Home<'r> {
@@ -56,23 +57,23 @@ impl Default for Home<'_> {
     ghost is_default = { λ h. h ≡ no_home };
 
     fn default() -> Self {
-        Home::new(0, Class::FIRST, Takers::SameThread)
+        Home::new(0, Class::FIRST)
     }
 }
 
 impl<'r> Home<'r> {
-    /// Nothing is at home. `takers` are those of the desk's lists.
-    pub(crate) fn new(owner: u16, class: Class, takers: Takers) -> Home<'r>
+    /// Nothing is at home.
+    pub(crate) fn new(owner: u16, class: Class) -> Home<'r>
         requires { owner < owner_limit }
         ensures { result ≡ record { owner = owner; class = class; slots = []; drawn = [] } }
     {
         Home {
             owner,
             class,
-            takers,
             list: Chain::new(),
             bump: None,
             ties: Ties::new(),
+            apart: 0,
         }
     }
 
@@ -118,7 +119,7 @@ impl<'r> Home<'r> {
         let Some(bump) = &mut self.bump else {
             return Err(DeskError::NeedChunk(self.class));
         };
-        next_slot(bump, alloc, self.takers, self.class, self.owner)
+        next_slot(bump, alloc, self.class, self.owner)
     }
 
     /// Takes an own buffer home.
@@ -162,10 +163,10 @@ impl<'r> Home<'r> {
         let Home {
             owner: _,
             class: _,
-            takers: _,
             list,
             bump,
             ties,
+            apart: _,
         } = self;
         list.end(endings);
         endings.keep(ties);
@@ -179,7 +180,6 @@ impl<'r> Home<'r> {
 fn next_slot<'r>(
     bump: &mut Bump<'r>,
     alloc: Global,
-    takers: Takers,
     class: Class,
     owner: u16,
 ) -> Result<Buf<'r>, DeskError>
@@ -191,7 +191,7 @@ fn next_slot<'r>(
     if bump.left() == 0 {
         return Err(DeskError::NeedChunk(class));
     }
-    match make(bump, alloc, takers, class, owner) {
+    match make(bump, alloc, class, owner) {
         Ok(buf) => Ok(buf),
         Err(NoMemory) => Err(DeskError::NoMemory),
     }
@@ -204,7 +204,6 @@ fn next_slot<'r>(
 fn make<'r>(
     bump: &mut Bump<'r>,
     alloc: Global,
-    takers: Takers,
     class: Class,
     owner: u16,
 ) -> Result<Buf<'r>, NoMemory>
@@ -216,7 +215,7 @@ fn make<'r>(
         (λ b. GivesNext owner class bump.old b bump.new)
         (λ _. bump.new ≡ bump.old) }
 {
-    let room = takers.room(alloc)?;
+    let room = Room::new(alloc)?;
     let Some(piece) = bump.next() else {
         unreachable!();
     };

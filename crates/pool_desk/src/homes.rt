@@ -13,7 +13,7 @@ use crate::DeskError;
 use crate::by_class::{ByClass, add_all, count_all, empty_homes, end_all};
 use region_cut::endings::Endings;
 use region_cut::{Class, Part, Slot};
-use slot_chain::{Buf, NoMemory, Takers};
+use slot_chain::{Buf, NoMemory};
 use std::alloc::Global;
 use std::marker::Model;
 
@@ -49,29 +49,14 @@ impl Drop for Homes<'_> {
 }
 
 impl<'r> Homes<'r> {
-    /// Nothing is at home. Its buffers may go to any thread.
+    /// Nothing is at home.
     pub(crate) fn new(owner: u16) -> Homes<'r>
-        requires { owner < owner_limit }
-        ensures { result ≡ record { owner = owner; slots = []; drawn = [] } }
-    {
-        Homes::of(owner, Takers::AnyThread)
-    }
-
-    /// The same where all desks are on one thread.
-    pub(crate) fn for_one_thread(owner: u16) -> Homes<'r>
-        requires { owner < owner_limit }
-        ensures { result ≡ record { owner = owner; slots = []; drawn = [] } }
-    {
-        Homes::of(owner, Takers::SameThread)
-    }
-
-    fn of(owner: u16, takers: Takers) -> Homes<'r>
         requires { owner < owner_limit }
         ensures { result ≡ record { owner = owner; slots = []; drawn = [] } }
     {
         Homes {
             owner,
-            by_class: empty_homes(owner, takers),
+            by_class: empty_homes(owner),
         }
     }
 

@@ -59,21 +59,6 @@ impl<'r> IdleDesk<'r> {
         }
     }
 
-    /// A desk, as [`IdleDesk::new`] makes it, of a pool that is on one thread: then a buffer goes
-    /// home from another desk in fewer steps, and takes 112 bytes of memory in place of 240. Its
-    /// batches may go to other threads as well, where they cost more.
-    pub fn for_one_thread(number: u16, digits: Digits, limit: u64) -> IdleDesk<'r>
-        requires number { number < 2 ^ digits.bits }
-        requires limit { limit ≤ largest_limit }
-        ensures { result ≡ record { number = number; digits = digits; limit = limit; home = []; drawn = [] } }
-    {
-        let _profile = digits.profile();
-        IdleDesk {
-            homes: Homes::for_one_thread(number),
-            cache: Cache::for_one_thread(number, digits, limit),
-        }
-    }
-
     /// Its number, by which its buffers name their owner.
     ///
     /// Its contract also tells what the type keeps of every desk: each buffer that came home is the

@@ -99,6 +99,14 @@ impl<'r, T: Receiver, S: Sender, J: Naming> HeldStation<'r, T, S, J> {
         self.desk.free(buf)
     }
 
+    /// Makes room for the pointers to others' buffers that will be freed here, as [`Desk::make_room`]
+    /// does: to be called after a post.
+    pub fn make_room(&mut self, alloc: Global)
+        ensures { self.new ≡ self.old }
+    {
+        self.desk.make_room(alloc);
+    }
+
     /// The station without its worker, where the desk's cache is empty. Where it isn't, all stays.
     pub fn retire(self) -> Result<Station<'r, T, S, J>, HeldStation<'r, T, S, J>>
         ensures { let s = self.entry in MatchResult result

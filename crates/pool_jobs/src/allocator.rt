@@ -189,7 +189,8 @@ impl<
 
     // Posts all that is cached, unless a post was refused and little has come since. A refused one
     // costs as much as the cache is long, so the cache grows by a quarter before the next. What came
-    // is taken first, since it may have to go on to others.
+    // is taken first, since it may have to go on to others. Behind the post there is room again for the
+    // pointers to what will be freed.
     #[cold]
     #[inline(never)]
     fn post_again<R: Wait>(&mut self, rt: &R)
@@ -201,6 +202,7 @@ impl<
         }
         self.look(rt);
         self.station.post(rt, self.fabric);
+        self.station.make_room(self.alloc);
         let left = self.station.cached_bytes();
         self.post_from = left.saturating_add(left / 4);
     }

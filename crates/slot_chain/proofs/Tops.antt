@@ -20,14 +20,14 @@ not_empty (a ∷ bs) b cs e = subst is_cons e tt
 
 none_at : (m : Option Node) → buffers_at m ≡ [] → m ≡ None
 none_at None e = refl
-none_at (Some n) e = absurd (not_empty (held n.below) (buffer_of n) n.beside e)
+none_at (Some n) e = absurd (not_empty (held n.below) (buffer_of n) [] e)
 
 pub empty_is_none : (l : Link Node) → buffers_of l ≡ [] → l.value ≡ None
 empty_is_none l e = none_at l.value e
 
 moved_at : (m : Option Node) (p : Ptr) → held (below_at m p) ≡ [] → m ≡ None
 moved_at None p e = refl
-moved_at (Some n) p e = absurd (not_empty (held n.below) (buffer_of n) n.beside e)
+moved_at (Some n) p e = absurd (not_empty (held n.below) (buffer_of n) [] e)
 
 -- nothing is held where nothing is below
 pub unheld_is_none : (l : Link Node) → held (below_of l) ≡ [] → l.value ≡ None
@@ -56,3 +56,8 @@ list_at (Some n) p h = refl
 
 pub list_is_there : (l : Link Node) → is_list l → below_of l ≡ Some (buffers_of l)
 list_is_there l h = list_at l.value l.at h.0
+
+-- nothing stands before the end of an empty list
+pub front_is_none : (bs cs : List Buffer) → bs ++ cs ≡ [] → bs ≡ []
+front_is_none [] cs e = refl
+front_is_none (b ∷ bs) cs e = absurd (subst is_cons e tt)

@@ -64,26 +64,6 @@ impl<'r> Below<'r> {
         }
     }
 
-    /// Touches the box on top of the chain, where there is one: a write that nothing reads, so that
-    /// nobody waits for it.
-    #[cold]
-    #[inline(never)]
-    pub(crate) fn touch(&mut self)
-        requires { self.old ≢ None }
-        ensures { self.new ≡ self.old }
-    {
-        let chain = self.leave();
-        if chain.is_empty() {
-            self.set(chain);
-            return;
-        }
-        let mut node = chain.into_box();
-        node.apart[6] = 0;
-        self.set(Chain {
-            top: Link::of(node),
-        });
-    }
-
     /// The chain.
     #[tactic(auto, using(crate::proofs::Tops::is_list_there))]
     #[inline]

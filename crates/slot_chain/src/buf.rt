@@ -4,6 +4,7 @@ ghost use Rattle.std.specs.Ptr.{block_ptr};
 ghost use Rattle.region_cut.specs.Classes.{size_of};
 
 use crate::node::Node;
+use crate::walk::Tag;
 use region_cut::endings::Front;
 use region_cut::{Class, Slot};
 use std::convert::AsSlice;
@@ -117,6 +118,15 @@ impl<'r> Buf<'r> {
     {
         let (at, len) = self.words();
         unsafe { slice::from_raw_parts_mut(at, len) }
+    }
+
+    /// What a walk shows of it.
+    pub(crate) fn tag(&self) -> Tag
+        ensures slot { result.slot ≡ self.now.slot }
+        ensures class { result.class ≡ self.now.class }
+        ensures owner { result.owner ≡ self.now.owner }
+    {
+        self.node.tag()
     }
 
     /// Gives up the box, and gives the bytes back, of which nothing is lent, to be let go.

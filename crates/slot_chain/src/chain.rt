@@ -10,14 +10,14 @@ use crate::buf::Buf;
 use crate::error::NoMemory;
 use crate::link::Link;
 use crate::node::Node;
-use crate::walk::Walk;
+use crate::walk::{Walk, add_slots, bytes_in};
 use region_cut::Slot;
 use region_cut::endings::Endings;
 use std::fmt;
 use std::marker::Model;
 
 /// A list of buffers. In contracts a chain is that list; its last buffer is on top, where
-/// [`Chain::push`], [`Chain::push_beside`] and [`Chain::pop`] work.
+/// [`Chain::push`] and [`Chain::pop`] work.
 ///
 /// A chain is one pointer. No call takes memory, none can fail, and none changes or copies a
 /// buffer. A chain may be dropped, with all its buffers, however long it is.
@@ -43,9 +43,8 @@ impl<'r> Model for Chain<'r> {
 impl Drop for Chain<'_> {
     fn drop(mut self) {
         while !self.top.is_empty() {
-            let (lease, below, beside) = Box::into_inner(self.into_box()).into_parts();
+            let (lease, below) = Box::into_inner(self.into_box()).into_parts();
             drop(lease);
-            drop(beside);
             self = below.into_chain();
         }
         self.close();
@@ -97,8 +96,7 @@ impl<'r> Chain<'r> {
         self.into_top().close();
     }
 
-    /// Puts a buffer on top, in a box of its own: for a list that stays with its thread. Takes
-    /// constant time.
+    /// Puts a buffer on top, which writes to its box. Takes constant time.
     pub fn push(&mut self, buf: Buf<'r>)
         ensures { self.new ≡ self.old ++ buf.entry ∷ [] }
     {
@@ -107,41 +105,6 @@ impl<'r> Chain<'r> {
             top: self.top.leave(),
         });
         self.top.set(Link::of(node));
-    }
-
-    /// Puts a buffer on top, as [`Chain::push`] does: for a list that goes to another thread. Takes
-    /// constant time.
-    ///
-    /// `push` writes to the box of each buffer. Where a buffer then goes to another thread, the
-    /// cache line of its box has to move from core to core. Here the box on top names up to fifteen
-    /// more buffers, whose own boxes are not written to: of sixteen buffers only one is. A box with
-    /// no room for others ([`crate::Room::for_one_thread`]) names none. For a list that stays, `push`
-    /// is better: [`Chain::pop`] takes fewer steps where a box names no others.
-    pub fn push_beside(&mut self, buf: Buf<'r>)
-        ensures { self.new ≡ self.old ++ buf.entry ∷ [] }
-    {
-        if let Some(buf) = self.offer(buf) {
-            self.push(buf);
-        }
-    }
-
-    // Lets the box on top name a buffer, where there is one with room.
-    #[inline]
-    fn offer(&mut self, buf: Buf<'r>) -> Option<Buf<'r>>
-        ensures { MatchOption result
-            (self.new ≡ self.old ++ buf.entry ∷ [])
-            (λ b. (b ≡ buf.entry) × (self.new ≡ self.old)) }
-    {
-        if self.is_empty() {
-            return Some(buf);
-        }
-        let mut node = Chain {
-            top: self.top.leave(),
-        }
-        .into_box();
-        let left = node.beside.offer(buf);
-        self.top.set(Link::of(node));
-        left
     }
 
     /// Takes the buffer on top, which came last, or `None` where there is none. Takes constant
@@ -156,47 +119,8 @@ impl<'r> Chain<'r> {
             top: self.top.leave(),
         }
         .into_box();
-        match node.beside.pop() {
-            None => {
-                self.top.set(node.below.leave().into_top());
-                Some(Buf { node })
-            }
-            Some(named) => {
-                self.top.set(Link::of(node));
-                Some(named)
-            }
-        }
-    }
-
-    /// Takes the buffer on top, as [`Chain::pop`] does: of a list that came from another thread.
-    ///
-    /// There the next box that names others lies in a cache line that the other thread wrote to last.
-    /// It is asked for when the first of those is taken that the box on top names, so that it is there
-    /// when the last of them is.
-    #[inline]
-    pub fn pop_ahead(&mut self) -> Option<Buf<'r>>
-        ensures { MatchOption result ((self.old ≡ []) × (self.new ≡ [])) (λ b. self.old ≡ self.new ++ b ∷ []) }
-    {
-        self.look_ahead();
-        self.pop()
-    }
-
-    // Touches what is below the box on top, where that names all that it has room for.
-    #[inline]
-    fn look_ahead(&mut self)
-        ensures { self.new ≡ self.old }
-    {
-        if self.is_empty() {
-            return;
-        }
-        let mut node = Chain {
-            top: self.top.leave(),
-        }
-        .into_box();
-        if node.beside.is_full() {
-            node.below.touch();
-        }
-        self.top.set(Link::of(node));
+        self.top.set(node.below.leave().into_top());
+        Some(Buf { node })
     }
 
     // Moves the top buffer, and says whether there was one.
@@ -217,8 +141,7 @@ impl<'r> Chain<'r> {
     /// Puts all buffers of `other` on top, in their order, and leaves it empty.
     ///
     /// Takes time for the length of `other` alone, which is turned round, and back as its buffers
-    /// are put on top: two moves for each, after which it is in a box of its own. None of the
-    /// buffers that are here already is looked at.
+    /// are put on top: two moves for each. None of the buffers that are here already is looked at.
     #[tactic(auto, using(crate::proofs::Sums::reverse_push, crate::proofs::Sums::append_push))]
     pub fn append(&mut self, other: &mut Chain<'r>)
         ensures list { self.new ≡ self.old ++ other.old }
@@ -237,9 +160,7 @@ impl<'r> Chain<'r> {
         let mut at = &self.top;
         while !at.is_empty() {
             let node = at.get();
-            count = count
-                .saturating_add(1)
-                .saturating_add(node.beside.len() as u64);
+            count = count.saturating_add(1);
             at = node.below.get();
         }
         count
@@ -247,16 +168,10 @@ impl<'r> Chain<'r> {
 
     /// The sum of the sizes of the buffers in bytes, each that of its class, or the greatest `u64`
     /// where that is less. It is counted by a walk.
-    #[tactic(auto, using(crate::proofs::Sums::sizes_push))]
     pub fn bytes_total(&self) -> u64
         ensures { result ≡ capped (sizes self.now) }
     {
-        let mut total = 0u64;
-        let mut walk = self.walk();
-        while let Some(tag) = walk.next() {
-            total = total.saturating_add(tag.class.size() as u64);
-        }
-        total
+        bytes_in(self.walk())
     }
 
     /// Whether there is no buffer. Takes constant time.
@@ -281,7 +196,14 @@ impl<'r> Chain<'r> {
     pub fn walk(&self) -> Walk<'_, 'r>
         ensures { result ≡ self.now }
     {
-        Walk::from(&self.top)
+        Walk::from(Default::default(), &self.top)
+    }
+
+    /// The same, and then over what an array names.
+    pub(crate) fn walk_behind<'a>(&'a self, named: &'a [Buf<'r>]) -> Walk<'a, 'r>
+        ensures { result ≡ named.now ++ self.now }
+    {
+        Walk::from(named, &self.top)
     }
 
     /// Adds the slot of each buffer to the end of `slots`, in no order. Where memory for that is
@@ -290,14 +212,7 @@ impl<'r> Chain<'r> {
         ensures ok { OnOk result (AddsSlots (map slot_of self.now) slots.old.items slots.new.items) }
         ensures err { OnErr result (slots.new.items ≡ slots.old.items) }
     {
-        let start = slots.len();
-        for tag in self.walk() {
-            if slots.push(tag.slot).is_err() {
-                slots.truncate(start);
-                return Err(NoMemory);
-            }
-        }
-        Ok(())
+        add_slots(self.walk(), slots)
     }
 }
 

@@ -5,27 +5,26 @@
 //! [`Chain`] is a list of buffers. As in snmalloc (ISMM 2019) a list is linked through places that
 //! its objects already have, so that a buffer is freed, cached and sent without taking memory. Here
 //! the link is no part of the slot: it stands in a box of its own, a [`Room`], which is made before
-//! the buffer is. A buffer moves as the one pointer to that box. A box can also name up to fifteen
-//! more buffers, so that of a list that goes to another thread few boxes are written to.
+//! the buffer is. A buffer moves as the one pointer to that box. A [`Magazine`] is a list for another
+//! thread: an array of such pointers, so that no box is written to.
 #![tactic(auto)]
 
 mod below;
-mod beside;
 mod buf;
 mod chain;
 mod error;
 mod into_iter;
 mod lease;
 mod link;
+mod magazine;
 mod node;
 mod room;
-mod takers;
 mod walk;
 
 pub use buf::Buf;
 pub use chain::Chain;
 pub use error::NoMemory;
 pub use into_iter::IntoIter;
+pub use magazine::Magazine;
 pub use room::Room;
-pub use takers::Takers;
 pub use walk::{Tag, Walk};

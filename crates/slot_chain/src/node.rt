@@ -3,15 +3,13 @@ ghost use Rattle.std.specs.Prelude.{◌≡◌, []};
 ghost use Rattle.slot_chain.specs.Chains.{held};
 
 use crate::below::Below;
-use crate::beside::Beside;
 use crate::lease::Lease;
 use crate::walk::Tag;
 use region_cut::{Class, Slot};
 use std::alloc::Global;
 
-// One buffer, the chain below it, and the buffers beside it, which came after it. A node belongs to
-// its buffer, also while that is in no chain or beside another: then nothing is below and nothing
-// beside.
+// One buffer, and the chain below it. A node belongs to its buffer, also while that is in no chain: then
+// nothing is below.
 #[cycle(chain)]
 pub(crate) struct Node<'r> {
     pub(crate) slot: Slot,
@@ -19,13 +17,14 @@ pub(crate) struct Node<'r> {
     pub(crate) owner: u16,
     pub(crate) forwards: u32,
     pub(crate) lease: Lease<'r>,
-    // Nothing reads it. What stands behind changes from list to list, and what stands before is read
-    // by each thread that has the buffer. What is written begins with the last word here, 80 bytes
-    // behind the beginning of what is read, so they share no cache line of 64, wherever a box lies. That
-    // word is in the line of the link: a write to it has the processor fetch that line.
-    pub(crate) apart: [u64; 7],
+    // Nothing reads it. `below` changes from list to list, and what stands before is read by each thread
+    // that has the buffer. `below` stands 128 bytes behind the beginning, so that a cache line of 64 lies
+    // between the two lines, wherever a box lies: a core that reads a line fetches the next one as well.
+    pub(crate) apart: [u64; 12],
     pub(crate) below: Below<'r>,
-    pub(crate) beside: Beside<'r>,
+    // Nothing reads it. With it a box takes 192 bytes from the C library, whole lines, so that no box
+    // begins where the link of another lies.
+    pub(crate) behind: [u64; 5],
     // by which the box goes back. It takes no bytes
     pub(crate) alloc: Global,
 }
@@ -44,12 +43,11 @@ impl<'r> Node<'r> {
         }
     }
 
-    /// Takes it apart: the bytes of the buffer, the chain below it, and the buffers beside it.
+    /// Takes it apart: the bytes of the buffer, and the chain below it.
     #[inline]
-    pub(crate) fn into_parts(self) -> (Lease<'r>, Below<'r>, Beside<'r>)
+    pub(crate) fn into_parts(self) -> (Lease<'r>, Below<'r>)
         ensures lease { result.0 ≡ self.entry.lease }
         ensures below { result.1 ≡ self.entry.below }
-        ensures beside { result.2 ≡ self.entry.beside }
     {
         let Node {
             slot: _,
@@ -59,22 +57,20 @@ impl<'r> Node<'r> {
             lease,
             apart: _,
             below,
-            beside,
+            behind: _,
             alloc: _,
         } = self;
-        (lease, below, beside)
+        (lease, below)
     }
 
-    /// Takes it apart where nothing is below it and nothing beside it: the bytes of the buffer.
+    /// Takes it apart where nothing is below it: the bytes of the buffer.
     #[inline]
     pub(crate) fn into_lease(self) -> Lease<'r>
         requires below { held self.below ≡ [] }
-        requires beside { self.beside ≡ [] }
         ensures { result ≡ self.entry.lease }
     {
-        let (lease, below, beside) = self.into_parts();
+        let (lease, below) = self.into_parts();
         below.close();
-        beside.close();
         lease
     }
 }
@@ -83,9 +79,8 @@ impl<'r> Node<'r> {
 // below is not looked at: it may have been moved out. A chain that is let go takes its nodes apart.
 impl Drop for Node<'_> {
     fn drop(self) {
-        let (lease, below, beside) = self.into_parts();
+        let (lease, below) = self.into_parts();
         drop(lease);
         below.forget();
-        drop(beside);
     }
 }

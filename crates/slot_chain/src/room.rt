@@ -5,7 +5,6 @@ ghost use Rattle.region_cut.specs.Pieces.{place_of, slice_of};
 ghost use Rattle.slot_chain.specs.Buffer.{owner_limit};
 
 use crate::below::Below;
-use crate::beside::Beside;
 use crate::buf::Buf;
 use crate::error::NoMemory;
 use crate::lease::Lease;
@@ -15,9 +14,8 @@ use std::alloc::Global;
 use std::fmt;
 use std::marker::Model;
 
-/// Room for one buffer: the box that the buffer and its link in a chain will lie in. It is the only
-/// thing of this crate that takes memory. It holds no bytes of a region, and contracts see nothing
-/// in it.
+/// Room for one buffer: the box that the buffer and its link in a chain will lie in. It holds no
+/// bytes of a region, and contracts see nothing in it.
 #[derive(Drop)]
 pub struct Room<'r> {
     node: Box<Node<'r>>,
@@ -31,30 +29,22 @@ impl<'r> Model for Room<'r> {
 
     ghost view = { λ _. tt };
 
-    ghost invariant = { λ a. (held a.node.value.below ≡ []) × (a.node.value.beside ≡ []) };
+    ghost invariant = { λ a. held a.node.value.below ≡ [] };
 }
 
 impl<'r> Room<'r> {
-    /// Makes an empty room: a box of 120 bytes, and in memory of its own 120 bytes for the names of
-    /// fifteen others. [`NoMemory`] is answered only where the allocator refused one of the two.
+    /// Makes an empty room: a box of 176 bytes. [`NoMemory`] is answered only where the allocator
+    /// refused it.
     pub fn new(alloc: Global) -> Result<Room<'r>, NoMemory> {
-        let mut room = Room::for_one_thread(alloc)?;
-        room.node.beside = Beside::with_room(alloc)?;
-        Ok(room)
-    }
-
-    /// The same without the names of others, for lists that stay with one thread. On a list that
-    /// goes to another, such a box is linked.
-    pub fn for_one_thread(alloc: Global) -> Result<Room<'r>, NoMemory> {
         let node = Node {
             slot: Slot { chunk: 0, index: 0 },
             class: Class::FIRST,
             owner: 0,
             forwards: 0,
             lease: Lease::new(Default::default()),
-            apart: [0; 7],
+            apart: [0; 12],
             below: Below::new(),
-            beside: Beside::new(alloc),
+            behind: [0; 5],
             alloc,
         };
         Ok(Room {

@@ -1,7 +1,11 @@
-//! Walks over chains that only look.
-ghost use Rattle.std.specs.Prelude.{◌≡◌};
-ghost use Rattle.slot_chain.specs.Chains.{buffers_of, is_list};
+//! Walks over lists of buffers that only look.
+ghost use Rattle.std.specs.Prelude.{◌≡◌, ◌++◌, map, OnOk, OnErr};
+ghost use Rattle.slot_chain.specs.Chains.{buffer_of, buffers_of, is_list};
+ghost use Rattle.slot_chain.specs.Counts.{capped, sizes};
+ghost use Rattle.slot_chain.specs.Slots.{AddsSlots, slot_of};
 
+use crate::buf::Buf;
+use crate::error::NoMemory;
 use crate::link::Link;
 use crate::node::Node;
 use region_cut::{Class, Slot};
@@ -19,41 +23,36 @@ pub struct Tag {
     pub owner: u16,
 }
 
-/// A walk over a chain from its top. In contracts it is the list of the buffers that are still to
-/// be shown; the next one is the last of them.
+/// A walk over a chain from its top, or over a magazine from its end. In contracts it is the list of
+/// the buffers that are still to be shown; the next one is the last of them.
 #[derive(Drop)]
 pub struct Walk<'a, 'r> {
+    // what an array names: shown last
+    named: &'a [Buf<'r>],
     // the top of the chain that is still to be shown
-    pub(crate) at: &'a Link<Node<'r>>,
-    // how many of those beside that node are to be shown
-    pub(crate) others: usize,
+    at: &'a Link<Node<'r>>,
 }
 
 impl<'a, 'r> Model for Walk<'a, 'r> {
-    ghost use Rattle.std.specs.Prelude.{List};
+    ghost use Rattle.std.specs.Prelude.{List, ◌++◌};
     ghost use Rattle.slot_chain.specs.Buffer.{Buffer};
 
     ghost Value = { List Buffer };
 
-    ghost use Rattle.slot_chain.specs.Chains.{to_show, has_beside, is_list};
+    ghost use Rattle.slot_chain.specs.Chains.{buffers_of, is_list};
 
-    ghost view = { λ w. to_show w.at.now w.others };
+    ghost view = { λ w. w.named.now ++ buffers_of w.at.now };
 
-    ghost invariant = { λ w. is_list w.at.now × has_beside w.at.now w.others };
+    ghost invariant = { λ w. is_list w.at.now };
 }
 
 impl<'a, 'r> Walk<'a, 'r> {
-    /// A walk over the list of that top.
-    pub(crate) fn from(at: &'a Link<Node<'r>>) -> Walk<'a, 'r>
+    /// A walk over the list of that top, and then over what an array names.
+    pub(crate) fn from(named: &'a [Buf<'r>], at: &'a Link<Node<'r>>) -> Walk<'a, 'r>
         requires { is_list at.now }
-        ensures { result ≡ buffers_of at.now }
+        ensures { result ≡ named.now ++ buffers_of at.now }
     {
-        let others = if at.is_empty() {
-            0
-        } else {
-            at.get().beside.len()
-        };
-        Walk { at, others }
+        Walk { named, at }
     }
 }
 
@@ -69,20 +68,44 @@ impl<'a, 'r> Iterator for Walk<'a, 'r> {
 
     fn next(&mut self) -> Option<Tag> {
         if self.at.is_empty() {
-            return None;
+            let (last, named) = self.named.split_last()?;
+            *self = Walk::from(named, self.at);
+            return Some(last.tag());
         }
         let node = self.at.get();
-        match node.beside.last_of(self.others) {
-            Some(other) => {
-                self.others -= 1;
-                Some(other.tag())
-            }
-            None => {
-                *self = Walk::from(node.below.get());
-                Some(node.tag())
-            }
+        *self = Walk::from(self.named, node.below.get());
+        Some(node.tag())
+    }
+}
+
+/// The sum of the sizes of what a walk shows in bytes, each that of its class, or the greatest `u64`
+/// where that is less.
+#[tactic(auto, using(crate::proofs::Sums::sizes_push))]
+pub(crate) fn bytes_in(walk: Walk<'_, '_>) -> u64
+    ensures { result ≡ capped (sizes walk.entry) }
+{
+    let mut walk = walk;
+    let mut total = 0u64;
+    while let Some(tag) = walk.next() {
+        total = total.saturating_add(tag.class.size() as u64);
+    }
+    total
+}
+
+/// Adds the slot of each buffer that a walk shows to the end of `slots`. Where memory for that is
+/// refused, `slots` is as before.
+pub(crate) fn add_slots(walk: Walk<'_, '_>, slots: &mut Vec<Slot>) -> Result<(), NoMemory>
+    ensures ok { OnOk result (AddsSlots (map slot_of walk.entry) slots.old.items slots.new.items) }
+    ensures err { OnErr result (slots.new.items ≡ slots.old.items) }
+{
+    let start = slots.len();
+    for tag in walk {
+        if slots.push(tag.slot).is_err() {
+            slots.truncate(start);
+            return Err(NoMemory);
         }
     }
+    Ok(())
 }
 
 // The buffers are not printed.

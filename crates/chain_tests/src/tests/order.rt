@@ -26,7 +26,7 @@ pub(super) fn chains<'r>(
 }
 
 // The slots that a chain gives, from the one that came last.
-pub(super) fn popped(alloc: Global, mut chain: Chain<'_>) -> Result<Vec<Slot>, NoMemory> {
+fn popped(alloc: Global, mut chain: Chain<'_>) -> Result<Vec<Slot>, NoMemory> {
     let mut slots = Vec::new(alloc);
     while let Some(buf) = chain.pop() {
         slots.push(buf.slot())?;

@@ -32,8 +32,8 @@ fn receive<'r>(rt: &impl Abort, cache: &mut Cache<'r>, batch: Batch<'r>, home: u
         u64::from(cache.number()),
     );
     let (mut came, mut left) = (0u64, 0u64);
-    let mut chain = batch.into_chain();
-    while let Some(buf) = chain.pop() {
+    let mut magazine = batch.into_magazine();
+    while let Some(buf) = magazine.pop() {
         if take_in(rt, cache, buf) {
             came = came.saturating_add(1);
         } else {
@@ -46,8 +46,8 @@ fn receive<'r>(rt: &impl Abort, cache: &mut Cache<'r>, batch: Batch<'r>, home: u
 
 // The one buffer of the last batch.
 fn check_last(rt: &impl Abort, batch: Batch<'_>) {
-    let mut chain = batch.into_chain();
-    let buf = chain.pop().expect(rt, "the buffer of 27");
+    let mut magazine = batch.into_magazine();
+    let buf = magazine.pop().expect(rt, "the buffer of 27");
     same(rt, "the owner", u64::from(buf.owner()), 27);
     same(rt, "the hops", u64::from(buf.forwards()), 2);
 }

@@ -5,4 +5,4 @@ abbrev pub invariant-loop-tag : goal.invariant-loop-tag
 invariant-loop-tag l =
     (goal.iterator-loop-tag).can_next l.tag-iterator ×
     (goal.iterator-loop-tag).is_finite l.tag-iterator ×
-    Looked l.digits l.a l.t l.chain l.tag-iterator l.found
+    Looked l.digits l.a l.t l.magazine l.tag-iterator l.found

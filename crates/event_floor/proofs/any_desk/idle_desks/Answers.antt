@@ -8,7 +8,7 @@ use Rattle.event_floor.proofs.any_desk.idle_desks.Goals as goal
 
 pub loop-number-preserved : goal.loop-number-preserved
 loop-number-preserved c =
-    c.push_reserved.ensures.items ∙ (ap (λ (z : IdleState). c.loop-number.desks.items ++ Idle z ∷ []) c.for_one_thread-desk.ensures
+    c.push_reserved.ensures.items ∙ (ap (λ (z : IdleState). c.loop-number.desks.items ++ Idle z ∷ []) c.new-desk.ensures
     ∙ (ap (λ (z : List AnyDesk). z ++ Idle (new_desk c.args.digits c.args.limit c.loop-number.number) ∷ []) c.loop-number.invariant
     ∙ idle_desks_more c.args.digits c.args.limit c.loop-number.number))
 

@@ -1,4 +1,4 @@
-use Rattle.std.proofs.Common.{refl, sym}
+use Rattle.std.proofs.Common.{sym}
 use Rattle.pool_desk.proofs.HomeLaws.{gives_fresh}
 use Rattle.pool_desk.proofs.home.make.Goals as goal
 

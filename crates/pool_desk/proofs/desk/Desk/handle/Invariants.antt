@@ -3,7 +3,7 @@ use Rattle.pool_desk.proofs.HandleLaws.{Handled}
 use Rattle.pool_desk.proofs.desk.Desk.handle.Given as goal
 
 abbrev pub invariant-loop-buf : goal.invariant-loop-buf
-invariant-loop-buf l = Handled l.fn.self l.initial.chain l.chain l.self l.home l.on
+invariant-loop-buf l = Handled l.fn.self l.initial.magazine l.magazine l.self l.home l.on
 
 abbrev pub decreases-loop-buf : goal.decreases-loop-buf
-decreases-loop-buf l = length l.chain
+decreases-loop-buf l = length l.magazine

@@ -1,0 +1,257 @@
+//! Lists of buffers that go to another thread.
+ghost use Rattle.std.specs.Prelude.{◌≡◌, ◌↔◌, [], ◌∷◌, ◌++◌, length, map, IsTrue, MatchOption, OnOk, OnErr};
+ghost use Rattle.slot_chain.specs.Buffer.{ended_of};
+ghost use Rattle.slot_chain.specs.Counts.{capped, sizes};
+ghost use Rattle.slot_chain.specs.Slots.{AddsSlots, slot_of};
+ghost use Rattle.slot_chain.specs.Magazines.{named_in};
+
+use crate::buf::Buf;
+use crate::chain::Chain;
+use crate::error::NoMemory;
+use crate::walk::{Walk, add_slots, bytes_in};
+use region_cut::Slot;
+use region_cut::endings::Endings;
+use std::alloc::Global;
+use std::marker::Model;
+use std::{fmt, mem};
+
+// For how many buffers an array has places, at least and at most.
+const LEAST: usize = 16;
+
+const MOST: usize = 4096;
+
+/// A list of buffers that goes to another thread as a whole. In contracts it is that list;
+/// [`Magazine::push`] and [`Magazine::pop`] work at its end.
+///
+/// A [`Chain`] writes to the box of each buffer, whose cache line then has to move from core to core.
+/// A magazine (Bonwick and Adams, USENIX 2001) is an array of pointers to the boxes, and writes to
+/// none. What finds no place in the array is linked, as in a chain.
+///
+/// Only [`Magazine::make_room`] and [`Magazine::list_slots`] take memory; no other call can fail. A
+/// magazine may be dropped, with all its buffers.
+#[must_use]
+pub struct Magazine<'r> {
+    array: Option<Vec<Buf<'r>>>,
+    // For how many buffers an array is to be made, where there is none: 0 where none is wanted.
+    wanted: usize,
+    linked: Chain<'r>,
+}
+
+impl<'r> Model for Magazine<'r> {
+    ghost use Rattle.std.specs.Prelude.{List, ◌++◌};
+    ghost use Rattle.slot_chain.specs.Buffer.{Buffer};
+    ghost use Rattle.slot_chain.specs.Magazines.{named_in};
+
+    ghost Value = { List Buffer };
+
+    ghost view = { λ m. named_in m.array ++ m.linked };
+}
+
+// By hand, so that it is proved here once, and not again in each crate that lets one go.
+impl Drop for Magazine<'_> {
+    fn drop(self) {
+        let Magazine {
+            array,
+            wanted: _,
+            linked,
+        } = self;
+        drop(array);
+        drop(linked);
+    }
+}
+
+impl Default for Magazine<'_> {
+    ghost is_default = { λ m. m ≡ [] };
+
+    fn default() -> Self {
+        Magazine::new()
+    }
+}
+
+impl<'r> Magazine<'r> {
+    /// An empty list, without an array. It takes no memory.
+    pub fn new() -> Magazine<'r>
+        ensures { result ≡ [] }
+    {
+        Magazine::wanting(0)
+    }
+
+    fn wanting(wanted: usize) -> Magazine<'r>
+        ensures { result ≡ [] }
+    {
+        Magazine {
+            array: None,
+            wanted,
+            linked: Chain::new(),
+        }
+    }
+
+    // Puts a buffer into the array, where there is a place and nothing is linked; else hands it back.
+    #[inline]
+    fn offer(&mut self, buf: Buf<'r>) -> Option<Buf<'r>>
+        ensures { MatchOption result
+            (self.new ≡ self.old ++ buf.entry ∷ [])
+            (λ b. (b ≡ buf.entry) × (self.new ≡ self.old)) }
+    {
+        if !self.linked.is_empty() {
+            return Some(buf);
+        }
+        match &mut self.array {
+            None => Some(buf),
+            Some(array) => {
+                if array.len() >= array.capacity() {
+                    return Some(buf);
+                }
+                array.push_reserved(buf);
+                None
+            }
+        }
+    }
+
+    /// Puts a buffer to the end of the list. Takes constant time.
+    #[inline]
+    pub fn push(&mut self, buf: Buf<'r>)
+        ensures { self.new ≡ self.old ++ buf.entry ∷ [] }
+    {
+        if let Some(buf) = self.offer(buf) {
+            self.linked.push(buf);
+        }
+    }
+
+    /// Takes the buffer that came last, or `None` where there is none. Takes constant time.
+    #[inline]
+    pub fn pop(&mut self) -> Option<Buf<'r>>
+        ensures { MatchOption result ((self.old ≡ []) × (self.new ≡ [])) (λ b. self.old ≡ self.new ++ b ∷ []) }
+    {
+        match self.linked.pop() {
+            Some(buf) => Some(buf),
+            None => match &mut self.array {
+                None => None,
+                Some(array) => array.pop(),
+            },
+        }
+    }
+
+    // For how many buffers the array should be made of a list that becomes as long as this one.
+    fn places(&self) -> usize {
+        match &self.array {
+            None => self.wanted.max(LEAST),
+            Some(array) => {
+                if self.linked.is_empty() {
+                    array.capacity()
+                } else {
+                    array.capacity().saturating_mul(2).min(MOST)
+                }
+            }
+        }
+    }
+
+    /// Takes out all buffers, with their array. What is put here then is linked, until there is room
+    /// again. Takes constant time.
+    pub fn take(&mut self) -> Magazine<'r>
+        ensures value { result ≡ self.old }
+        ensures emptied { self.new ≡ [] }
+    {
+        let empty = Magazine::wanting(self.places());
+        mem::replace(self, empty)
+    }
+
+    /// Makes room for what comes, where a list was taken out: an array as large as that list had, or
+    /// twice as large, up to 4,096 places, where it had too few. The first has 16. Where memory is
+    /// refused, all stays as it is.
+    pub fn make_room(&mut self, alloc: Global)
+        ensures { self.new ≡ self.old }
+    {
+        if self.wanted == 0 {
+            return;
+        }
+        if let Ok(array) = Vec::with_capacity(alloc, self.wanted) {
+            self.put_array(array);
+        }
+    }
+
+    // Puts an empty array there, where there is none.
+    fn put_array(&mut self, array: Vec<Buf<'r>>)
+        requires { array.items ≡ [] }
+        ensures { self.new ≡ self.old }
+    {
+        if self.array.is_none() {
+            self.array = Some(array);
+            self.wanted = 0;
+        }
+    }
+
+    /// The number of buffers, or the greatest `u64` where that is less. Those that are linked are
+    /// counted by a walk.
+    pub fn len(&self) -> u64
+        ensures { result ≡ capped (length self.now) }
+    {
+        let named = match &self.array {
+            None => 0,
+            Some(array) => array.len() as u64,
+        };
+        named.saturating_add(self.linked.len())
+    }
+
+    /// The sum of the sizes of the buffers in bytes, each that of its class, or the greatest `u64`
+    /// where that is less. It is counted by a walk.
+    pub fn bytes_total(&self) -> u64
+        ensures { result ≡ capped (sizes self.now) }
+    {
+        bytes_in(self.walk())
+    }
+
+    /// Whether there is no buffer. Takes constant time.
+    #[tactic(auto, using(crate::proofs::Tops::front_is_none))]
+    pub fn is_empty(&self) -> bool
+        ensures { IsTrue result ↔ (self.now ≡ []) }
+    {
+        names_none(&self.array) && self.linked.is_empty()
+    }
+
+    /// Lets go all buffers: it is then known what each ends as. Takes a walk over them.
+    pub fn end(self, endings: &mut Endings<'r>)
+        ensures { endings.new ≡ record endings.old { known = map ended_of self.entry ++ endings.old.known } }
+    {
+        let mut magazine = self;
+        while let Some(buf) = magazine.pop() {
+            endings.close(buf.into_front());
+        }
+    }
+
+    /// A walk over the buffers from the last one, which only looks at them.
+    pub fn walk(&self) -> Walk<'_, 'r>
+        ensures { result ≡ self.now }
+    {
+        match &self.array {
+            None => self.linked.walk(),
+            Some(array) => self.linked.walk_behind(array.as_slice()),
+        }
+    }
+
+    /// Adds the slot of each buffer to the end of `slots`, in no order. Where memory for that is
+    /// refused, `slots` is as before. Takes a walk over the buffers.
+    pub fn list_slots(&self, slots: &mut Vec<Slot>) -> Result<(), NoMemory>
+        ensures ok { OnOk result (AddsSlots (map slot_of self.now) slots.old.items slots.new.items) }
+        ensures err { OnErr result (slots.new.items ≡ slots.old.items) }
+    {
+        add_slots(self.walk(), slots)
+    }
+}
+
+// Whether an array names no buffer, or isn't there.
+fn names_none(array: &Option<Vec<Buf<'_>>>) -> bool
+    ensures { IsTrue result ↔ (named_in array.now ≡ []) }
+{
+    match array {
+        None => true,
+        Some(array) => array.is_empty(),
+    }
+}
+
+// The buffers are counted, and not printed.
+impl fmt::Debug for Magazine<'_> {
+    fn fmt<W: fmt::Write>(&self, f: &mut fmt::Formatter<W>) -> fmt::Result {
+        write!(f, "Magazine({} buffers)", self.len())
+    }
+}
