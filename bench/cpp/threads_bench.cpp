@@ -3,11 +3,12 @@
 //
 //   threads_bench WORKLOAD COUNT TURNS LENDER
 //
-// LENDER is malloc, nothing for the loop and the hand-over alone, one of the pools of pools.hpp (boxes, slots or
-// groups), or that of rings.hpp (rings). Each thread runs TURNS turns of COUNT buffers, and the workload, the
+// LENDER is malloc, nothing for the loop and the hand-over alone, one of the pools of pools.hpp (boxes or slots), that
+// of magazines.hpp (magazines) or that of rings.hpp (rings). Each thread runs TURNS turns of COUNT buffers, and the workload, the
 // nanoseconds and the sum of the sizes of all threads are printed.
 #include "blocks.hpp"
 #include "lenders.hpp"
+#include "magazines.hpp"
 #include "pcg32.hpp"
 #include "pools.hpp"
 #include "rings.hpp"
@@ -198,7 +199,7 @@ int main(int count, char **words) {
   if (lender == "nothing") return measured<Nothing>(workload, buffers, turns);
   if (lender == "boxes") return measured<Pooled<InBoxes>>(workload, buffers, turns);
   if (lender == "slots") return measured<Pooled<InSlots>>(workload, buffers, turns);
-  if (lender == "groups") return measured<Pooled<InGroups>>(workload, buffers, turns);
+  if (lender == "magazines") return measured<Magazined>(workload, buffers, turns);
   if (lender == "rings") return measured<Ringed>(workload, buffers, turns);
   fprintf(stderr, "no lender %s\n", lender.c_str());
   return 2;

@@ -17,7 +17,7 @@ WORKLOADS = [*REPLACE, "prodcons", "ring"]
 INBOXES = {"Inbox": "inbox", "LinkInbox": "linked"}
 
 # Each pool in C++ with the word by which the program knows it: what a pool of this shape can cost.
-SHAPES = {"C++ boxes": "boxes", "C++ slots": "slots", "C++ groups": "groups", "C++ rings": "rings"}
+SHAPES = {"C++ boxes": "boxes", "C++ slots": "slots", "C++ magazines": "magazines", "C++ rings": "rings"}
 
 # Buffers are handed over so many at a time.
 BLOCK = 64
