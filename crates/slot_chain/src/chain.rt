@@ -109,16 +109,19 @@ impl<'r> Chain<'r> {
 
     /// Takes the buffer on top, which came last, or `None` where there is none. Takes constant
     /// time.
+    #[tactic(auto, using(crate::proofs::Tops::empty_is_none))]
     pub fn pop(&mut self) -> Option<Buf<'r>>
         ensures { MatchOption result ((self.old ≡ []) × (self.new ≡ [])) (λ b. self.old ≡ self.new ++ b ∷ []) }
     {
-        if self.is_empty() {
+        // It is moved out before it is looked at: the compiler sees then that nothing has to be written.
+        let whole = Chain {
+            top: self.top.leave(),
+        };
+        if whole.is_empty() {
+            whole.close();
             return None;
         }
-        let mut node = Chain {
-            top: self.top.leave(),
-        }
-        .into_box();
+        let mut node = whole.into_box();
         self.top.set(node.below.leave().into_top());
         Some(Buf { node })
     }

@@ -50,7 +50,7 @@ impl<T> Link<T> {
     #[inline]
     pub(crate) fn leave(&mut self) -> Link<T>
         ensures moved { result ≡ self.old }
-        ensures left { self.new.value ≡ None }
+        ensures left { self.new ≡ record { at = self.old.at; value = None } }
     {
         let left = Link::left(self.at());
         mem::replace(self, left)
