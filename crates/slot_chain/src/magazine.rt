@@ -3,7 +3,7 @@ ghost use Rattle.std.specs.Prelude.{◌≡◌, ◌↔◌, [], ◌∷◌, ◌++�
 ghost use Rattle.slot_chain.specs.Buffer.{ended_of};
 ghost use Rattle.slot_chain.specs.Counts.{capped, sizes};
 ghost use Rattle.slot_chain.specs.Slots.{AddsSlots, slot_of};
-ghost use Rattle.slot_chain.specs.Magazines.{named_in};
+ghost use Rattle.slot_chain.specs.Magazines.{named_in, HasPlace};
 
 use crate::buf::Buf;
 use crate::chain::Chain;
@@ -40,11 +40,13 @@ pub struct Magazine<'r> {
 impl<'r> Model for Magazine<'r> {
     ghost use Rattle.std.specs.Prelude.{List, ◌++◌};
     ghost use Rattle.slot_chain.specs.Buffer.{Buffer};
-    ghost use Rattle.slot_chain.specs.Magazines.{named_in};
+    ghost use Rattle.slot_chain.specs.Magazines.{named_in, IsFilled};
 
     ghost Value = { List Buffer };
 
     ghost view = { λ m. named_in m.array ++ m.linked };
+
+    ghost invariant = { λ m. IsFilled m.array m.linked };
 }
 
 // By hand, so that it is proved here once, and not again in each crate that lets one go.
@@ -86,34 +88,12 @@ impl<'r> Magazine<'r> {
         }
     }
 
-    // Puts a buffer into the array, where there is a place and nothing is linked; else hands it back.
-    #[inline]
-    fn offer(&mut self, buf: Buf<'r>) -> Option<Buf<'r>>
-        ensures { MatchOption result
-            (self.new ≡ self.old ++ buf.entry ∷ [])
-            (λ b. (b ≡ buf.entry) × (self.new ≡ self.old)) }
-    {
-        if !self.linked.is_empty() {
-            return Some(buf);
-        }
-        match &mut self.array {
-            None => Some(buf),
-            Some(array) => {
-                if array.len() >= array.capacity() {
-                    return Some(buf);
-                }
-                array.push_reserved(buf);
-                None
-            }
-        }
-    }
-
     /// Puts a buffer to the end of the list. Takes constant time.
     #[inline]
     pub fn push(&mut self, buf: Buf<'r>)
         ensures { self.new ≡ self.old ++ buf.entry ∷ [] }
     {
-        if let Some(buf) = self.offer(buf) {
+        if let Some(buf) = offer(&mut self.array, buf) {
             self.linked.push(buf);
         }
     }
@@ -156,13 +136,13 @@ impl<'r> Magazine<'r> {
         mem::replace(self, empty)
     }
 
-    /// Makes room for what comes, where a list was taken out: an array as large as that list had, or
-    /// twice as large, up to 4,096 places, where it had too few. The first has 16. Where memory is
-    /// refused, all stays as it is.
+    /// Makes room for what comes, where a list was taken out and nothing came since: an array as large
+    /// as that list had, or twice as large, up to 4,096 places, where it had too few. The first has 16.
+    /// Where memory is refused, all stays as it is.
     pub fn make_room(&mut self, alloc: Global)
         ensures { self.new ≡ self.old }
     {
-        if self.wanted == 0 {
+        if self.wanted == 0 || !self.is_empty() {
             return;
         }
         if let Ok(array) = Vec::with_capacity(alloc, self.wanted) {
@@ -170,15 +150,14 @@ impl<'r> Magazine<'r> {
         }
     }
 
-    // Puts an empty array there, where there is none.
+    // Puts an empty array there, where there is no buffer.
     fn put_array(&mut self, array: Vec<Buf<'r>>)
-        requires { array.items ≡ [] }
+        requires none { self.old ≡ [] }
+        requires empty { array.items ≡ [] }
         ensures { self.new ≡ self.old }
     {
-        if self.array.is_none() {
-            self.array = Some(array);
-            self.wanted = 0;
-        }
+        self.array = Some(array);
+        self.wanted = 0;
     }
 
     /// The number of buffers, or the greatest `u64` where that is less. Those that are linked are
@@ -236,6 +215,25 @@ impl<'r> Magazine<'r> {
         ensures err { OnErr result (slots.new.items ≡ slots.old.items) }
     {
         add_slots(self.walk(), slots)
+    }
+}
+
+// Puts a buffer into the array, where it has a place; else hands it back.
+#[inline]
+fn offer<'r>(array: &mut Option<Vec<Buf<'r>>>, buf: Buf<'r>) -> Option<Buf<'r>>
+    ensures { MatchOption result
+        (HasPlace array.old × (named_in array.new ≡ named_in array.old ++ buf.entry ∷ []))
+        (λ b. (b ≡ buf.entry) × (array.new ≡ array.old) × (HasPlace array.old → ⊥)) }
+{
+    match array {
+        None => Some(buf),
+        Some(array) => {
+            if array.len() >= array.capacity() {
+                return Some(buf);
+            }
+            array.push_reserved(buf);
+            None
+        }
     }
 }
 
