@@ -159,7 +159,7 @@ impl<'r> Cache<'r> {
     }
 
     /// Adds a buffer, in constant time.
-    #[inline(never)]
+    #[inline(always)]
     pub fn put(&mut self, item: Buf<'r>)
         requires { IsCached self.old.digits self.old.number item }
         ensures same { self.new ≡ record self.old { items = self.new.items } }
