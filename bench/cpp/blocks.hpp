@@ -3,15 +3,23 @@
 #include <atomic>
 #include <cstddef>
 #include <cstdlib>
+#include <memory>
 #include <mutex>
 #include <sched.h>
-#include <utility>
 #include <vector>
 
 // how many buffers go at once
 constexpr size_t BLOCK = 64;
 
-template <class Lent> using Block = std::vector<Lent>;
+// A block of buffers. It is handed over as the words that it is, as the Rattle program does it: a std::vector would clear
+// the one that it is moved out of, and so write to a cache line that the other thread reads.
+template <class Lent> struct Block {
+  Lent *places = nullptr;
+  size_t length = 0;
+
+  void push(Lent it) { places[length++] = it; }
+  Lent pop() { return places[--length]; }
+};
 
 // A lock that a thread looks at a hundred times, as at the Rattle program's, before it lets others run.
 class Lock {
@@ -37,16 +45,16 @@ template <class Lent> class alignas(128) Queue {
 public:
   explicit Queue(size_t most) : blocks(most) {}
 
-  void push(Block<Lent> block) {
+  void push(const Block<Lent> &block) {
     std::lock_guard<Lock> guard(lock);
     if (length == blocks.size()) abort();
-    blocks[(first + length++) % blocks.size()] = std::move(block);
+    blocks[(first + length++) % blocks.size()] = block;
   }
 
   bool pop(Block<Lent> &block) {
     std::lock_guard<Lock> guard(lock);
     if (length == 0) return false;
-    block = std::move(blocks[first]);
+    block = blocks[first];
     first = (first + 1) % blocks.size();
     length--;
     return true;
@@ -56,14 +64,14 @@ public:
 // The way from one thread to another: full blocks go, and empty ones come back. There are so many blocks that no more
 // than a window of buffers is under way.
 template <class Lent> struct Way {
+  std::vector<std::unique_ptr<Lent[]>> memory{};
   Queue<Lent> full;
   Queue<Lent> empty;
 
   explicit Way(size_t window) : full(window / BLOCK), empty(window / BLOCK) {
     for (size_t i = 0; i < window / BLOCK; i++) {
-      Block<Lent> block;
-      block.reserve(BLOCK);
-      empty.push(std::move(block));
+      memory.push_back(std::make_unique<Lent[]>(BLOCK));
+      empty.push({memory.back().get()});
     }
   }
 };

@@ -76,8 +76,8 @@ template <class Lender> struct alignas(128) Worker {
   bool send(Pcg32 &random) {
     Block<Lent> block;
     if (!to->empty.pop(block)) return false;
-    for (size_t i = 0; i < BLOCK; i++) block.push_back(lend(random));
-    to->full.push(std::move(block));
+    for (size_t i = 0; i < BLOCK; i++) block.push(lend(random));
+    to->full.push(block);
     return true;
   }
 
@@ -85,11 +85,8 @@ template <class Lender> struct alignas(128) Worker {
   bool receive() {
     Block<Lent> block;
     if (!from->full.pop(block)) return false;
-    while (!block.empty()) {
-      lender.give(block.back());
-      block.pop_back();
-    }
-    from->empty.push(std::move(block));
+    while (block.length) lender.give(block.pop());
+    from->empty.push(block);
     return true;
   }
 
