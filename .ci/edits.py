@@ -13,7 +13,7 @@ TOP = pathlib.Path(__file__).resolve().parent.parent
 FOLDERS = ("must-fail", "wrong-bodies")
 PARTS = ("src", "specs", "proofs")
 FUNCTION = re.compile(r"^( *)(?:(?:pub(?:\([a-z: ]+\))?|const|unsafe) )*fn (\w+)(.*)", re.M)
-BLOCK = re.compile(r"^impl\b(?:.* for )?[^{\n]*?\b([A-Z]\w*)(?:<[^{\n]*>)?(?: \{|$)", re.M)
+BLOCK = re.compile(r"^impl\b([^{]*)\{", re.M)
 
 
 class BadEdit(Exception):
@@ -117,12 +117,24 @@ def lines_of(function, text):
     return first + 1, text.count("\n", 0, end) + 1
 
 
+def type_of(header):
+    """The type whose block has this header, behind `impl`."""
+    depth, start = 0, 0
+    for at, char in enumerate(header):
+        depth += (char == "<") - (char == ">" and header[at - 1] not in "-=")
+        if depth == 0 and not char.isspace():
+            start = at + (char == ">")
+            break
+    named = re.split(r"\bfor\b", re.split(r"\bwhere\b", header[start:])[0])[-1]
+    return re.search(r"\b[A-Z]\w*", named)[0]
+
+
 def proofs_of(function, text):
     """What the paths of proofs by hand for this function look like: they lie below its type's module, or its own."""
     start = next(it[2] for it in spans(text) if it[:2] == (function.name, function.above))
     block = [it for it in BLOCK.finditer(text, 0, start)][-1:]
     if block and re.compile(r"^}", re.M).search(text, block[0].end(), start) is None:
-        return re.compile(rf"proofs/(?:\w+/)*{block[0][1]}(?:[A-Z]\w*)?/{function.name}/")
+        return re.compile(rf"proofs/(?:\w+/)*{type_of(block[0][1])}(?:[A-Z]\w*)?/{function.name}/")
     module = function.file.removeprefix("src/").removesuffix(".rt")
     return re.compile(rf"proofs/{'' if module in ('lib', 'main') else f'{module}/'}{function.name}/")
 
