@@ -3,6 +3,7 @@ ghost use Rattle.std.specs.Prelude.{◌≡◌, ◌<◌, ◌≤◌, [], ◌++◌,
 ghost use Rattle.std.specs.Prelude.{MatchOption, MatchResult};
 ghost use Rattle.slot_chain.specs.Buffer.{Buffer};
 ghost use Rattle.digit_route.specs.Digits.{common};
+ghost use Rattle.pool_fabric.specs.Limits.{most_taken};
 ghost use Rattle.pool_fabric.specs.Names.{box_at};
 ghost use Rattle.pool_fabric.specs.Seats.{seat_of, AreSeatsBy, AreBoxes};
 ghost use Rattle.pool_fabric.specs.Posts.{Posts, TakesSome, sent_at};
@@ -220,7 +221,7 @@ impl<'r, T: Receiver, S: Sender, M: Mail<'r, TakeSeat = T, SendSeat = S>, J: Nam
     pub fn take_some<R: Wait>(&self, rt: &R, desk: &mut Desk<'r>, seat: &mut T) -> u32
         requires digits { desk.old.digits ≡ J.names.digits }
         requires seat { T.inbox seat.old ≡ box_at J.names desk.old.number }
-        ensures most { result ≤ MOST_TAKEN }
+        ensures most { result ≤ most_taken }
         ensures takes { TakesSome
             desk.old (record { inbox = T.inbox seat.old; senders = T.senders seat.old; taken = T.taken seat.old })
             result

@@ -4,9 +4,10 @@ ghost use Rattle.region_cut.specs.Classes.{classes_of};
 ghost use Rattle.pool_desk.specs.HomesState.{LacksClass};
 ghost use Rattle.pool_desk.specs.Desks.{profile_at};
 ghost use Rattle.pool_fabric.specs.Calls.{ClaimsPart};
+ghost use Rattle.pool_fabric.specs.Limits.{most_taken};
 ghost use Rattle.pool_fabric.specs.Posts.{Posts, TakesSome};
 
-use crate::fabric::{Fabric, MOST_TAKEN};
+use crate::fabric::Fabric;
 use crate::held::HeldStation;
 use crate::naming::Naming;
 use batch_inbox::{Mail, Receiver, Sender};
@@ -14,14 +15,15 @@ use region_cut::Class;
 use std::sync::Wait;
 
 impl<'r, T: Receiver, S: Sender, J: Naming> HeldStation<'r, T, S, J> {
-    /// Takes what is in the desk's inbox, at most [`MOST_TAKEN`] batches, and handles it. Says how many.
+    /// Takes what is in the desk's inbox, at most [`MOST_TAKEN`](crate::MOST_TAKEN) batches, and handles it.
+    /// Says how many.
     pub fn take<M: Mail<'r, TakeSeat = T, SendSeat = S>, R: Wait>(
         &mut self,
         rt: &R,
         fabric: &Fabric<'r, M, T, S, J>,
     ) -> u32
         ensures same { self.new ≡ record self.old { desk = self.new.desk; take = self.new.take } }
-        ensures most { result ≤ MOST_TAKEN }
+        ensures most { result ≤ most_taken }
         ensures takes { TakesSome self.old.desk self.old.take result self.new.desk self.new.take }
     {
         fabric.take_some(rt, &mut self.desk, &mut self.take)
