@@ -8,8 +8,10 @@ mod bytes;
 mod giving;
 mod long;
 mod order;
+mod packing;
 mod refusal;
 mod sending;
+mod whole;
 
 use chain_uses::fill_region;
 use region_cut::{Class, Part, cut};

@@ -1,5 +1,6 @@
 -- The list of a magazine's buffers.
-use Rattle.std.specs.Prelude.{◌≡◌, ◌<◌, List, [], Option, Some, None, Vec, vec_len, vec_capacity}
+use Rattle.std.specs.Prelude.{◌≡◌, ◌≢◌, ◌<◌, All, List, [], Option, Some, None, Vec, vec_len, vec_capacity}
+use Rattle.std.specs.List.{flat_map}
 use Rattle.std.specs.declared.alloc.Global.{Global}
 use Rattle.slot_chain.specs.Buffer.{Buffer}
 
@@ -16,3 +17,16 @@ HasPlace (Some array) = vec_len array < vec_capacity array
 -- the array is filled before anything is linked
 abbrev pub IsFilled : Option (Vec Buffer Global) → List Buffer → Type 0
 IsFilled array linked = HasPlace array → linked ≡ []
+
+-- the arrays that came as a whole, none where there is no room for any
+abbrev pub arrays_in : Option (Vec (Vec Buffer Global) Global) → List (Vec Buffer Global)
+arrays_in None = []
+arrays_in (Some arrays) = arrays.items
+
+-- those that arrays name, one array after the other
+abbrev pub named_in_all : List (Vec Buffer Global) → List Buffer
+named_in_all arrays = flat_map (λ (a : Vec Buffer Global). a.items) arrays
+
+-- none of the arrays is empty
+abbrev pub AreFilled : List (Vec Buffer Global) → Type 0
+AreFilled arrays = All (λ (a : Vec Buffer Global). a.items ≢ []) arrays

@@ -4,6 +4,7 @@ ghost use Rattle.std.specs.Prelude.{MatchOption, MatchBool, OnOk, OnErr};
 ghost use Rattle.slot_chain.specs.Buffer.{Buffer, ended_of};
 ghost use Rattle.slot_chain.specs.Chains.{IsListed, buffers_from, buffers_of, is_list};
 ghost use Rattle.slot_chain.specs.Counts.{capped, sizes};
+ghost use Rattle.slot_chain.specs.Magazines.{AreFilled, named_in_all};
 ghost use Rattle.slot_chain.specs.Slots.{AddsSlots, slot_of};
 
 use crate::buf::Buf;
@@ -199,14 +200,20 @@ impl<'r> Chain<'r> {
     pub fn walk(&self) -> Walk<'_, 'r>
         ensures { result ≡ self.now }
     {
-        Walk::from(Default::default(), &self.top)
+        Walk::from(Default::default(), Default::default(), &self.top)
     }
 
-    /// The same, and then over what an array names.
-    pub(crate) fn walk_behind<'a>(&'a self, named: &'a [Buf<'r>]) -> Walk<'a, 'r>
-        ensures { result ≡ named.now ++ self.now }
+    /// The same, then over what an array names, and then over what those arrays name that came as a
+    /// whole.
+    pub(crate) fn walk_behind<'a>(
+        &'a self,
+        whole: &'a [Vec<Buf<'r>>],
+        named: &'a [Buf<'r>],
+    ) -> Walk<'a, 'r>
+        requires { AreFilled whole.now }
+        ensures { result ≡ (named_in_all whole.now ++ named.now) ++ self.now }
     {
-        Walk::from(named, &self.top)
+        Walk::from(whole, named, &self.top)
     }
 
     /// Adds the slot of each buffer to the end of `slots`, in no order. Where memory for that is

@@ -1,10 +1,12 @@
 //! Lists of buffers that go to another thread.
-ghost use Rattle.std.specs.Prelude.{◌≡◌, ◌↔◌, [], ◌∷◌, ◌++◌, length, map, IsTrue, MatchOption, OnOk, OnErr};
+ghost use Rattle.std.specs.Prelude.{◌≡◌, ◌≢◌, ◌↔◌, [], ◌∷◌, ◌++◌, length, map, IsTrue, IsPermutation};
+ghost use Rattle.std.specs.Prelude.{None, MatchOption, OnOk, OnErr};
 ghost use Rattle.slot_chain.specs.Buffer.{ended_of};
 ghost use Rattle.slot_chain.specs.Counts.{capped, sizes};
 ghost use Rattle.slot_chain.specs.Slots.{AddsSlots, slot_of};
 ghost use Rattle.slot_chain.specs.Magazines.{named_in, HasPlace};
 
+use crate::arrays::Arrays;
 use crate::buf::Buf;
 use crate::chain::Chain;
 use crate::error::NoMemory;
@@ -25,12 +27,15 @@ const MOST: usize = 4096;
 ///
 /// A [`Chain`] writes to the box of each buffer, whose cache line then has to move from core to core.
 /// A magazine (Bonwick and Adams, USENIX 2001) is an array of pointers to the boxes, and writes to
-/// none. What finds no place in the array is linked, as in a chain.
+/// none. What finds no place in the array is linked, as in a chain. Arrays that come as a whole
+/// ([`Magazine::append`]) are kept as they are.
 ///
 /// Only [`Magazine::make_room`] and [`Magazine::list_slots`] take memory; no other call can fail. A
 /// magazine may be dropped, with all its buffers.
 #[must_use]
 pub struct Magazine<'r> {
+    whole: Arrays<'r>,
+    // What was put one by one.
     array: Option<Vec<Buf<'r>>>,
     // For how many buffers an array is to be made, where there is none: 0 where none is wanted.
     wanted: usize,
@@ -44,7 +49,7 @@ impl<'r> Model for Magazine<'r> {
 
     ghost Value = { List Buffer };
 
-    ghost view = { λ m. named_in m.array ++ m.linked };
+    ghost view = { λ m. m.whole ++ (named_in m.array ++ m.linked) };
 
     ghost invariant = { λ m. IsFilled m.array m.linked };
 }
@@ -53,10 +58,12 @@ impl<'r> Model for Magazine<'r> {
 impl Drop for Magazine<'_> {
     fn drop(self) {
         let Magazine {
+            whole,
             array,
             wanted: _,
             linked,
         } = self;
+        drop(whole);
         drop(array);
         drop(linked);
     }
@@ -75,13 +82,14 @@ impl<'r> Magazine<'r> {
     pub fn new() -> Magazine<'r>
         ensures { result ≡ [] }
     {
-        Magazine::wanting(0)
+        Magazine::wanting(0, 0)
     }
 
-    fn wanting(wanted: usize) -> Magazine<'r>
+    fn wanting(arrays: usize, wanted: usize) -> Magazine<'r>
         ensures { result ≡ [] }
     {
         Magazine {
+            whole: Arrays::wanting(arrays),
             array: None,
             wanted,
             linked: Chain::new(),
@@ -98,17 +106,54 @@ impl<'r> Magazine<'r> {
         }
     }
 
+    /// Puts the buffers of an array to the others. Where there is room for the array it is kept as it
+    /// is, and neither it nor a buffer is looked at; else each buffer is put.
+    pub fn append(&mut self, array: Vec<Buf<'r>>)
+        ensures { IsPermutation (self.old ++ array.entry.items) self.new }
+    {
+        if array.is_empty() {
+            return;
+        }
+        if let Some(array) = self.whole.put(array) {
+            self.push_all(array);
+        }
+    }
+
+    // Puts each buffer of an array to the end.
+    fn push_all(&mut self, array: Vec<Buf<'r>>)
+        ensures { self.new ≡ self.old ++ array.entry.items }
+    {
+        for buf in array {
+            self.push(buf);
+        }
+    }
+
     /// Takes the buffer that came last, or `None` where there is none. Takes constant time.
     #[inline]
     pub fn pop(&mut self) -> Option<Buf<'r>>
         ensures { MatchOption result ((self.old ≡ []) × (self.new ≡ [])) (λ b. self.old ≡ self.new ++ b ∷ []) }
     {
-        match self.linked.pop() {
-            Some(buf) => Some(buf),
-            None => match &mut self.array {
-                None => None,
-                Some(array) => array.pop(),
-            },
+        if let Some(buf) = self.linked.pop() {
+            return Some(buf);
+        }
+        if let Some(buf) = pop_named(&mut self.array) {
+            return Some(buf);
+        }
+        pop_whole(&mut self.whole, &mut self.array)
+    }
+
+    /// Takes out the buffers that came last as the array in which they stand, or `None` where the last
+    /// one is linked, or there is none. Takes constant time.
+    pub fn pop_array(&mut self) -> Option<Vec<Buf<'r>>>
+        ensures { MatchOption result (self.new ≡ self.old)
+            (λ a. (a.items ≢ []) × (self.old ≡ self.new ++ a.items)) }
+    {
+        if !self.linked.is_empty() {
+            return None;
+        }
+        match take_named(&mut self.array) {
+            Some(array) => Some(array),
+            None => self.whole.take(),
         }
     }
 
@@ -132,7 +177,7 @@ impl<'r> Magazine<'r> {
         ensures value { result ≡ self.old }
         ensures emptied { self.new ≡ [] }
     {
-        let empty = Magazine::wanting(self.places());
+        let empty = Magazine::wanting(self.whole.places(), self.places());
         mem::replace(self, empty)
     }
 
@@ -142,6 +187,7 @@ impl<'r> Magazine<'r> {
     pub fn make_room(&mut self, alloc: Global)
         ensures { self.new ≡ self.old }
     {
+        self.whole.make_room(alloc);
         if self.wanted == 0 || !self.is_empty() {
             return;
         }
@@ -169,7 +215,8 @@ impl<'r> Magazine<'r> {
             None => 0,
             Some(array) => array.len() as u64,
         };
-        named.saturating_add(self.linked.len())
+        let array = named.saturating_add(self.linked.len());
+        self.whole.len().saturating_add(array)
     }
 
     /// The sum of the sizes of the buffers in bytes, each that of its class, or the greatest `u64`
@@ -185,7 +232,7 @@ impl<'r> Magazine<'r> {
     pub fn is_empty(&self) -> bool
         ensures { IsTrue result ↔ (self.now ≡ []) }
     {
-        names_none(&self.array) && self.linked.is_empty()
+        names_none(&self.array) && self.linked.is_empty() && self.whole.is_empty()
     }
 
     /// Lets go all buffers: it is then known what each ends as. Takes a walk over them.
@@ -202,9 +249,10 @@ impl<'r> Magazine<'r> {
     pub fn walk(&self) -> Walk<'_, 'r>
         ensures { result ≡ self.now }
     {
+        let whole = self.whole.as_slice();
         match &self.array {
-            None => self.linked.walk(),
-            Some(array) => self.linked.walk_behind(array.as_slice()),
+            None => self.linked.walk_behind(whole, Default::default()),
+            Some(array) => self.linked.walk_behind(whole, array.as_slice()),
         }
     }
 
@@ -235,6 +283,45 @@ fn offer<'r>(array: &mut Option<Vec<Buf<'r>>>, buf: Buf<'r>) -> Option<Buf<'r>>
             None
         }
     }
+}
+
+// Takes the last buffer of an array.
+#[inline]
+fn pop_named<'r>(array: &mut Option<Vec<Buf<'r>>>) -> Option<Buf<'r>>
+    ensures named { MatchOption result ((named_in array.old ≡ []) × (named_in array.new ≡ []))
+        (λ b. named_in array.old ≡ named_in array.new ++ b ∷ []) }
+    ensures place { MatchOption result (HasPlace array.new → HasPlace array.old) (λ _. HasPlace array.new) }
+{
+    match array {
+        None => None,
+        Some(array) => array.pop(),
+    }
+}
+
+// Takes an array out, where it names a buffer.
+fn take_named<'r>(array: &mut Option<Vec<Buf<'r>>>) -> Option<Vec<Buf<'r>>>
+    ensures { MatchOption result ((named_in array.old ≡ []) × (array.new ≡ array.old))
+        (λ a. (a.items ≢ []) × (named_in array.old ≡ a.items) × (array.new ≡ None)) }
+{
+    if names_none(array) {
+        return None;
+    }
+    array.take()
+}
+
+// Takes the last buffer of the array that came last as a whole, where the other array names none, and
+// puts what is left in its place.
+#[cold]
+#[inline(never)]
+fn pop_whole<'r>(whole: &mut Arrays<'r>, array: &mut Option<Vec<Buf<'r>>>) -> Option<Buf<'r>>
+    requires { named_in array.old ≡ [] }
+    ensures { MatchOption result ((whole.old ≡ []) × (whole.new ≡ []) × (named_in array.new ≡ []))
+        (λ b. whole.old ≡ (whole.new ++ named_in array.new) ++ b ∷ []) }
+{
+    let mut last = whole.take()?;
+    let buf = last.take_last();
+    *array = Some(last);
+    Some(buf)
 }
 
 // Whether an array names no buffer, or isn't there.

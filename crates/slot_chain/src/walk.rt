@@ -1,7 +1,8 @@
 //! Walks over lists of buffers that only look.
-ghost use Rattle.std.specs.Prelude.{◌≡◌, ◌++◌, map, OnOk, OnErr};
+ghost use Rattle.std.specs.Prelude.{◌≡◌, [], ◌∷◌, ◌++◌, map, MatchOption, OnOk, OnErr};
 ghost use Rattle.slot_chain.specs.Chains.{buffer_of, buffers_of, is_list};
 ghost use Rattle.slot_chain.specs.Counts.{capped, sizes};
+ghost use Rattle.slot_chain.specs.Magazines.{AreFilled, named_in_all};
 ghost use Rattle.slot_chain.specs.Slots.{AddsSlots, slot_of};
 
 use crate::buf::Buf;
@@ -27,7 +28,9 @@ pub struct Tag {
 /// the buffers that are still to be shown; the next one is the last of them.
 #[derive(Drop)]
 pub struct Walk<'a, 'r> {
-    // what an array names: shown last
+    // arrays that came as a whole: shown last
+    whole: &'a [Vec<Buf<'r>>],
+    // what an array names: shown before them
     named: &'a [Buf<'r>],
     // the top of the chain that is still to be shown
     at: &'a Link<Node<'r>>,
@@ -40,19 +43,26 @@ impl<'a, 'r> Model for Walk<'a, 'r> {
     ghost Value = { List Buffer };
 
     ghost use Rattle.slot_chain.specs.Chains.{buffers_of, is_list};
+    ghost use Rattle.slot_chain.specs.Magazines.{named_in_all, AreFilled};
 
-    ghost view = { λ w. w.named.now ++ buffers_of w.at.now };
+    ghost view = { λ w. (named_in_all w.whole.now ++ w.named.now) ++ buffers_of w.at.now };
 
-    ghost invariant = { λ w. is_list w.at.now };
+    ghost invariant = { λ w. AreFilled w.whole.now × is_list w.at.now };
 }
 
 impl<'a, 'r> Walk<'a, 'r> {
-    /// A walk over the list of that top, and then over what an array names.
-    pub(crate) fn from(named: &'a [Buf<'r>], at: &'a Link<Node<'r>>) -> Walk<'a, 'r>
-        requires { is_list at.now }
-        ensures { result ≡ named.now ++ buffers_of at.now }
+    /// A walk over the list of that top, then over what an array names, and then over what those
+    /// arrays name that came as a whole.
+    pub(crate) fn from(
+        whole: &'a [Vec<Buf<'r>>],
+        named: &'a [Buf<'r>],
+        at: &'a Link<Node<'r>>,
+    ) -> Walk<'a, 'r>
+        requires filled { AreFilled whole.now }
+        requires listed { is_list at.now }
+        ensures { result ≡ (named_in_all whole.now ++ named.now) ++ buffers_of at.now }
     {
-        Walk { named, at }
+        Walk { whole, named, at }
     }
 }
 
@@ -68,14 +78,44 @@ impl<'a, 'r> Iterator for Walk<'a, 'r> {
 
     fn next(&mut self) -> Option<Tag> {
         if self.at.is_empty() {
-            let (last, named) = self.named.split_last()?;
-            *self = Walk::from(named, self.at);
+            let (last, named, whole) = split_named(self.whole, self.named)?;
+            *self = Walk::from(whole, named, self.at);
             return Some(last.tag());
         }
         let node = self.at.get();
-        *self = Walk::from(self.named, node.below.get());
+        *self = Walk::from(self.whole, self.named, node.below.get());
         Some(node.tag())
     }
+}
+
+// The last buffer that an array names, or else the arrays that came as a whole, and what is left of them.
+fn split_named<'a, 'r>(
+    whole: &'a [Vec<Buf<'r>>],
+    named: &'a [Buf<'r>],
+) -> Option<(&'a Buf<'r>, &'a [Buf<'r>], &'a [Vec<Buf<'r>>])>
+    requires { AreFilled whole.now }
+    ensures { MatchOption result (named_in_all whole.now ++ named.now ≡ [])
+        (λ s. AreFilled s.2.now
+        × (named_in_all whole.now ++ named.now ≡ (named_in_all s.2.now ++ s.1.now) ++ s.0.now ∷ [])) }
+{
+    match named.split_last() {
+        Some((last, rest)) => Some((last, rest, whole)),
+        None => split_arrays(whole),
+    }
+}
+
+// The last buffer that the arrays name, and what is left of them.
+#[tactic(auto, using(crate::proofs::Filled::last_filled))]
+fn split_arrays<'a, 'r>(
+    whole: &'a [Vec<Buf<'r>>],
+) -> Option<(&'a Buf<'r>, &'a [Buf<'r>], &'a [Vec<Buf<'r>>])>
+    requires { AreFilled whole.now }
+    ensures { MatchOption result (named_in_all whole.now ≡ [])
+        (λ s. AreFilled s.2.now × (named_in_all whole.now ≡ (named_in_all s.2.now ++ s.1.now) ++ s.0.now ∷ [])) }
+{
+    let (array, rest) = whole.split_last()?;
+    let (last, named) = array.as_slice().split_last()?;
+    Some((last, named, rest))
 }
 
 /// The sum of the sizes of what a walk shows in bytes, each that of its class, or the greatest `u64`

@@ -1,5 +1,5 @@
 //! Want of memory.
-use slot_chain::{NoMemory, Room};
+use slot_chain::{NoMemory, Parcel, Room};
 use std::alloc::AllocError;
 
 // The words, also where memory for them is refused once.
@@ -21,4 +21,15 @@ fn is_all_that_a_room_can_lack(rt: HostRuntime) {
         assert_eq!(rt; refused, NoMemory);
         assert!(rt; Room::new(rt.alloc()).is_ok());
     }
+}
+
+// A parcel is made, or refused and nothing else, and then the next is made. One that no machine has the memory for is
+// refused.
+#[test]
+fn is_all_that_a_parcel_can_lack(rt: HostRuntime) {
+    if let Err(refused) = Parcel::new(rt.alloc(), 7, 100) {
+        assert_eq!(rt; refused, NoMemory);
+        assert!(rt; Parcel::new(rt.alloc(), 7, 100).is_ok());
+    }
+    assert!(rt; Parcel::new(rt.alloc(), 7, usize::MAX).err() == Some(NoMemory));
 }

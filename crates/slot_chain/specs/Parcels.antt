@@ -1,0 +1,23 @@
+-- What a contract sees of a parcel.
+use Rattle.std.specs.Prelude.{◌≡◌, ◌≢◌, ℕ, ◌<◌, ◌≤◌, ◌⊎◌, List, [], ◌∷◌, ◌++◌, length}
+use Rattle.slot_chain.specs.Buffer.{Buffer}
+
+-- buffers of one allocator, and for how many there is a place
+pub record ParcelState : Type 0 where
+  pub owner : ℕ
+  pub places : ℕ
+  pub items : List Buffer
+
+-- the allocator's buffer, as it is freed
+abbrev pub IsPacked : ℕ → Buffer → Type 0
+IsPacked owner b = (b.owner ≡ owner) × (b.forwards ≡ 0)
+
+-- the buffer comes to the end, and its count of forwards is 0
+abbrev pub Packs : ParcelState → Buffer → ParcelState → Type 0
+Packs old b new =
+    (b.owner ≡ old.owner) × (length old.items < old.places)
+    × (new ≡ record old { items = old.items ++ record b { forwards = 0 } ∷ [] })
+
+-- why a buffer doesn't come into it: it is another allocator's, or there is no place
+abbrev pub KeepsOut : ParcelState → Buffer → Type 0
+KeepsOut p b = (b.owner ≢ p.owner) ⊎ (p.places ≤ length p.items)

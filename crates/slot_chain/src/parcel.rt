@@ -1,0 +1,174 @@
+//! Buffers of one allocator that are handed over and freed as a whole.
+ghost use Rattle.std.specs.Prelude.{◌≡◌, ◌+◌, ◌≤◌, ◌↔◌, [], ◌∷◌, ◌++◌, All, IsTrue, MatchOption, MatchResult, IfOk};
+ghost use Rattle.region_cut.specs.Classes.{size_of};
+ghost use Rattle.slot_chain.specs.Counts.{capped, sizes};
+ghost use Rattle.slot_chain.specs.Parcels.{IsPacked, KeepsOut, Packs};
+
+use crate::buf::Buf;
+use crate::error::NoMemory;
+use region_cut::Class;
+use std::alloc::Global;
+use std::fmt;
+use std::marker::Model;
+
+/// Buffers of one allocator, which go from thread to thread and are freed as a whole.
+///
+/// Whoever frees a buffer looks at its box first, for its owner. A parcel's owner is known, so where it
+/// is freed none of its buffers is looked at: its array goes home as it is, and costs as much as one
+/// buffer does. Programs that pass buffers on in bursts, as packet pipelines do, pack them so.
+///
+/// Only [`Parcel::new`] takes memory. A parcel may be dropped, with all its buffers.
+#[must_use]
+pub struct Parcel<'r> {
+    owner: u16,
+    bytes: u64,
+    buffers: Vec<Buf<'r>>,
+}
+
+impl<'r> Model for Parcel<'r> {
+    ghost use Rattle.std.specs.Prelude.{◌≡◌, All, vec_capacity};
+    ghost use Rattle.slot_chain.specs.Counts.{capped, sizes};
+    ghost use Rattle.slot_chain.specs.Parcels.{ParcelState, IsPacked};
+
+    ghost Value = { ParcelState };
+
+    ghost view = { λ p. record { owner = p.owner; places = vec_capacity p.buffers; items = p.buffers.items } };
+
+    ghost invariant = { λ p. All (IsPacked p.owner) p.buffers.items × (p.bytes ≡ capped (sizes p.buffers.items)) };
+}
+
+// By hand, so that it is proved here once, and not again in each crate that lets one go.
+impl Drop for Parcel<'_> {
+    fn drop(self) {
+        let Parcel {
+            owner: _,
+            bytes: _,
+            buffers,
+        } = self;
+        drop(buffers);
+    }
+}
+
+impl<'r> Parcel<'r> {
+    /// An empty parcel for buffers of the allocator `owner`, with room for at least so many.
+    /// [`NoMemory`] is answered only where there is no memory for that.
+    pub fn new(alloc: Global, owner: u16, places: usize) -> Result<Parcel<'r>, NoMemory>
+        ensures { IfOk result (λ p. (p ≡ record { owner = owner; places = p.places; items = [] }) × (places ≤ p.places)) }
+    {
+        let buffers = Vec::with_capacity(alloc, places)?;
+        Ok(Parcel {
+            owner,
+            bytes: 0,
+            buffers,
+        })
+    }
+
+    /// The allocator to which all of it goes back.
+    ///
+    /// Its contract also tells what the type keeps of every parcel.
+    pub fn owner(&self) -> u16
+        ensures value { result ≡ self.now.owner }
+        ensures packed { All (IsPacked self.now.owner) self.now.items }
+    {
+        let _known = &self.buffers;
+        self.owner
+    }
+
+    /// The sum of the sizes of the buffers in bytes, or the greatest `u64` where that is less, in
+    /// constant time.
+    pub fn bytes_total(&self) -> u64
+        ensures { result ≡ capped (sizes self.now.items) }
+    {
+        self.bytes
+    }
+
+    /// The buffers, in the order in which they came, to be looked at.
+    pub fn buffers(&self) -> &[Buf<'r>]
+        ensures { result.now ≡ self.now.items }
+    {
+        self.buffers.as_slice()
+    }
+
+    /// Whether there is no buffer.
+    pub fn is_empty(&self) -> bool
+        ensures { IsTrue result ↔ (self.now.items ≡ []) }
+    {
+        self.buffers.is_empty()
+    }
+
+    /// Puts a buffer to the end, as it is when it is freed. It comes back where it is another
+    /// allocator's, or where there is no room. Takes constant time and no memory.
+    #[inline(always)]
+    pub fn push(&mut self, buf: Buf<'r>) -> Result<(), Buf<'r>>
+        ensures { MatchResult result (λ _. Packs self.old buf.entry self.new)
+            (λ b. (b ≡ buf.entry) × (self.new ≡ self.old) × KeepsOut self.old buf.entry) }
+    {
+        if buf.owner() != self.owner || self.buffers.len() >= self.buffers.capacity() {
+            return Err(buf);
+        }
+        let mut buf = buf;
+        buf.set_forwards(0);
+        self.bytes = self.bytes.saturating_add(buf.class().size() as u64);
+        self.buffers.push_reserved(buf);
+        Ok(())
+    }
+
+    /// Takes out the buffer that came last. Takes constant time, unless the sum of the sizes is more
+    /// than a `u64` holds.
+    pub fn pop(&mut self) -> Option<Buf<'r>>
+        ensures { MatchOption result ((self.old.items ≡ []) × (self.new ≡ self.old))
+            (λ b. (self.old.items ≡ self.new.items ++ b ∷ []) × (self.new ≡ record self.old { items = self.new.items })) }
+    {
+        let buf = self.buffers.pop()?;
+        self.bytes = bytes_left(self.bytes, buf.class(), self.buffers.as_slice());
+        Some(buf)
+    }
+
+    /// All of its buffers, in the order in which they came.
+    pub fn into_buffers(self) -> Vec<Buf<'r>>
+        ensures items { result.items ≡ self.entry.items }
+        ensures packed { All (IsPacked self.entry.owner) result.items }
+    {
+        let Parcel {
+            owner: _,
+            bytes: _,
+            buffers,
+        } = self;
+        buffers
+    }
+}
+
+// The sum of the sizes once a buffer of that class was taken out, where it was `before`.
+fn bytes_left(before: u64, class: Class, buffers: &[Buf<'_>]) -> u64
+    requires { before ≡ capped (sizes buffers.now + size_of class) }
+    ensures { result ≡ capped (sizes buffers.now) }
+{
+    if before < u64::MAX {
+        before - class.size() as u64
+    } else {
+        sum_of(buffers)
+    }
+}
+
+// The sum of the sizes, or the greatest `u64` where that is less.
+fn sum_of(buffers: &[Buf<'_>]) -> u64
+    ensures { result ≡ capped (sizes buffers.now) }
+{
+    let mut total = 0u64;
+    for buf in buffers {
+        total = total.saturating_add(buf.class().size() as u64);
+    }
+    total
+}
+
+// The buffers are not printed.
+impl fmt::Debug for Parcel<'_> {
+    fn fmt<W: fmt::Write>(&self, f: &mut fmt::Formatter<W>) -> fmt::Result {
+        write!(
+            f,
+            "Parcel({} buffers of {})",
+            self.buffers.len(),
+            self.owner
+        )
+    }
+}
