@@ -1,5 +1,5 @@
 //! The cache of a desk.
-ghost use Rattle.std.specs.Prelude.{◌≡◌, ◌-◌, ◌*◌, ◌^◌, ◌<◌, ◌≤◌, ◌↔◌, ◌⊎◌, [], ◌∷◌, ◌++◌, length, map, All, Some};
+ghost use Rattle.std.specs.Prelude.{◌≡◌, ◌≢◌, ◌-◌, ◌*◌, ◌^◌, ◌<◌, ◌≤◌, ◌↔◌, ◌⊎◌, [], ◌∷◌, ◌++◌, length, map, All, Some};
 ghost use Rattle.std.specs.Prelude.{None, MatchOption, MatchResult, IsTrue, IsPermutation, OnOk, OnErr};
 ghost use Rattle.slot_chain.specs.Buffer.{Buffer, ended_of};
 ghost use Rattle.slot_chain.specs.Counts.{capped, sizes};
@@ -16,7 +16,7 @@ use crate::row::Row;
 use crate::{Batch, BatchSink, Digits, Posting, RouteError};
 use region_cut::Slot;
 use region_cut::endings::Endings;
-use slot_chain::{Buf, NoMemory};
+use slot_chain::{Buf, NoMemory, Parcel};
 use std::alloc::Global;
 use std::marker::Model;
 use std::{fmt, mem};
@@ -167,6 +167,20 @@ impl<'r> Cache<'r> {
     {
         let size = item.class().size() as u64;
         self.row.push(item);
+        self.bytes = self.bytes.saturating_add(size);
+    }
+
+    /// Adds the buffers of a parcel of another desk, in constant time where there is room for its array
+    /// ([`Cache::make_room`]): none of them is looked at then.
+    pub fn put_all(&mut self, parcel: Parcel<'r>)
+        requires apart { parcel.owner ≢ self.old.number }
+        requires in_range { parcel.owner < 2 ^ self.old.digits.bits }
+        ensures same { self.new ≡ record self.old { items = self.new.items } }
+        ensures items { IsPermutation (self.old.items ++ parcel.entry.items) self.new.items }
+    {
+        let _known = parcel.owner();
+        let size = parcel.bytes_total();
+        self.row.append(parcel);
         self.bytes = self.bytes.saturating_add(size);
     }
 

@@ -1,9 +1,9 @@
 //! A row of magazines, one for each value of a digit.
 ghost use Rattle.std.specs.Prelude.{◌≡◌, ◌≢◌, ℕ, ◌+◌, ◌^◌, ◌<◌, ◌≤◌, ◌↔◌, [], ◌∷◌, ◌++◌, length, map, slice_index_or};
-ghost use Rattle.std.specs.Prelude.{slice_set, replicate, MatchOption, IsTrue, OnOk, OnErr};
+ghost use Rattle.std.specs.Prelude.{slice_set, replicate, List, IsPermutation, MatchOption, IsTrue, OnOk, OnErr};
 ghost use Rattle.std.specs.List.{flat_map};
 ghost use Rattle.arrayvec.specs.ArrayVec.{array_vec_len};
-ghost use Rattle.slot_chain.specs.Buffer.{ended_of};
+ghost use Rattle.slot_chain.specs.Buffer.{Buffer, ended_of};
 ghost use Rattle.slot_chain.specs.Counts.{capped, sizes};
 ghost use Rattle.digit_route.specs.Limits.{width_limit};
 ghost use Rattle.slot_chain.specs.Slots.{AddsSlots, slot_of};
@@ -40,6 +40,17 @@ pub(crate) fn push_at<'r>(magazines: &mut Magazines<'r>, k: usize, item: Buf<'r>
         (slice_index_or magazines.old.items k [] ++ item.entry ∷ []) }
 {
     magazines[k].push(item);
+}
+
+/// Puts the buffers of an array on the magazine at `k`.
+pub(crate) fn append_at<'r>(magazines: &mut Magazines<'r>, k: usize, array: Vec<Buf<'r>>)
+    requires { k < array_vec_len magazines.old }
+    ensures { (list : List Buffer) × IsPermutation (slice_index_or magazines.old.items k [] ++ array.entry.items) list
+        × (magazines.new.items ≡ slice_set magazines.old.items k list) }
+{
+    let mut magazine = take_at(magazines, k);
+    magazine.append(array);
+    set_at(magazines, k, magazine);
 }
 
 /// Takes out the whole magazine at `k`.

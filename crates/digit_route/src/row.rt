@@ -10,15 +10,15 @@ ghost use Rattle.slot_chain.specs.Slots.{AddsSlots, slot_of};
 ghost use Rattle.digit_route.specs.Route.{GivesBucket};
 
 use crate::magazines::{
-    Magazines, all_empty, bytes, empty_magazines, end_all, find_other, len, list_slots, make_room,
-    push_at, set_at, take_at,
+    Magazines, all_empty, append_at, bytes, empty_magazines, end_all, find_other, len, list_slots,
+    make_room, push_at, set_at, take_at,
 };
 use crate::moves::{scatter, scatter_all, split};
 use crate::walks::{fault_in, some_owner};
 use crate::{Batch, Digits, RouteError};
 use region_cut::Slot;
 use region_cut::endings::Endings;
-use slot_chain::{Buf, Magazine, NoMemory};
+use slot_chain::{Buf, Magazine, NoMemory, Parcel};
 use std::alloc::Global;
 use std::marker::Model;
 
@@ -159,6 +159,17 @@ impl<'r> Row<'r> {
     {
         let k = self.digits.digit(item.owner(), 0);
         push_at(&mut self.magazines, k as usize, item);
+    }
+
+    /// Adds the buffers of a parcel to a row by the first digit.
+    pub(crate) fn append(&mut self, parcel: Parcel<'r>)
+        requires round { self.old.round ≡ 0 }
+        requires left { All (IsLeft self.old.digits self.old.number self.old.round) parcel.items }
+        ensures same { self.new ≡ record self.old { items = self.new.items } }
+        ensures items { IsPermutation (self.old.items ++ parcel.entry.items) self.new.items }
+    {
+        let k = self.digits.digit(parcel.owner(), 0);
+        append_at(&mut self.magazines, k as usize, parcel.into_buffers());
     }
 
     /// Adds the buffers of a magazine.
