@@ -3,11 +3,14 @@
 //!
 //! Each test also holds where one allocation is refused: the call that meets it changes nothing,
 //! and works when it is made again.
+mod bursts;
 mod bytes;
 mod deep;
 mod front;
 mod home;
 mod listing;
+mod parcels;
+mod passing;
 mod posting;
 mod refusal;
 mod room;
@@ -190,6 +193,11 @@ enum Play {
     Refuses,
     GivesLarge,
     GoesRound,
+    Packs,
+    PacksAnothers,
+    FillsAtOnce,
+    Bursts,
+    BurstsLinked,
 }
 
 // Each plays on desks, chunks and a list of buffers that `hold` has.
@@ -212,6 +220,11 @@ fn run<'r>(
         Play::Refuses => refusal::refuses(rt, alloc, desk, parts),
         Play::GivesLarge => refusal::gives_large(rt, alloc, desk, parts),
         Play::GoesRound => room::goes_round(rt, alloc, desk, other, parts, lent),
+        Play::Packs => parcels::packs(rt, alloc, desk, parts, lent),
+        Play::PacksAnothers => parcels::packs_anothers(rt, alloc, desk, other, parts, lent),
+        Play::FillsAtOnce => parcels::fills_at_once(rt, alloc, desk, other, parts),
+        Play::Bursts => bursts::bursts(rt, alloc, desk, other, parts, lent),
+        Play::BurstsLinked => bursts::bursts_linked(rt, alloc, desk, other, parts, lent),
     }
 }
 

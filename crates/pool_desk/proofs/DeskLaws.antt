@@ -6,7 +6,8 @@ use Rattle.slot_chain.specs.Counts.{sizes}
 use Rattle.digit_route.specs.States.{CacheState}
 use Rattle.pool_desk.specs.declared.freed.Freed.TheVariants.{Cached, Due}
 use Rattle.pool_desk.specs.Desks.{DeskState}
-use Rattle.pool_desk.specs.Steps.{freed, passed_on, Frees}
+use Rattle.slot_chain.specs.Parcels.{ParcelState}
+use Rattle.pool_desk.specs.Steps.{freed, passed_on, CachesAll, Frees, FreesAll}
 use Rattle.pool_desk.specs.Handling.{GoesOn}
 
 -- the desk with another cache
@@ -44,6 +45,26 @@ frees_cached d b new other same p less =
 pub goes_on : (d : DeskState) (b : Buffer) (new : CacheState) → b.owner ≢ d.number
     → new ≡ record (cache_of d) { items = new.items } → IsPermutation (d.cached ++ passed_on b ∷ []) new.items → GoesOn d b (with_cache d new)
 goes_on d b new other same p = record { other = other; same = put_same d new same; cached = put_items d (passed_on b) new p }
+
+-- another's parcel
+pub caches_all : (d : DeskState) (p : ParcelState) (new : CacheState) → p.owner ≢ d.number
+    → new ≡ record (cache_of d) { items = new.items } → IsPermutation (d.cached ++ p.items) new.items → CachesAll d p (with_cache d new)
+caches_all d p new other same moved =
+    (other, put_same d new same, IsPermutation-trans _ _ _ (IsPermutation-append_comm p.items d.cached) moved)
+
+pub frees_all_due : (d : DeskState) (p : ParcelState) (new : CacheState) → p.owner ≢ d.number
+    → new ≡ record (cache_of d) { items = new.items } → IsPermutation (d.cached ++ p.items) new.items → new.limit < sizes new.items
+    → FreesAll d p Due (with_cache d new)
+frees_all_due d p new other same moved more =
+    let limit : new.limit ≡ d.limit = ap (λ (z : CacheState). z.limit) same in
+    (caches_all d p new other same moved, rw (← limit) more)
+
+pub frees_all_cached : (d : DeskState) (p : ParcelState) (new : CacheState) → p.owner ≢ d.number
+    → new ≡ record (cache_of d) { items = new.items } → IsPermutation (d.cached ++ p.items) new.items → (new.limit < sizes new.items → ⊥)
+    → FreesAll d p Cached (with_cache d new)
+frees_all_cached d p new other same moved less =
+    let limit : new.limit ≡ d.limit = ap (λ (z : CacheState). z.limit) same in
+    (caches_all d p new other same moved, rw (← limit) (le_of_not_lt new.limit _ less))
 
 pub not_both : (b : Bool) → b ≡ true → b ≡ false → ⊥
 not_both b p q = let e : true ≡ false = sym p ∙ q in cc

@@ -1,9 +1,9 @@
 -- The steps of handling a batch.
-use Rattle.std.proofs.Common.{◌≡◌, ◌≢◌, ℕ, suc, ◌+◌, ◌^◌, true, false, eqb, List, [], ◌∷◌, ◌++◌, refl, sym, ap, ◌∙◌, arith, All, IsPermutation}
-use Rattle.std.specs.Prelude.{Contains, min, ◌-◌, ◌<◌, length}
+use Rattle.std.proofs.Common.{◌≡◌, ℕ, ◌+◌, ◌^◌, true, false, eqb, List, [], ◌∷◌, ◌++◌, refl, sym, ap, ◌∙◌, arith, append_assoc, append-nil, All, IsPermutation}
+use Rattle.std.specs.Prelude.{Bool, Contains, MatchBool, ◌<◌, length}
 use Rattle.std.proofs.lemmas.Bool.{eq-eqb, ne_eqb}
-use Rattle.std.proofs.lemmas.List.{length-append}
-use Rattle.std.proofs.lemmas.List.Elements.{All-weaker, All-contains, All-contains_itself, Contains-append_left, Contains-push}
+use Rattle.std.proofs.lemmas.List.{length-append, map-append}
+use Rattle.std.proofs.lemmas.List.Elements.{All-weaker, All-contains, All-contains_itself, Contains-append_left, Contains-append_right, Contains-push, filter-append}
 use Rattle.std.proofs.lemmas.List.Sorted.{IsPermutation-refl, IsPermutation-trans, IsPermutation-append_right}
 use Rattle.slot_chain.specs.Buffer.{Buffer}
 use Rattle.slot_chain.specs.Counts.{capped}
@@ -12,15 +12,15 @@ use Rattle.digit_route.specs.Route.{IsWellRouted}
 use Rattle.pool_desk.specs.declared.counts.Counts.{Counts}
 use Rattle.pool_desk.specs.Homes.AtHome.{Kept}
 use Rattle.pool_desk.specs.Desks.{DeskState}
-use Rattle.pool_desk.specs.Steps.{Handles, CountsOf, passed_on}
-use Rattle.pool_desk.specs.Handling.{IsPassed, GoesHome, GoesOn}
+use Rattle.pool_desk.specs.Steps.{Handles, CountsOf, own, others, passed_on}
+use Rattle.pool_desk.specs.Handling.{Adds, IsPassed, GoesHome, GoesOn}
 
--- what of a batch is handled, and what is left of it
-pub record Handled (old : DeskState) (batch rest : List Buffer) (new : DeskState) (home on : ℕ) : Type 0 where
+-- what of a batch is handled, what was counted, and what is left of it
+pub record Handled (old : DeskState) (before : Counts) (batch rest : List Buffer) (new : DeskState) (after : Counts) : Type 0 where
   pub done : List Buffer
   pub parts : batch ≡ rest ++ done
   pub handled : Handles old done new
-  pub counted : CountsOf old.number done (record { home = home; on = on })
+  pub counted : Adds old.number done before after
   pub passed : All (IsPassed old.digits old.number) rest
 
 pub IsPassed-routed : (s : Scheme) (from a : ℕ) (items : List Buffer) → IsWellRouted s from a items → All (IsPassed s a) items
@@ -65,18 +65,100 @@ Handles-other old mid new done b h g =
       cached = rw test (more (passed_on b) _ old.cached mid.cached new.cached h.cached g.cached);
     }
 
-pub capped_more : (n : ℕ) → min (capped n + 1) (2 ^ 64 - 1) ≡ capped (suc n)
-capped_more n = omega arith
+-- one buffer
+pub Handles-one : (r : Bool) (old new : DeskState) (b : Buffer) → MatchBool r (GoesHome old b new) (GoesOn old b new) → Handles old (b ∷ []) new
+Handles-one true old new b g = Handles-own old old new [] b (Handles-none old) g
+Handles-one false old new b g = Handles-other old old new [] b (Handles-none old) g
 
-pub Counted-own : (a : ℕ) (done : List Buffer) (b : Buffer) (c c' : Counts) → CountsOf a done c → b.owner ≡ a → c'.home ≡ min (c.home + 1) (2 ^ 64 - 1) → c'.on ≡ c.on → CountsOf a (b ∷ done) c'
-Counted-own a done b c c' h e more same =
-    let test : eqb b.owner a ≡ true = eq-eqb _ _ e in
-    record { home = more ∙ rw (test, h.home) (capped_more _); on = same ∙ rw test h.on }
+pub Adds-none : (a : ℕ) (c : Counts) → c.home < 2 ^ 64 → c.on < 2 ^ 64 → Adds a [] c c
+Adds-none a c h o = record { home = omega arith; on = omega arith }
 
-pub Counted-other : (a : ℕ) (done : List Buffer) (b : Buffer) (c c' : Counts) → CountsOf a done c → b.owner ≢ a → c'.home ≡ c.home → c'.on ≡ min (c.on + 1) (2 ^ 64 - 1) → CountsOf a (b ∷ done) c'
-Counted-other a done b c c' h ne same more =
-    let test : eqb b.owner a ≡ false = ne_eqb _ _ ne in
-    record { home = same ∙ rw test h.home; on = more ∙ rw (test, h.on) (capped_more _) }
+pub Adds-one : (r : Bool) (old new : DeskState) (b : Buffer) (c c' : Counts) → MatchBool r (GoesHome old b new) (GoesOn old b new)
+    → MatchBool r (c' ≡ record c { home = capped (c.home + 1) }) (c' ≡ record c { on = capped (c.on + 1) }) → c.home < 2 ^ 64 → c.on < 2 ^ 64 → Adds old.number (b ∷ []) c c'
+Adds-one true old new b c c' g e h o =
+    let test : eqb b.owner old.number ≡ true = eq-eqb _ _ g.own in
+    record { home = rw (e, test) refl; on = rw (e, test) (omega arith) }
+Adds-one false old new b c c' g e h o =
+    let test : eqb b.owner old.number ≡ false = ne_eqb _ _ g.other in
+    record { home = rw (e, test) (omega arith); on = rw (e, test) refl }
+
+-- some, and then those before them
+pub Handles-join : (old mid new : DeskState) (xs ys : List Buffer) → Handles old xs mid → Handles mid ys new → Handles old (ys ++ xs) new
+Handles-join old mid new xs ys h g =
+    let number : mid.number ≡ old.number = ap (λ (d : DeskState). d.number) h.same in
+    let mine = rw number at g.home in
+    let theirs = rw number at g.cached in
+    record {
+      same = rw h.same at g.same;
+      home = rw (filter-append, map-append, append_assoc) (IsPermutation-trans _ _ _ (IsPermutation-append_right _ _ _ h.home) mine);
+      cached = rw (filter-append, map-append, append_assoc) (IsPermutation-trans _ _ _ (IsPermutation-append_right _ _ _ h.cached) theirs);
+    }
+
+pub Adds-join : (a : ℕ) (xs ys : List Buffer) (c d e : Counts) → Adds a xs c d → Adds a ys d e → Adds a (ys ++ xs) c e
+Adds-join a xs ys c d e h g =
+    let mine = length-append (own a ys) (own a xs) in
+    let theirs = length-append (others a ys) (others a xs) in
+    let m = h.home in let n = g.home in let o = h.on in let p = g.on in
+    record { home = rw filter-append (omega arith); on = rw filter-append (omega arith) }
+
+-- the last of what is left is handled
+pub Handled-more : (old mid new : DeskState) (batch rest bs : List Buffer) (c d e : Counts) → Handled old c batch (rest ++ bs) mid d
+    → Handles mid bs new → Adds mid.number bs d e → Handled old c batch rest new e
+Handled-more old mid new batch rest bs c d e h g a =
+    let number : mid.number ≡ old.number = ap (λ (d : DeskState). d.number) h.handled.same in
+    record {
+      done = bs ++ h.done;
+      parts = h.parts ∙ append_assoc rest bs h.done;
+      handled = Handles-join old mid new h.done bs h.handled g;
+      counted = Adds-join old.number h.done bs c d e h.counted (rw number at a);
+      passed = All-append_left (IsPassed old.digits old.number) rest bs h.passed;
+    }
+
+-- what is left may still be handled by the desk as it is now
+pub still_passed : (old mid : DeskState) (batch rest : List Buffer) (c d : Counts) → Handled old c batch rest mid d → All (IsPassed mid.digits mid.number) rest
+still_passed old mid batch rest c d h =
+    let number : mid.number ≡ old.number = ap (λ (x : DeskState). x.number) h.handled.same in
+    let digits : mid.digits ≡ old.digits = ap (λ (x : DeskState). x.digits) h.handled.same in
+    rw (number, digits) h.passed
+
+pub Handled-none : (d : DeskState) (c : Counts) (batch : List Buffer) → c.home < 2 ^ 64 → c.on < 2 ^ 64 → All (IsPassed d.digits d.number) batch → Handled d c batch batch d c
+Handled-none d c batch h o p = record {
+  done = [];
+  parts = sym (append-nil batch);
+  handled = Handles-none d;
+  counted = Adds-none d.number c h o;
+  passed = p;
+}
+
+-- one buffer more, the last of what is left
+pub Handled-one : (r : Bool) (old mid new : DeskState) (batch left rest : List Buffer) (b : Buffer) (c d e : Counts) → Handled old c batch left mid d → left ≡ rest ++ b ∷ []
+    → MatchBool r (GoesHome mid b new) (GoesOn mid b new) → MatchBool r (e ≡ record d { home = capped (d.home + 1) }) (e ≡ record d { on = capped (d.on + 1) }) → Handled old c batch rest new e
+Handled-one r old mid new batch left rest b c d e h is g counts =
+    let m = h.counted.home in
+    let o = h.counted.on in
+    let h' : Handled old c batch (rest ++ b ∷ []) mid d = rw is at h in
+    Handled-more old mid new batch rest (b ∷ []) c d e h' (Handles-one r mid new b g) (Adds-one r mid new b d e g counts (omega arith) (omega arith))
+
+-- the last of what is left may be handled by the desk as it is now
+pub last_passed : (old mid : DeskState) (batch left rest : List Buffer) (b : Buffer) (c d : Counts) → Handled old c batch left mid d → left ≡ rest ++ b ∷ [] → IsPassed mid.digits mid.number b
+last_passed old mid batch left rest b c d h is =
+    All-last (IsPassed mid.digits mid.number) rest b (rw is at (still_passed old mid batch left c d h))
+
+pub last_all_passed : (old mid : DeskState) (batch left rest bs : List Buffer) (c d : Counts) → Handled old c batch left mid d → left ≡ rest ++ bs → All (IsPassed mid.digits mid.number) bs
+last_all_passed old mid batch left rest bs c d h is =
+    let all : All (IsPassed mid.digits mid.number) (rest ++ bs) = rw is at (still_passed old mid batch left c d h) in
+    All-weaker (Contains bs) (IsPassed mid.digits mid.number) (λ x k. All-contains (IsPassed mid.digits mid.number) (rest ++ bs) x all (Contains-append_right rest bs x k)) bs (All-contains_itself bs)
+
+-- all that was left is handled
+pub Handled-all : (old new : DeskState) (batch : List Buffer) (c e : Counts) → Handled old c batch [] new e → Handles old batch new × Adds old.number batch c e
+Handled-all old new batch c e h = rw h.parts (h.handled, h.counted)
+
+-- counted from none on
+pub CountsOf-added : (a : ℕ) (bs : List Buffer) (c : Counts) → Adds a bs (record { home = 0; on = 0 }) c → CountsOf a bs c
+CountsOf-added a bs c h =
+    let m = h.home in
+    let o = h.on in
+    record { home = omega arith; on = omega arith }
 
 -- a chain without its last buffer is shorter
 pub fewer_in : (list rest : List Buffer) (b : Buffer) → list ≡ rest ++ b ∷ [] → length rest < length list

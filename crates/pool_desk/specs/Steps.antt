@@ -5,6 +5,7 @@ use Rattle.region_cut.specs.declared.part.Part.{Part}
 use Rattle.region_cut.specs.Classes.{slots_of, largest_of, IsLeastFor, NoClassFor}
 use Rattle.slot_chain.specs.Buffer.{Buffer}
 use Rattle.slot_chain.specs.Counts.{capped, sizes}
+use Rattle.slot_chain.specs.Parcels.{ParcelState}
 use Rattle.pool_desk.specs.declared.error.DeskError.{DeskError}
 use Rattle.pool_desk.specs.declared.error.DeskError.TheVariants.{TooLarge, NeedChunk, NotNeeded, NoMemory}
 use Rattle.pool_desk.specs.declared.freed.Freed.{Freed}
@@ -62,6 +63,21 @@ Frees old b Home new =
     × IsPermutation (Kept (freed b) ∷ old.home) new.home
 Frees old b Cached new = Caches old b new × (sizes new.cached ≤ old.limit)
 Frees old b Due new = Caches old b new × (old.limit < sizes new.cached)
+
+-- another's parcel goes into the cache
+abbrev pub CachesAll : DeskState → ParcelState → DeskState → Type 0
+CachesAll old p new =
+    (p.owner ≢ old.number) × (new ≡ record old { cached = new.cached })
+    × IsPermutation (p.items ++ old.cached) new.cached
+
+-- an own parcel's buffers go home, another's into the cache, which is due exactly where its bytes are then more than
+-- the limit: as where each of them is freed
+abbrev pub FreesAll : DeskState → ParcelState → Freed → DeskState → Type 0
+FreesAll old p Home new =
+    (p.owner ≡ old.number) × (new ≡ record old { home = new.home })
+    × IsPermutation (map (λ (b : Buffer). Kept b) p.items ++ old.home) new.home
+FreesAll old p Cached new = CachesAll old p new × (sizes new.cached ≤ old.limit)
+FreesAll old p Due new = CachesAll old p new × (old.limit < sizes new.cached)
 
 -- the buffer was passed on once more, and all else of it is the same
 abbrev pub passed_on : Buffer → Buffer

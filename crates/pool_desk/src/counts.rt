@@ -1,4 +1,6 @@
 //! What became of a batch.
+ghost use Rattle.std.specs.Prelude.{◌≡◌, ◌+◌, MatchBool};
+ghost use Rattle.slot_chain.specs.Counts.{capped};
 
 /// How many buffers of a batch came home, and how many are passed on, each at most the greatest
 /// `u64`.
@@ -8,4 +10,18 @@ pub struct Counts {
     pub home: u64,
     /// Those that are now in its cache.
     pub on: u64,
+}
+
+impl Counts {
+    /// One more came home, or is passed on.
+    pub(crate) fn count(&mut self, is_home: bool)
+        ensures { MatchBool is_home (self.new ≡ record self.old { home = capped (self.old.home + 1) })
+            (self.new ≡ record self.old { on = capped (self.old.on + 1) }) }
+    {
+        if is_home {
+            self.home = self.home.saturating_add(1);
+        } else {
+            self.on = self.on.saturating_add(1);
+        }
+    }
 }

@@ -13,8 +13,8 @@ ghost use Rattle.pool_desk.specs.HomesState.{HasClass};
 ghost use Rattle.pool_desk.specs.Desks.{profile_at};
 ghost use Rattle.pool_desk.specs.Homes.{IsOwn, kept_in};
 ghost use Rattle.pool_desk.specs.Slots.{slots_in};
-ghost use Rattle.pool_desk.specs.Steps.{Claims, NotNeededFor, Allocs, Frees, Handles, CountsOf};
-ghost use Rattle.pool_desk.specs.Handling.{IsPassed, GoesHome, GoesOn};
+ghost use Rattle.pool_desk.specs.Steps.{Claims, NotNeededFor, Allocs, Frees, FreesAll, Handles, CountsOf};
+ghost use Rattle.pool_desk.specs.Handling.{Adds, IsPassed, GoesHome, GoesOn};
 
 use crate::homes::Homes;
 use crate::{Counts, DeskError, DeskPosting, Freed, IdleDesk};
@@ -22,7 +22,7 @@ use digit_route::laws::shared_at_most_all;
 use digit_route::{Batch, Cache, Digits, RouteError};
 use region_cut::endings::Endings;
 use region_cut::{Class, Part, Slot};
-use slot_chain::{Buf, NoMemory};
+use slot_chain::{Buf, Magazine, NoMemory, Parcel};
 use std::alloc::Global;
 use std::fmt;
 use std::marker::Model;
@@ -183,6 +183,27 @@ impl<'r> Desk<'r> {
         }
     }
 
+    /// Takes the buffers of an own parcel home, and another's parcel into the cache, as it is. Always
+    /// succeeds, takes no memory, and for another's parcel constant time: none of its buffers is looked
+    /// at, where the cache has room for its array ([`Desk::make_room`]).
+    ///
+    /// The owner's number is one of the desk's profile.
+    pub fn free_all(&mut self, parcel: Parcel<'r>) -> Freed
+        requires { parcel.owner < 2 ^ self.old.digits.bits }
+        ensures { FreesAll self.old parcel.entry result self.new }
+    {
+        if parcel.owner() == self.cache.number() {
+            self.homes.keep_all(parcel.into_buffers());
+            return Freed::Home;
+        }
+        self.cache.put_all(parcel);
+        if self.cache.is_due() {
+            Freed::Due
+        } else {
+            Freed::Cached
+        }
+    }
+
     // Takes an own buffer of a batch home, and puts another into the cache with one more forward.
     fn handle_one(&mut self, buf: Buf<'r>) -> bool
         requires { buf.owner ≢ self.old.number → IsPassed self.old.digits self.old.number buf }
@@ -211,16 +232,41 @@ impl<'r> Desk<'r> {
         ensures counts { CountsOf self.old.number batch.entry.items result }
     {
         let mut magazine = batch.into_magazine();
-        let mut home = 0u64;
-        let mut on = 0u64;
-        while let Some(buf) = magazine.pop() {
-            if self.handle_one(buf) {
-                home = home.saturating_add(1);
-            } else {
-                on = on.saturating_add(1);
-            }
+        let mut counts = Counts { home: 0, on: 0 };
+        while let Some(array) = magazine.pop_array() {
+            counts = self.handle_array(array, counts);
         }
-        Counts { home, on }
+        self.handle_each(magazine, counts)
+    }
+
+    // Handles the buffers of an array, and counts them on.
+    fn handle_array(&mut self, array: Vec<Buf<'r>>, counts: Counts) -> Counts
+        requires { All (IsPassed self.old.digits self.old.number) array.items }
+        ensures parts { Handles self.old array.entry.items self.new }
+        ensures counts { Adds self.old.number array.entry.items counts result }
+    {
+        let mut array = array;
+        let mut counts = counts;
+        while let Some(buf) = array.pop() {
+            let is_home = self.handle_one(buf);
+            counts.count(is_home);
+        }
+        counts
+    }
+
+    // Handles the buffers of a magazine one by one, and counts them on.
+    fn handle_each(&mut self, magazine: Magazine<'r>, counts: Counts) -> Counts
+        requires { All (IsPassed self.old.digits self.old.number) magazine }
+        ensures parts { Handles self.old magazine.entry self.new }
+        ensures counts { Adds self.old.number magazine.entry counts result }
+    {
+        let mut magazine = magazine;
+        let mut counts = counts;
+        while let Some(buf) = magazine.pop() {
+            let is_home = self.handle_one(buf);
+            counts.count(is_home);
+        }
+        counts
     }
 
     /// Why [`Desk::batch_for`] would refuse, or `None` where it would give a batch.

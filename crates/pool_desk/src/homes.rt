@@ -2,7 +2,7 @@
 ghost use Rattle.std.specs.Prelude.{◌≡◌, ◌≢◌, ◌<◌, ◌↔◌, [], ◌∷◌, ◌++◌, IsTrue, IsPermutation, MatchResult, OnOk};
 ghost use Rattle.std.specs.Prelude.{OnErr, All, length, map};
 ghost use Rattle.region_cut.specs.Classes.{slots_of};
-ghost use Rattle.slot_chain.specs.Buffer.{ended_of, owner_limit};
+ghost use Rattle.slot_chain.specs.Buffer.{Buffer, ended_of, owner_limit};
 ghost use Rattle.slot_chain.specs.Counts.{capped};
 ghost use Rattle.pool_desk.specs.Homes.{Draws, GivesOne, IsOwn, kept_in, slot_at, unused_from};
 ghost use Rattle.pool_desk.specs.Homes.AtHome.{Kept};
@@ -107,6 +107,17 @@ impl<'r> Homes<'r> {
     {
         let class = buf.class();
         self.by_class[class.number() as usize].keep(buf);
+    }
+
+    /// Takes own buffers home.
+    pub(crate) fn keep_all(&mut self, array: Vec<Buf<'r>>)
+        requires { All (λ (b : Buffer). b.owner ≡ self.old.owner) array.items }
+        ensures same { self.new ≡ record self.old { slots = self.new.slots } }
+        ensures slots { IsPermutation (map (λ (b : Buffer). Kept b) array.entry.items ++ self.old.slots) self.new.slots }
+    {
+        for buf in array {
+            self.keep(buf);
+        }
     }
 
     /// The number of slots, or the greatest `u64` where that is less.

@@ -28,7 +28,13 @@ fn is_refused(rt: &impl Abort, desk: &mut Desk<'_>, t: u16, want: RouteError) {
 }
 
 // A batch goes from one desk to another: so many come home, and so many are passed on.
-fn send<'r>(rt: &impl Abort, from: &mut Desk<'r>, to: &mut Desk<'r>, home: u64, on: u64) {
+pub(super) fn send<'r>(
+    rt: &impl Abort,
+    from: &mut Desk<'r>,
+    to: &mut Desk<'r>,
+    home: u64,
+    on: u64,
+) {
     let batch = from.batch_for(to.number()).ok().expect(rt, "a batch");
     let count = batch.len();
     let went = handle(rt, to, batch);
