@@ -1,5 +1,7 @@
 use denote.Exit.{no}
-use denote.Param.Send.{param_send, arg_send}
+use denote.Param.Send.{param_send, arg_send, sendable}
+use Rattle.std.proofs.Crossing.{crosses}
+use Rattle.pool_fabric.proofs.Travels.{seat_send}
 use Rattle.inbox_tests.proofs.Travels.{posting_send}
 use Rattle.inbox_tests.proofs.tests.threads.post_beside.Goals as goal
 
@@ -10,3 +12,9 @@ run_beside-seat-requires-send-W g c κs within =
 pub run_beside-seat-requires-send-X : goal.run_beside-seat-requires-send-X
 run_beside-seat-requires-send-X g c κs within =
     param_send _ _ (arg_send _ no _ (posting_send (record { mir = _; lft = _ }) (record { mir = _; lft = _ })))
+
+pub run_beside-seat-requires-send-D : goal.run_beside-seat-requires-send-D
+run_beside-seat-requires-send-D g c κs within = search (sendable, crosses, seat_send) depth 40 fits 6000
+
+pub run_beside-seat-requires-send-E : goal.run_beside-seat-requires-send-E
+run_beside-seat-requires-send-E g c κs within = search (sendable, crosses, seat_send) depth 40 fits 6000
