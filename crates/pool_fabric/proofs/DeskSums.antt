@@ -16,7 +16,8 @@ use Rattle.pool_desk.specs.Homes.{AtHome, slot_at, unused_from, Draws, GivesOne,
 use Rattle.pool_desk.specs.Homes.AtHome.{Kept, Fresh}
 use Rattle.pool_desk.specs.Slots.{places}
 use Rattle.pool_desk.specs.Desks.{DeskState}
-use Rattle.pool_desk.specs.Steps.{Claims, Allocs, Frees, Handles, Caches, freed, passed_on, own, others}
+use Rattle.slot_chain.specs.Parcels.{ParcelState}
+use Rattle.pool_desk.specs.Steps.{Claims, Allocs, Frees, FreesAll, Handles, Caches, CachesAll, freed, passed_on, own, others}
 use Rattle.pool_desk.specs.declared.freed.Freed.{Freed}
 use Rattle.pool_desk.specs.declared.freed.Freed.TheVariants.{Home, Cached, Due}
 use Rattle.pool_fabric.specs.declared.ledger.DrawnChunk.{DrawnChunk}
@@ -93,6 +94,29 @@ pub got_back_drawn : (old : DeskState) (b : Buffer) (r : Freed) (new : DeskState
 got_back_drawn old b Home new c = (ap (λ (d : DeskState). d.drawn) c.1, ap (λ (d : DeskState). d.number) c.1, ap (λ (d : DeskState). d.digits) c.1, ap (λ (d : DeskState). d.limit) c.1)
 got_back_drawn old b Cached new c = (ap (λ (d : DeskState). d.drawn) c.0.1, ap (λ (d : DeskState). d.number) c.0.1, ap (λ (d : DeskState). d.digits) c.0.1, ap (λ (d : DeskState). d.limit) c.0.1)
 got_back_drawn old b Due new c = (ap (λ (d : DeskState). d.drawn) c.0.1, ap (λ (d : DeskState). d.number) c.0.1, ap (λ (d : DeskState). d.digits) c.0.1, ap (λ (d : DeskState). d.limit) c.0.1)
+
+-- another's parcel is cached
+cached_all : (h : Slot → ℕ) (old : DeskState) (p : ParcelState) (new : DeskState) → CachesAll old p new → held h new ≡ held h old + weigh (of_buffer h) p.items
+cached_all h old p new c =
+    let w = weigh-permutation (of_buffer h) (p.items ++ old.cached) new.cached c.2 in
+    let q = weigh-append (of_buffer h) p.items old.cached in
+    let s = ap (λ (d : DeskState). weigh (of_home h) d.home) c.1 in
+    omega arith
+
+pub got_all_back : (h : Slot → ℕ) (old : DeskState) (p : ParcelState) (r : Freed) (new : DeskState) → FreesAll old p r new → held h new ≡ held h old + weigh (of_buffer h) p.items
+got_all_back h old p Home new c =
+    let w = weigh-permutation (of_home h) (map (λ (b : Buffer). Kept b) p.items ++ old.home) new.home c.2 in
+    let q = weigh-append (of_home h) (map (λ (b : Buffer). Kept b) p.items) old.home in
+    let m = weigh-map (of_home h) (λ (b : Buffer). Kept b) p.items in
+    let s = ap (λ (d : DeskState). weigh (of_buffer h) d.cached) c.1 in
+    omega arith
+got_all_back h old p Cached new c = cached_all h old p new c.0
+got_all_back h old p Due new c = cached_all h old p new c.0
+
+pub got_all_back_drawn : (old : DeskState) (p : ParcelState) (r : Freed) (new : DeskState) → FreesAll old p r new → (new.drawn ≡ old.drawn) × (new.number ≡ old.number) × (new.digits ≡ old.digits) × (new.limit ≡ old.limit)
+got_all_back_drawn old p Home new c = (ap (λ (d : DeskState). d.drawn) c.1, ap (λ (d : DeskState). d.number) c.1, ap (λ (d : DeskState). d.digits) c.1, ap (λ (d : DeskState). d.limit) c.1)
+got_all_back_drawn old p Cached new c = (ap (λ (d : DeskState). d.drawn) c.0.1, ap (λ (d : DeskState). d.number) c.0.1, ap (λ (d : DeskState). d.digits) c.0.1, ap (λ (d : DeskState). d.limit) c.0.1)
+got_all_back_drawn old p Due new c = (ap (λ (d : DeskState). d.drawn) c.0.1, ap (λ (d : DeskState). d.number) c.0.1, ap (λ (d : DeskState). d.digits) c.0.1, ap (λ (d : DeskState). d.limit) c.0.1)
 
 pub handled : (h : Slot → ℕ) (old : DeskState) (batch : List Buffer) (new : DeskState) → Handles old batch new → held h new ≡ held h old + weigh (of_buffer h) batch
 handled h old batch new c =

@@ -4,7 +4,8 @@ use Rattle.std.specs.Prelude.{Ok}
 use Rattle.region_cut.specs.declared.part.Part.{Part}
 use Rattle.slot_chain.specs.Buffer.{Buffer}
 use Rattle.pool_desk.specs.Desks.{DeskState}
-use Rattle.pool_desk.specs.Steps.{Claims, Allocs, Frees}
+use Rattle.slot_chain.specs.Parcels.{ParcelState}
+use Rattle.pool_desk.specs.Steps.{Claims, Allocs, Frees, FreesAll}
 use Rattle.pool_desk.specs.declared.freed.Freed.{Freed}
 use Rattle.pool_fabric.specs.Weights.{weigh}
 use Rattle.pool_fabric.specs.Names.{Names, box_at}
@@ -16,7 +17,7 @@ use Rattle.pool_fabric.specs.Posts.{Posts, TakesSome}
 use Rattle.pool_fabric.specs.Calls.{ClaimsPart}
 use Rattle.pool_fabric.specs.Stations.{StationState, IsSeated, IsStation}
 use Rattle.pool_fabric.proofs.Sums.{weigh-append, weigh-snoc}
-use Rattle.pool_fabric.proofs.DeskSums.{claimed, claimed_chunk, gave, gave_owed, gave_chunks, got_back, got_back_drawn}
+use Rattle.pool_fabric.proofs.DeskSums.{claimed, claimed_chunk, gave, gave_owed, gave_chunks, got_all_back, got_all_back_drawn, got_back, got_back_drawn}
 use Rattle.pool_fabric.proofs.Posting.{length-sent_all, handled_stays, handled_sum, posted_sum}
 
 -- another desk of the same number, lent and freed other buffers
@@ -60,6 +61,23 @@ frees_keeps n s b f d freed i more a =
           let e = got_back h s.desk b f d a in
           let o = ap (λ l. weigh (of_chunk h) l) same.0 in
           let q = weigh-snoc (of_buffer h) s.freed b in
+          let z = ap (weigh (of_buffer h)) more in
+          omega arith;
+      chunks = λ g. ap (λ l. weigh (of_drawn g) l) same.0 ∙ i.chunks g;
+      seated = reseat n s d s.lent freed same.1 same.2 same.3 i.seated;
+    }
+
+-- a parcel is freed
+pub frees_all_keeps : (n : Names) (s : StationState) (p : ParcelState) (f : Freed) (d : DeskState) (freed : List Buffer) → IsStation n s → freed ≡ s.freed ++ p.items → FreesAll s.desk p f d
+    → IsStation n (record s { desk = d; freed = freed })
+frees_all_keeps n s p f d freed i more a =
+    let same = got_all_back_drawn s.desk p f d a in
+    record {
+      slots = λ h.
+          let w = i.slots h in
+          let e = got_all_back h s.desk p f d a in
+          let o = ap (λ l. weigh (of_chunk h) l) same.0 in
+          let q = weigh-append (of_buffer h) s.freed p.items in
           let z = ap (weigh (of_buffer h)) more in
           omega arith;
       chunks = λ g. ap (λ l. weigh (of_drawn g) l) same.0 ∙ i.chunks g;

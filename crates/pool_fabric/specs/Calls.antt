@@ -2,7 +2,8 @@
 use Rattle.std.specs.Prelude.{◌≡◌, ℕ, [], ◌∷◌, ◌++◌, Result, Ok, Err}
 use Rattle.slot_chain.specs.Buffer.{Buffer}
 use Rattle.region_cut.specs.declared.part.Part.{Part}
-use Rattle.pool_desk.specs.Steps.{Claims, Allocs, Frees}
+use Rattle.slot_chain.specs.Parcels.{ParcelState}
+use Rattle.pool_desk.specs.Steps.{Claims, Allocs, Frees, FreesAll}
 use Rattle.pool_desk.specs.declared.error.DeskError.{DeskError}
 use Rattle.pool_desk.specs.declared.freed.Freed.{Freed}
 use Rattle.pool_fabric.specs.Pages.{drawn_for}
@@ -19,6 +20,11 @@ Lends old size (Err e) new = Allocs old.desk size (Err e) new.desk × (new ≡ o
 pub record TakesBack (old : StationState) (b : Buffer) (r : Freed) (new : StationState) : Type 0 where
   pub desk : Frees old.desk b r new.desk
   pub same : new ≡ record old { desk = new.desk; freed = old.freed ++ b ∷ [] }
+
+-- the desk takes all buffers of a parcel back
+pub record TakesAllBack (old : StationState) (p : ParcelState) (r : Freed) (new : StationState) : Type 0 where
+  pub desk : FreesAll old.desk p r new.desk
+  pub same : new ≡ record old { desk = new.desk; freed = old.freed ++ p.items }
 
 -- the desk claims a part for the class, which is written on its page
 pub record ClaimsPart (old : StationState) (class : ℕ) (new : StationState) : Type 0 where

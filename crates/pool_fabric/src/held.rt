@@ -1,7 +1,7 @@
 //! A station that a worker holds.
 ghost use Rattle.std.specs.Prelude.{◌≡◌, ◌≢◌, ◌<◌, ◌^◌, [], MatchResult};
 ghost use Rattle.slot_chain.specs.Counts.{capped, sizes};
-ghost use Rattle.pool_fabric.specs.Calls.{Lends, TakesBack};
+ghost use Rattle.pool_fabric.specs.Calls.{Lends, TakesAllBack, TakesBack};
 
 use crate::ledger::Page;
 use crate::named::Named;
@@ -11,7 +11,7 @@ use crate::station::Station;
 use batch_inbox::{Receiver, Sender};
 use digit_route::Digits;
 use pool_desk::{Desk, DeskError, Freed};
-use slot_chain::Buf;
+use slot_chain::{Buf, Parcel};
 use std::alloc::Global;
 use std::fmt;
 use std::marker::Model;
@@ -97,6 +97,15 @@ impl<'r, T: Receiver, S: Sender, J: Naming> HeldStation<'r, T, S, J> {
     {
         self.freed = self.freed.and(&buf);
         self.desk.free(buf)
+    }
+
+    /// Takes all buffers of a parcel back, as [`Desk::free_all`] does.
+    pub fn free_all(&mut self, parcel: Parcel<'r>) -> Freed
+        requires { parcel.owner < 2 ^ self.old.desk.digits.bits }
+        ensures { TakesAllBack self.old parcel.entry result self.new }
+    {
+        self.freed = self.freed.and_all(parcel.buffers());
+        self.desk.free_all(parcel)
     }
 
     /// Makes room for the pointers to others' buffers that will be freed here, as [`Desk::make_room`]

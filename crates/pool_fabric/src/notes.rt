@@ -33,6 +33,17 @@ impl<T> Notes<T> {
         Notes { of: PhantomData }
     }
 
+    /// The list with these values more, which stay where they are.
+    pub fn and_all(&self, values: &[T]) -> Notes<T>
+        ensures { result.items ≡ self.now.items ++ values.now }
+    {
+        let mut all = self.with(&Notes::new());
+        for value in values {
+            all = all.and(value);
+        }
+        all
+    }
+
     /// This list, and then the other.
     pub fn with(&self, other: &Notes<T>) -> Notes<T>
         ensures { result.items ≡ self.now.items ++ other.now.items }
