@@ -6,6 +6,8 @@ mod again;
 #[cfg(test)]
 mod alone;
 #[cfg(test)]
+mod bursts;
+#[cfg(test)]
 mod fixed;
 #[cfg(test)]
 mod over_counting;
@@ -28,6 +30,8 @@ mod watched;
 pub use again::enter_again;
 #[cfg(test)]
 pub use alone::work_alone;
+#[cfg(test)]
+pub use bursts::pass_in_bursts;
 #[cfg(test)]
 pub use fixed::Fixed;
 #[cfg(test)]

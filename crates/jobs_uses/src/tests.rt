@@ -1,7 +1,9 @@
-//! Tests of allocators: alone, two that share a pool, and a workload whose posts are counted. The words of refusals.
+//! Tests of allocators: alone, two that share a pool, buffer by buffer and in bursts, and a workload whose posts are
+//! counted. The words of refusals.
 
 mod again;
 mod alone;
+mod bursts;
 mod counted;
 mod passing;
 mod refused;

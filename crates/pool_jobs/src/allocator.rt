@@ -9,10 +9,12 @@ use crate::buffer::Buffer;
 use crate::error::PoolError;
 use crate::gate::Gate;
 use crate::heap::Heap;
+use crate::parcel::Parcel;
 use batch_inbox::{Mail, Mailbox, Receiver, Sender};
 use pool_desk::{DeskError, Freed};
 use pool_fabric::{Fabric, HeldStation, Naming};
 use region_cut::Class;
+use slot_chain::{NoMemory, Parcel as Packed};
 use std::alloc::Global;
 use std::fmt;
 use std::marker::Model;
@@ -33,9 +35,10 @@ pub struct Allocator<'a, 'r, M: Mailbox, T: Receiver, S: Sender, G: Gate, J: Nam
     gate: &'a G,
     alloc: Global,
     worker: u32,
-    calls: u64,
-    // The number of calls there had been when it last looked into its inbox for their number alone.
+    // The number of calls there had been when it last looked into its inbox for their number alone, and
+    // how many there were since.
     looked: u64,
+    since: u64,
     // While fewer bytes are cached, nothing is posted: 0 but after a post that was refused, until
     // the next claim.
     post_from: u64,
@@ -67,18 +70,19 @@ impl<
     fn next_call(&mut self) -> u64
         ensures { self.new ≡ self.old }
     {
-        self.calls = self.calls.wrapping_add(1);
-        self.calls
+        self.since = self.since.wrapping_add(1);
+        self.looked.wrapping_add(self.since)
     }
 
     // Whether it is time for a look into the inbox, where a buffer is asked for.
     fn is_to_look(&mut self) -> bool
         ensures { self.new ≡ self.old }
     {
-        if self.calls.wrapping_sub(self.looked) < LOOK_EVERY {
+        if self.since < LOOK_EVERY {
             return false;
         }
-        self.looked = self.calls;
+        self.looked = self.looked.wrapping_add(self.since);
+        self.since = 0;
         true
     }
 
@@ -230,6 +234,34 @@ impl<
         }
     }
 
+    /// An empty parcel for buffers of this allocator, with room for at least so many.
+    pub fn parcel(&self, places: usize) -> Result<Parcel<'r, J>, NoMemory>
+        ensures { IfOk result (λ p. (p ≡ record { owner = self.now.desk.number; places = p.places; items = [] })
+            × (places ≤ p.places)) }
+    {
+        let parcel = Packed::new(self.alloc, self.station.number(), places)?;
+        Ok(Parcel::new(parcel))
+    }
+
+    /// Takes back all buffers of a parcel, and posts all that is cached where that is due, as
+    /// [`Allocator::free`] does. Another allocator's parcel goes home as it is: none of its buffers is
+    /// looked at, where the cache has room for its array, as it has but for the first ones.
+    pub fn free_all<R: Wait>(&mut self, rt: &R, parcel: Parcel<'r, J>)
+        ensures desk { SameDesk J.names self.old self.new }
+        ensures lent { self.new.lent ≡ self.old.lent }
+        ensures freed { self.new.freed ≡ self.old.freed ++ parcel.entry.items }
+    {
+        let packed = parcel.into_packed();
+        let _number = self.station.number();
+        let call = self.next_call();
+        self.gate.before(self.worker, call);
+        let freed = self.station.free_all(packed);
+        self.gate.after(self.worker, call);
+        if let Freed::Due = freed {
+            self.post_again(rt);
+        }
+    }
+
     /// Posts all that is cached and puts the station on the shelf. It comes back where a post was
     /// refused, so that something is still cached, or where the shelf is full.
     pub fn retire<R: Wait>(self, rt: &R) -> Option<HeldStation<'r, T, S, J>>
@@ -240,8 +272,8 @@ impl<
             gate: _,
             alloc: _,
             worker,
-            calls: _,
             looked: _,
+            since: _,
             post_from: _,
             mut station,
         } = self;
@@ -321,8 +353,8 @@ impl<
             gate,
             alloc,
             worker,
-            calls: 0,
             looked: 0,
+            since: 0,
             post_from: 0,
             station,
         }
