@@ -4,11 +4,12 @@
 //   threads_bench WORKLOAD COUNT TURNS LENDER
 //
 // LENDER is malloc, nothing for the loop and the hand-over alone, one of the pools of pools.hpp (boxes or slots), that
-// of magazines.hpp (magazines) or that of rings.hpp (rings). Each thread runs TURNS turns of COUNT buffers, and the workload, the
-// nanoseconds and the sum of the sizes of all threads are printed.
+// of magazines.hpp (magazines), of rings.hpp (rings) or of parcels.hpp (parcels). Each thread runs TURNS turns of COUNT
+// buffers, and the workload, the nanoseconds and the sum of the sizes of all threads are printed.
 #include "blocks.hpp"
 #include "lenders.hpp"
 #include "magazines.hpp"
+#include "parcels.hpp"
 #include "pcg32.hpp"
 #include "pools.hpp"
 #include "rings.hpp"
@@ -44,12 +45,12 @@ public:
 };
 
 // what one thread does, from turn to turn; no two share a cache line
-template <class Lender> struct alignas(128) Worker {
+template <class Lender, class Packing> struct alignas(128) Worker {
   using Lent = typename Lender::Lent;
 
   uint64_t number;
-  Way<Lent> *to = nullptr;
-  Way<Lent> *from = nullptr;
+  Way<Packing> *to = nullptr;
+  Way<Packing> *from = nullptr;
   Lender lender{};
   uint64_t sum = 0;
   std::vector<double> nanos{};
@@ -74,19 +75,19 @@ template <class Lender> struct alignas(128) Worker {
 
   // fills a block and hands it over, where there is an empty one
   bool send(Pcg32 &random) {
-    Block<Lent> block;
-    if (!to->empty.pop(block)) return false;
-    for (size_t i = 0; i < BLOCK; i++) block.push(lend(random));
+    typename Packing::Back back;
+    if (!to->back.pop(back)) return false;
+    typename Packing::Block block = Packing::open(lender, back);
+    for (size_t i = 0; i < BLOCK; i++) Packing::put(block, lend(random));
     to->full.push(block);
     return true;
   }
 
   // frees a block, where one has come
   bool receive() {
-    Block<Lent> block;
+    typename Packing::Block block;
     if (!from->full.pop(block)) return false;
-    while (block.length) lender.give(block.pop());
-    from->empty.push(block);
+    from->back.push(Packing::give_all(lender, block));
     return true;
   }
 
@@ -119,9 +120,9 @@ template <class Lender> struct alignas(128) Worker {
   }
 };
 
-template <class Lender> struct Crew {
-  std::vector<std::unique_ptr<Way<typename Lender::Lent>>> ways{};
-  std::vector<Worker<Lender>> workers{};
+template <class Lender, class Packing> struct Crew {
+  std::vector<std::unique_ptr<Way<Packing>>> ways{};
+  std::vector<Worker<Lender, Packing>> workers{};
 
   void add(uint64_t threads) {
     for (uint64_t number = 0; number < threads; number++) workers.push_back({number});
@@ -129,7 +130,7 @@ template <class Lender> struct Crew {
 
   // from this worker to that one
   void join(size_t one, size_t other, size_t window) {
-    ways.push_back(std::make_unique<Way<typename Lender::Lent>>(window));
+    ways.push_back(std::make_unique<Way<Packing>>(window));
     workers[one].to = ways.back().get();
     workers[other].from = ways.back().get();
   }
@@ -174,8 +175,9 @@ template <class Lender> struct Crew {
   }
 };
 
-template <class Lender> int measured(const std::string &workload, uint64_t count, uint64_t turns) {
-  Crew<Lender> crew;
+template <class Lender, class Packing = InBlocks<Lender>>
+int measured(const std::string &workload, uint64_t count, uint64_t turns) {
+  Crew<Lender, Packing> crew;
   if (!crew.gather(workload)) {
     fprintf(stderr, "no workload %s\n", workload.c_str());
     return 2;
@@ -198,6 +200,7 @@ int main(int count, char **words) {
   if (lender == "slots") return measured<Pooled<InSlots>>(workload, buffers, turns);
   if (lender == "magazines") return measured<Magazined>(workload, buffers, turns);
   if (lender == "rings") return measured<Ringed>(workload, buffers, turns);
+  if (lender == "parcels") return measured<Parceled, InParcels>(workload, buffers, turns);
   fprintf(stderr, "no lender %s\n", lender.c_str());
   return 2;
 }

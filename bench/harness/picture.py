@@ -1,20 +1,21 @@
 """Bars as SVG: a group for each workload, a bar for each allocator, shorter is better."""
 
-HEIGHT, GAP, LEFT, WIDTH = 16, 14, 150, 520
+HEIGHT, GAP, LEFT, WIDTH = 16, 14, 170, 520
 OURS = "#b5472a"
-COLORS = {"desk": OURS, "Inbox": OURS, "LinkInbox": OURS}
+COLORS = {name: OURS for name in ["desk", "Inbox", "LinkInbox", "Inbox, in parcels", "LinkInbox, in parcels"]}
 OTHER = "#8a97a8"
 
 LOOP = "Nanoseconds for one buffer lent and freed, without the loop; shorter is better"
 
 
 def bars(groups, names, words=LOOP):
-    """The picture of nanoseconds by group and name, under these words."""
-    most = max(values[name] for values in groups.values() for name in names)
+    """The picture of nanoseconds by group and name, under these words. A group may lack a name."""
+    most = max(values[name] for values in groups.values() for name in names if name in values)
     parts, y = [], 30
     for group, values in groups.items():
-        parts.append(text(LEFT - 60, y + HEIGHT * len(names) / 2, group, "end", "bold"))
-        for name in names:
+        drawn = [name for name in names if name in values]
+        parts.append(text(LEFT - 60, y + HEIGHT * len(drawn) / 2, group, "end", "bold"))
+        for name in drawn:
             parts.append(bar(y, name, values[name], values[name] / most * WIDTH))
             y += HEIGHT
         y += GAP

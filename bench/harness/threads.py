@@ -11,13 +11,28 @@ from .packages import PEERS
 from .text import aligned, number
 
 REPLACE = ["replace1", "replace2", "replace3", "replace4"]
-WORKLOADS = [*REPLACE, "prodcons", "ring"]
+HANDED_OVER = ["prodcons", "ring"]
+WORKLOADS = [*REPLACE, *HANDED_OVER]
 
-# Each inbox with the word by which the program knows it.
-INBOXES = {"Inbox": "inbox", "LinkInbox": "linked"}
+# Pools over each inbox, with the word by which the program knows them.
+POOLS = {
+    "Inbox": "inbox",
+    "LinkInbox": "linked",
+    "Inbox, in parcels": "inbox_parcels",
+    "LinkInbox, in parcels": "linked_parcels",
+}
 
 # Each pool in C++ with the word by which the program knows it: what a pool of this shape can cost.
-SHAPES = {"C++ boxes": "boxes", "C++ slots": "slots", "C++ magazines": "magazines", "C++ rings": "rings"}
+SHAPES = {
+    "C++ boxes": "boxes",
+    "C++ slots": "slots",
+    "C++ magazines": "magazines",
+    "C++ rings": "rings",
+    "C++ parcels": "parcels",
+}
+
+# These are measured only where buffers are handed over.
+IN_PARCELS = ["Inbox, in parcels", "LinkInbox, in parcels", "C++ parcels"]
 
 # Buffers are handed over so many at a time.
 BLOCK = 64
@@ -75,13 +90,17 @@ class Columns:
         pairs = [(it, self.alone) for it in [*self.peers, *self.shapes]]
         return pairs + [(it, self.workers_alone) for it in self.workers]
 
+    def measured_in(self, workload):
+        """Those that are measured in this workload."""
+        return [it for it in self.every() if workload in HANDED_OVER or it.name not in IN_PARCELS]
+
 
 def columns():
     cpp, jobs = programs.threads_bench(), programs.jobs_bench()
     installed = [peer for peer in PEERS if peer.path() is not None]
     return Columns(
         peers=[Column(peer.name, cpp, behind=("malloc",), preload=peer.path()) for peer in installed],
-        workers=[Column(name, jobs, behind=(word,)) for name, word in INBOXES.items()],
+        workers=[Column(name, jobs, behind=(word,)) for name, word in POOLS.items()],
         shapes=[Column(name, cpp, behind=(word,)) for name, word in SHAPES.items()],
         alone=Column("hand-over", cpp, behind=("nothing",)),
         workers_alone=Column("our hand-over", jobs, behind=("nothing",)),
@@ -115,7 +134,11 @@ def measured_by_turns(cells, given):
 def net_of(times, all_columns):
     """Nanoseconds without the loop and the hand-over, by workload and column."""
     return {
-        workload: {it.name: times[workload, it.name] - times[workload, alone.name] for it, alone in all_columns.pairs()}
+        workload: {
+            it.name: times[workload, it.name] - times[workload, alone.name]
+            for it, alone in all_columns.pairs()
+            if it in all_columns.measured_in(workload)
+        }
         for workload in WORKLOADS
     }
 
@@ -123,47 +146,51 @@ def net_of(times, all_columns):
 def measured_rows(what, times, all_columns):
     every = all_columns.every()
     rows = [[f"ns, {what}", *(it.name for it in every)]]
-    rows += [[workload, *(number(times[workload, it.name]) for it in every)] for workload in WORKLOADS]
+    rows += [[workload, *(number(times.get((workload, it.name))) for it in every)] for workload in WORKLOADS]
     return aligned(rows)
+
+
+def ratio(value, best):
+    return "-" if value is None else f"{value / best:.2f}"
 
 
 def net_rows(what, nets, all_columns):
     peers = [it.name for it in all_columns.peers]
     head = [f"{what}, without the hand-over", *peers, *SHAPES]
-    for name in INBOXES:
+    for name in POOLS:
         head += [name, "to the best"]
     rows = [head]
     for workload, net in nets.items():
         best = min(net[name] for name in peers)
-        row = [workload, *(number(net[name]) for name in [*peers, *SHAPES])]
-        for name in INBOXES:
-            row += [number(net[name]), f"{net[name] / best:.2f}"]
+        row = [workload, *(number(net.get(name)) for name in [*peers, *SHAPES])]
+        for name in POOLS:
+            row += [number(net.get(name)), ratio(net.get(name), best)]
         rows.append(row)
     return aligned(rows)
 
 
 def scaling_rows(times, all_columns):
     """What a buffer of `replace` takes beside other threads, as a multiple of one thread's, with the loop."""
-    every = all_columns.every()
-    rows = [["to one thread's", *(it.name for it in every)]]
+    shown = all_columns.measured_in(REPLACE[0])
+    rows = [["to one thread's", *(it.name for it in shown)]]
     for workload in REPLACE[1:]:
-        ratios = [times[workload, it.name] / times[REPLACE[0], it.name] for it in every]
-        rows.append([workload, *(f"{ratio:.2f}" for ratio in ratios)])
+        rows.append([workload, *(ratio(times[workload, it.name], times[REPLACE[0], it.name]) for it in shown)])
     return aligned(rows)
 
 
 def pool_rows(pools):
-    rows = [["most chunks drawn", *INBOXES, "of", *(f"{name}: no buffer" for name in INBOXES)]]
+    rows = [["most chunks drawn", *POOLS, "of", *(f"{name}: no buffer" for name in POOLS)]]
     for workload in WORKLOADS:
-        of_each = [pools[workload, name] for name in INBOXES]
-        drawn, starved = ([str(it.drawn) for it in of_each], [str(it.starved) for it in of_each])
+        of_each = [pools.get((workload, name)) for name in POOLS]
+        drawn = ["-" if it is None else str(it.drawn) for it in of_each]
+        starved = ["-" if it is None else str(it.starved) for it in of_each]
         rows.append([workload, *drawn, str(of_each[0].chunks), *starved])
     return aligned(rows)
 
 
 def measure(given):
     all_columns = columns()
-    cells = [(workload, it) for workload in WORKLOADS for it in all_columns.every()]
+    cells = [(workload, it) for workload in WORKLOADS for it in all_columns.measured_in(workload)]
     measured = measured_by_turns(cells, given)
     times = {"median": measured.by(statistics.median), "least": measured.by(min)}
     nets = {what: net_of(it, all_columns) for what, it in times.items()}
