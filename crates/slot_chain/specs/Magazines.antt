@@ -1,5 +1,5 @@
 -- The list of a magazine's buffers.
-use Rattle.std.specs.Prelude.{◌≡◌, ◌≢◌, ◌<◌, All, List, [], Option, Some, None, Vec, vec_len, vec_capacity}
+use Rattle.std.specs.Prelude.{◌≡◌, ◌≢◌, ◌<◌, All, List, [], Option, Some, None, Box, Vec, vec_len, vec_capacity}
 use Rattle.std.specs.List.{flat_map}
 use Rattle.std.specs.declared.alloc.Global.{Global}
 use Rattle.slot_chain.specs.Buffer.{Buffer}
@@ -19,9 +19,9 @@ abbrev pub IsFilled : Option (Vec Buffer Global) → List Buffer → Type 0
 IsFilled array linked = HasPlace array → linked ≡ []
 
 -- the arrays that came as a whole, none where there is no room for any
-abbrev pub arrays_in : Option (Vec (Vec Buffer Global) Global) → List (Vec Buffer Global)
+abbrev pub arrays_in : Option (Box (Vec (Vec Buffer Global) Global) Global) → List (Vec Buffer Global)
 arrays_in None = []
-arrays_in (Some arrays) = arrays.items
+arrays_in (Some arrays) = arrays.value.items
 
 -- those that arrays name, one array after the other
 abbrev pub named_in_all : List (Vec Buffer Global) → List Buffer

@@ -7,17 +7,12 @@ use crate::buf::Buf;
 use std::alloc::Global;
 use std::marker::Model;
 
-// For how many arrays there is room, at least and at most.
-const LEAST: usize = 16;
-
-const MOST: usize = 4096;
-
 /// Arrays of buffers that came as a whole and are kept so, none of them empty. In contracts they are
 /// one list.
+///
+/// They lie in a box, so that a list takes two words for them, where it has any and where it has none.
 pub(crate) struct Arrays<'r> {
-    arrays: Option<Vec<Vec<Buf<'r>>>>,
-    // For how many arrays room is to be made: 0 where none is wanted.
-    wanted: usize,
+    arrays: Option<Box<Vec<Vec<Buf<'r>>>>>,
 }
 
 impl<'r> Model for Arrays<'r> {
@@ -35,51 +30,43 @@ impl<'r> Model for Arrays<'r> {
 // By hand, so that it is proved here once, and not again in each crate that lets a magazine go.
 impl Drop for Arrays<'_> {
     fn drop(self) {
-        let Arrays { arrays, wanted: _ } = self;
+        let Arrays { arrays } = self;
         drop(arrays);
     }
 }
 
 impl<'r> Arrays<'r> {
     /// None, and room for none.
-    pub(crate) fn wanting(wanted: usize) -> Arrays<'r>
+    pub(crate) fn new() -> Arrays<'r>
         ensures { result ≡ [] }
     {
-        Arrays {
-            arrays: None,
-            wanted,
-        }
+        Arrays { arrays: None }
     }
 
-    /// For how many arrays room should be made where these are taken out: for as many again, or for
-    /// twice as many, where one found no place.
+    /// For how many there is room.
     pub(crate) fn places(&self) -> usize {
-        let room = match &self.arrays {
+        match &self.arrays {
             None => 0,
             Some(arrays) => arrays.capacity(),
+        }
+    }
+
+    /// Makes room for so many, where there is none of them. Says whether there was memory for it: where
+    /// it is refused, all stays as it is.
+    pub(crate) fn make_room(&mut self, alloc: Global, places: usize) -> bool
+        requires { self.old ≡ [] }
+        ensures { self.new ≡ [] }
+    {
+        let Ok(arrays) = Vec::with_capacity(alloc, places) else {
+            return false;
         };
-        self.wanted.max(room)
-    }
-
-    /// Makes room where some is wanted and there is no array. Where memory is refused, all stays as it
-    /// is.
-    pub(crate) fn make_room(&mut self, alloc: Global)
-        ensures { self.new ≡ self.old }
-    {
-        if self.wanted == 0 || !self.is_empty() {
-            return;
+        match Box::new(alloc, arrays) {
+            Ok(arrays) => {
+                self.arrays = Some(arrays);
+                true
+            }
+            Err(_) => false,
         }
-        if let Ok(arrays) = Vec::with_capacity(alloc, self.wanted) {
-            self.arrays = Some(arrays);
-            self.wanted = 0;
-        }
-    }
-
-    // Notes that one found no place.
-    fn want_more(&mut self)
-        ensures { self.new ≡ self.old }
-    {
-        self.wanted = self.places().saturating_mul(2).max(LEAST).min(MOST);
     }
 
     /// Puts an array to the end, where there is a place for it; else hands it back.
@@ -88,11 +75,7 @@ impl<'r> Arrays<'r> {
         ensures { MatchOption result (self.new ≡ self.old ++ array.entry.items)
             (λ a. (a ≡ array.entry) × (self.new ≡ self.old)) }
     {
-        let back = offer(&mut self.arrays, array);
-        if back.is_some() {
-            self.want_more();
-        }
-        back
+        offer(&mut self.arrays, array)
     }
 
     /// Takes out the array that came last.
@@ -135,7 +118,10 @@ impl<'r> Arrays<'r> {
 }
 
 // Puts an array to the end, where there is a place for it; else hands it back.
-fn offer<'r>(arrays: &mut Option<Vec<Vec<Buf<'r>>>>, array: Vec<Buf<'r>>) -> Option<Vec<Buf<'r>>>
+fn offer<'r>(
+    arrays: &mut Option<Box<Vec<Vec<Buf<'r>>>>>,
+    array: Vec<Buf<'r>>,
+) -> Option<Vec<Buf<'r>>>
     requires { array.items ≢ [] }
     ensures { MatchOption result (arrays_in arrays.new ≡ arrays_in arrays.old ++ array.entry ∷ [])
         (λ a. (a ≡ array.entry) × (arrays.new ≡ arrays.old)) }
@@ -153,7 +139,7 @@ fn offer<'r>(arrays: &mut Option<Vec<Vec<Buf<'r>>>>, array: Vec<Buf<'r>>) -> Opt
 }
 
 // Takes out the array that came last.
-fn take_last<'r>(arrays: &mut Option<Vec<Vec<Buf<'r>>>>) -> Option<Vec<Buf<'r>>>
+fn take_last<'r>(arrays: &mut Option<Box<Vec<Vec<Buf<'r>>>>>) -> Option<Vec<Buf<'r>>>
     ensures { MatchOption result ((arrays_in arrays.old ≡ []) × (arrays_in arrays.new ≡ []))
         (λ a. arrays_in arrays.old ≡ arrays_in arrays.new ++ a ∷ []) }
 {

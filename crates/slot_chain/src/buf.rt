@@ -97,7 +97,7 @@ impl<'r> Buf<'r> {
     pub fn len(&self) -> usize
         ensures { result ≡ size_of self.now.class }
     {
-        self.class().size()
+        self.bytes().len()
     }
 
     // The place and the length of the bytes.

@@ -17,10 +17,18 @@ use std::alloc::Global;
 use std::marker::Model;
 use std::{fmt, mem};
 
-// For how many buffers an array has places, at least and at most.
-const LEAST: usize = 16;
+// For how many buffers an array has places, and for how many whole arrays there is room, at least and
+// at most.
+const LEAST: u32 = 16;
 
-const MOST: usize = 4096;
+const MOST: u32 = 4096;
+
+// For how many buffers an array is to be made, and for how many whole arrays room: 0 where none is wanted.
+#[derive(Clone, Copy)]
+struct Wanted {
+    buffers: u32,
+    arrays: u32,
+}
 
 /// A list of buffers that goes to another thread as a whole. In contracts it is that list;
 /// [`Magazine::push`] and [`Magazine::pop`] work at its end.
@@ -37,9 +45,9 @@ pub struct Magazine<'r> {
     whole: Arrays<'r>,
     // What was put one by one.
     array: Option<Vec<Buf<'r>>>,
-    // For how many buffers an array is to be made, where there is none: 0 where none is wanted.
-    wanted: usize,
     linked: Chain<'r>,
+    // What is to be made once there is memory.
+    wanted: Wanted,
 }
 
 impl<'r> Model for Magazine<'r> {
@@ -60,8 +68,8 @@ impl Drop for Magazine<'_> {
         let Magazine {
             whole,
             array,
-            wanted: _,
             linked,
+            wanted: _,
         } = self;
         drop(whole);
         drop(array);
@@ -82,17 +90,20 @@ impl<'r> Magazine<'r> {
     pub fn new() -> Magazine<'r>
         ensures { result ≡ [] }
     {
-        Magazine::wanting(0, 0)
+        Magazine::wanting(Wanted {
+            buffers: 0,
+            arrays: 0,
+        })
     }
 
-    fn wanting(arrays: usize, wanted: usize) -> Magazine<'r>
+    fn wanting(wanted: Wanted) -> Magazine<'r>
         ensures { result ≡ [] }
     {
         Magazine {
-            whole: Arrays::wanting(arrays),
+            whole: Arrays::new(),
             array: None,
-            wanted,
             linked: Chain::new(),
+            wanted,
         }
     }
 
@@ -115,6 +126,7 @@ impl<'r> Magazine<'r> {
             return;
         }
         if let Some(array) = self.whole.put(array) {
+            self.wanted.arrays = more_than(self.places_for_arrays());
             self.push_all(array);
         }
     }
@@ -158,17 +170,23 @@ impl<'r> Magazine<'r> {
     }
 
     // For how many buffers the array should be made of a list that becomes as long as this one.
-    fn places(&self) -> usize {
+    fn places(&self) -> u32 {
         match &self.array {
-            None => self.wanted.max(LEAST),
+            None => self.wanted.buffers.max(LEAST),
             Some(array) => {
+                let places = at_most(array.capacity());
                 if self.linked.is_empty() {
-                    array.capacity()
+                    places
                 } else {
-                    array.capacity().saturating_mul(2).min(MOST)
+                    more_than(places)
                 }
             }
         }
+    }
+
+    // For how many whole arrays there should be room in such a list: for none where none found no place.
+    fn places_for_arrays(&self) -> u32 {
+        self.wanted.arrays.max(at_most(self.whole.places()))
     }
 
     /// Takes out all buffers, with their array. What is put here then is linked, until there is room
@@ -177,7 +195,10 @@ impl<'r> Magazine<'r> {
         ensures value { result ≡ self.old }
         ensures emptied { self.new ≡ [] }
     {
-        let empty = Magazine::wanting(self.whole.places(), self.places());
+        let empty = Magazine::wanting(Wanted {
+            buffers: self.places(),
+            arrays: self.places_for_arrays(),
+        });
         mem::replace(self, empty)
     }
 
@@ -187,12 +208,24 @@ impl<'r> Magazine<'r> {
     pub fn make_room(&mut self, alloc: Global)
         ensures { self.new ≡ self.old }
     {
-        self.whole.make_room(alloc);
-        if self.wanted == 0 || !self.is_empty() {
+        self.make_room_for_arrays(alloc);
+        if self.wanted.buffers == 0 || !self.is_empty() {
             return;
         }
-        if let Ok(array) = Vec::with_capacity(alloc, self.wanted) {
+        if let Ok(array) = Vec::with_capacity(alloc, self.wanted.buffers as usize) {
             self.put_array(array);
+        }
+    }
+
+    // Makes room for whole arrays, where some is wanted and there is none of them.
+    fn make_room_for_arrays(&mut self, alloc: Global)
+        ensures { self.new ≡ self.old }
+    {
+        if self.wanted.arrays == 0 || !self.whole.is_empty() {
+            return;
+        }
+        if self.whole.make_room(alloc, self.wanted.arrays as usize) {
+            self.wanted.arrays = 0;
         }
     }
 
@@ -203,7 +236,7 @@ impl<'r> Magazine<'r> {
         ensures { self.new ≡ self.old }
     {
         self.array = Some(array);
-        self.wanted = 0;
+        self.wanted.buffers = 0;
     }
 
     /// The number of buffers, or the greatest `u64` where that is less. Those that are linked are
@@ -264,6 +297,16 @@ impl<'r> Magazine<'r> {
     {
         add_slots(self.walk(), slots)
     }
+}
+
+// So many places, or the most that are made.
+fn at_most(places: usize) -> u32 {
+    places.min(MOST as usize) as u32
+}
+
+// Twice as many places, and neither fewer nor more than are made.
+fn more_than(places: u32) -> u32 {
+    places.saturating_mul(2).max(LEAST).min(MOST)
 }
 
 // Puts a buffer into the array, where it has a place; else hands it back.

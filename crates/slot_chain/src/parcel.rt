@@ -53,7 +53,8 @@ impl<'r> Parcel<'r> {
     /// An empty parcel for buffers of the allocator `owner`, with room for at least so many.
     /// [`NoMemory`] is answered only where there is no memory for that.
     pub fn new(alloc: Global, owner: u16, places: usize) -> Result<Parcel<'r>, NoMemory>
-        ensures { IfOk result (λ p. (p ≡ record { owner = owner; places = p.places; items = [] }) × (places ≤ p.places)) }
+        ensures { IfOk result (λ p.
+            (p ≡ record { owner = owner; places = p.places; items = [] }) × (places ≤ p.places)) }
     {
         let buffers = Vec::with_capacity(alloc, places)?;
         Ok(Parcel {
@@ -108,7 +109,7 @@ impl<'r> Parcel<'r> {
         }
         let mut buf = buf;
         buf.set_forwards(0);
-        self.bytes = self.bytes.saturating_add(buf.class().size() as u64);
+        self.bytes = self.bytes.saturating_add(buf.len() as u64);
         self.buffers.push_reserved(buf);
         Ok(())
     }
@@ -117,7 +118,8 @@ impl<'r> Parcel<'r> {
     /// than a `u64` holds.
     pub fn pop(&mut self) -> Option<Buf<'r>>
         ensures { MatchOption result ((self.old.items ≡ []) × (self.new ≡ self.old))
-            (λ b. (self.old.items ≡ self.new.items ++ b ∷ []) × (self.new ≡ record self.old { items = self.new.items })) }
+            (λ b. (self.old.items ≡ self.new.items ++ b ∷ [])
+            × (self.new ≡ record self.old { items = self.new.items })) }
     {
         let buf = self.buffers.pop()?;
         self.bytes = bytes_left(self.bytes, buf.class(), self.buffers.as_slice());
