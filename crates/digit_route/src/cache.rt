@@ -165,7 +165,7 @@ impl<'r> Cache<'r> {
         ensures same { self.new ≡ record self.old { items = self.new.items } }
         ensures items { IsPermutation (self.old.items ++ item.entry ∷ []) self.new.items }
     {
-        let size = item.class().size() as u64;
+        let size = item.len() as u64;
         self.row.push(item);
         self.bytes = self.bytes.saturating_add(size);
     }
