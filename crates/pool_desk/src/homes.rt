@@ -113,7 +113,8 @@ impl<'r> Homes<'r> {
     pub(crate) fn keep_all(&mut self, array: Vec<Buf<'r>>)
         requires { All (λ (b : Buffer). b.owner ≡ self.old.owner) array.items }
         ensures same { self.new ≡ record self.old { slots = self.new.slots } }
-        ensures slots { IsPermutation (map (λ (b : Buffer). Kept b) array.entry.items ++ self.old.slots) self.new.slots }
+        ensures slots { IsPermutation
+            (map (λ (b : Buffer). Kept b) array.entry.items ++ self.old.slots) self.new.slots }
     {
         for buf in array {
             self.keep(buf);
