@@ -1,6 +1,7 @@
 //! A station that a worker holds.
-ghost use Rattle.std.specs.Prelude.{◌≡◌, ◌≢◌, ◌<◌, ◌^◌, [], MatchResult};
+ghost use Rattle.std.specs.Prelude.{◌≡◌, ◌≢◌, ◌<◌, ◌^◌, ◌↔◌, [], IsTrue, MatchResult};
 ghost use Rattle.slot_chain.specs.Counts.{capped, sizes};
+ghost use Rattle.pool_desk.specs.HomesState.{HasClass};
 ghost use Rattle.pool_fabric.specs.Calls.{Lends, TakesAllBack, TakesBack};
 
 use crate::ledger::Page;
@@ -11,6 +12,7 @@ use crate::station::Station;
 use batch_inbox::{Receiver, Sender};
 use digit_route::Digits;
 use pool_desk::{Desk, DeskError, Freed};
+use region_cut::Class;
 use slot_chain::{Buf, Parcel};
 use std::alloc::Global;
 use std::fmt;
@@ -77,6 +79,13 @@ impl<'r, T: Receiver, S: Sender, J: Naming> HeldStation<'r, T, S, J> {
         ensures { result ≡ capped (sizes self.now.desk.cached) }
     {
         self.desk.cached_bytes()
+    }
+
+    /// Whether a slot of the class is at home, as [`Desk::has_home`] tells it.
+    pub fn has_home(&self, class: Class) -> bool
+        ensures { IsTrue result ↔ HasClass class self.now.desk.home }
+    {
+        self.desk.has_home(class)
     }
 
     /// Gives out a buffer of at least `size` bytes, as [`Desk::alloc`] does.
