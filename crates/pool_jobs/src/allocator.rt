@@ -1,8 +1,7 @@
 //! The allocator that a worker holds.
-ghost use Rattle.std.specs.Prelude.{◌≡◌, ◌≤◌, [], ◌∷◌, ◌++◌, IfSome, IfOk, MatchOption};
-ghost use Rattle.region_cut.specs.Classes.{size_of, NoClassFor};
+ghost use Rattle.std.specs.Prelude.{◌≡◌, ◌<◌, ◌≤◌, [], ◌∷◌, ◌++◌, IfSome, IfOk, MatchOption};
+ghost use Rattle.region_cut.specs.Classes.{size_of, classes_of, NoClassFor};
 ghost use Rattle.digit_route.specs.Profiles.{profile_of};
-ghost use Rattle.pool_desk.specs.HomesState.{LacksClass};
 ghost use Rattle.pool_jobs.specs.Serving.{IsClassFor, Keeps, SameDesk, Serves};
 
 use crate::buffer::Buffer;
@@ -104,15 +103,12 @@ impl<
         let _number = self.station.number();
     }
 
-    // Asks the desk. The gate is told.
+    // Asks the desk.
     #[inline(always)]
     fn ask(&mut self, size: usize) -> Result<Buffer<'r, J>, PoolError>
         ensures { Serves J.names self.old size result self.new }
     {
-        let call = self.next_call();
-        self.gate.before(self.worker, call);
         let answer = self.station.alloc(self.alloc, size);
-        self.gate.after(self.worker, call);
         let _number = self.station.number();
         match answer {
             Ok(buf) => Ok(Buffer::new(buf)),
@@ -123,72 +119,54 @@ impl<
         }
     }
 
-    // Claims a part of the stock for the class, and asks again. Neither at home nor in the inbox was
-    // a slot, so a post that was refused is tried again with the next buffer that is freed.
+    // Takes what came in batches, and claims a part of the stock where no slot of the class is among it.
+    // A post that was refused is then tried again with the next buffer that is freed.
     #[cold]
     #[inline(never)]
-    fn ask_after_claiming<R: Wait>(
-        &mut self,
-        rt: &R,
-        class: Class,
-        size: usize,
-    ) -> Result<Buffer<'r, J>, PoolError>
-        requires class { IsClassFor J.names size class }
-        requires needed { LacksClass class self.old.desk.home }
-        ensures { Serves J.names self.old size result self.new }
+    fn fetch<R: Wait>(&mut self, rt: &R, class: Class)
+        requires { class < classes_of (profile_of J.names.digits.bits) }
+        ensures { Keeps J.names self.old self.new }
     {
-        self.post_from = 0;
+        self.look(rt);
         let _number = self.station.number();
-        if self.station.claim(rt, self.fabric, class) {
-            self.ask(size)
-        } else {
-            Err(PoolError::UsedUp)
+        if !self.station.has_home(class) {
+            self.post_from = 0;
+            let _claimed = self.station.claim(rt, self.fabric, class);
         }
     }
 
-    // Takes what came in batches, and asks again, at last after a claim.
-    #[cold]
-    #[inline(never)]
-    fn ask_after_taking<R: Wait>(
-        &mut self,
-        rt: &R,
-        class: Class,
-        size: usize,
-    ) -> Result<Buffer<'r, J>, PoolError>
-        requires class { IsClassFor J.names size class }
-        ensures { Serves J.names self.old size result self.new }
+    // Sees to it that a slot for so many bytes is at home, where one is to be had.
+    #[inline(always)]
+    fn provide<R: Wait>(&mut self, rt: &R, size: usize)
+        ensures { Keeps J.names self.old self.new }
     {
-        self.look(rt);
-        match self.ask(size) {
-            Ok(buffer) => Ok(buffer),
-            Err(PoolError::UsedUp) => self.ask_after_claiming(rt, class, size),
-            Err(error) => Err(error),
+        let _number = self.station.number();
+        let Some(class) = self.class_for(size) else {
+            return;
+        };
+        // It answers nothing: memory for an answer would be cleared before anything is done.
+        if self.is_to_look() || !self.station.has_home(class) {
+            self.fetch(rt, class);
         }
     }
 
     /// Gives a buffer of at least `size` bytes. Nothing of it is cleared.
     ///
-    /// It asks its desk, then takes at most 64 batches from its inbox and asks again, then claims a
-    /// chunk of the stock and asks again. Once 64 calls have gone by it takes first, so that no sender
-    /// waits for it to run out of a class. It is [`PoolError::UsedUp`] only where the stock was empty then;
-    /// [`PoolError::NoMemory`] only where the system refused the memory for a new buffer.
+    /// It gives a slot that is at home. Where no slot of the class is, it takes at most 64 batches from
+    /// its inbox, and claims a chunk of the stock where none came with them. Once 64 calls have gone by it
+    /// takes first, so that no sender waits for it to run out of a class. It is [`PoolError::UsedUp`] only
+    /// where the stock was empty then; [`PoolError::NoMemory`] only where the system refused the memory for
+    /// a new buffer.
     #[inline(always)]
     pub fn alloc<R: Wait>(&mut self, rt: &R, size: usize) -> Result<Buffer<'r, J>, PoolError>
         ensures { Serves J.names self.old size result self.new }
     {
-        let Some(class) = self.class_for(size) else {
-            return self.ask(size);
-        };
-        // Both ways lead to one call, since the memory for the answer of each call is cleared before
-        // anything is done.
-        if !self.is_to_look() {
-            match self.ask(size) {
-                Ok(buffer) => return Ok(buffer),
-                Err(PoolError::UsedUp) => {}
-                Err(error) => return Err(error),
-            }
-        }
-        self.ask_after_taking(rt, class, size)
+        let call = self.next_call();
+        self.gate.before(self.worker, call);
+        self.provide(rt, size);
+        let answer = self.ask(size);
+        self.gate.after(self.worker, call);
+        answer
     }
 
     // Posts all that is cached, unless a post was refused and little has come since. A refused one

@@ -1,6 +1,7 @@
 //! Who is told of each call.
 
-/// Told around each `alloc` and `free` of a worker's desk. The calls of a worker are numbered from 1.
+/// Told around each `alloc`, `free` and `free_all` of a worker, with what an `alloc` takes from its inbox
+/// and claims. The calls of a worker are numbered from 1.
 ///
 /// A gate may hold a worker back. The worker holds no lock while it is told.
 pub trait Gate {

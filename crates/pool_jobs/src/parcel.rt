@@ -84,7 +84,8 @@ impl<'r, J: Naming> Parcel<'r, J> {
     /// Takes out the buffer that came last.
     pub fn pop(&mut self) -> Option<Buffer<'r, J>>
         ensures { MatchOption result ((self.old.items ≡ []) × (self.new ≡ self.old))
-            (λ b. (self.old.items ≡ self.new.items ++ b ∷ []) × (self.new ≡ record self.old { items = self.new.items })) }
+            (λ b. (self.old.items ≡ self.new.items ++ b ∷ [])
+            × (self.new ≡ record self.old { items = self.new.items })) }
     {
         let _packed = self.parcel.owner();
         let buf = self.parcel.pop()?;

@@ -22,12 +22,11 @@ const PLAN: Plan = Plan {
     drop_first: false,
 };
 
-// The producer waits before its eleventh call until all eight slots are on their way home.
-const HOLD: Hold = Hold { call: 11, posts: 8 };
+// The producer waits before its ninth call until all eight slots are on their way home.
+const HOLD: Hold = Hold { call: 9, posts: 8 };
 
 // A producer of 16 buffers has a chunk of eight slots, and its consumer posts each buffer that it
-// frees. The first two calls of the producer meet want of a chunk, so the ninth buffer is asked for by
-// its eleventh.
+// frees.
 fn watched_over<'r, R: AllocGlobal + Threads + Wait + Sync>(
     rt: &R,
     region: &'r mut Vec<u8>,

@@ -22,8 +22,8 @@ impl Gate for Told {
     }
 }
 
-// For a first buffer the desk is asked three times: at once, after a look into the inbox, and after a
-// claim. The fourth call frees it.
+// One call asks for the buffer, also where it looks into the inbox and claims a chunk for it. Another one
+// frees it.
 #[test]
 fn a_free_is_a_call(rt: HostRuntime) -> Result<(), Fail> {
     for inboxes in BOTH {
@@ -46,8 +46,8 @@ fn a_free_is_a_call(rt: HostRuntime) -> Result<(), Fail> {
         };
         let tally = tally_of(&rt, &told, ground, Workload::ProdCons, &plan)?;
         assert!(rt; tally.counts.allocated == 1 && tally.counts.freed == 1);
-        assert_eq!(rt; told.before.load(Ordering::SeqCst), 4);
-        assert_eq!(rt; told.after.load(Ordering::SeqCst), 4);
+        assert_eq!(rt; told.before.load(Ordering::SeqCst), 2);
+        assert_eq!(rt; told.after.load(Ordering::SeqCst), 2);
     }
     Ok(())
 }
