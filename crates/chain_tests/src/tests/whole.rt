@@ -79,11 +79,13 @@ fn gives(rt: &impl Abort, list: &mut Magazine<'_>, first: u16, end: u16) {
     }
 }
 
-// The array that came last is one that `array_of` made, of buffers with these indices. Where none comes, memory for
-// room was refused.
+// The array that came last is one that `array_of` made, of buffers with these indices. Where none comes, or one that
+// was made for buffers that come one by one, memory for room was refused.
 fn gives_array(rt: &impl Abort, list: &mut Magazine<'_>, want: &[u16]) -> Result<(), NoMemory> {
     let array = list.pop_array().ok_or(NoMemory)?;
-    assert!(rt; array.capacity() >= PLACES);
+    if array.capacity() < PLACES {
+        return Err(NoMemory);
+    }
     let mut want = want.iter();
     for buf in array {
         assert_eq!(rt; want.next().copied(), Some(buf.slot().index));
