@@ -1,5 +1,6 @@
 //! Buffers of one allocator that are handed over and freed as a whole.
 ghost use Rattle.std.specs.Prelude.{◌≡◌, ◌+◌, ◌≤◌, ◌↔◌, [], ◌∷◌, ◌++◌, All, IsTrue, MatchOption, MatchResult, IfOk};
+ghost use Rattle.std.specs.Prelude.{vec_capacity};
 ghost use Rattle.region_cut.specs.Classes.{size_of};
 ghost use Rattle.slot_chain.specs.Counts.{capped, sizes};
 ghost use Rattle.slot_chain.specs.Parcels.{IsPacked, KeepsOut, Packs};
@@ -56,12 +57,20 @@ impl<'r> Parcel<'r> {
         ensures { IfOk result (λ p.
             (p ≡ record { owner = owner; places = p.places; items = [] }) × (places ≤ p.places)) }
     {
-        let buffers = Vec::with_capacity(alloc, places)?;
-        Ok(Parcel {
+        Ok(Parcel::over(owner, Vec::with_capacity(alloc, places)?))
+    }
+
+    /// An empty parcel over an array that names no buffer, with as much room as that has. Takes no
+    /// memory.
+    pub fn over(owner: u16, array: Vec<Buf<'r>>) -> Parcel<'r>
+        requires { array.items ≡ [] }
+        ensures { result ≡ record { owner = owner; places = vec_capacity array.entry; items = [] } }
+    {
+        Parcel {
             owner,
             bytes: 0,
-            buffers,
-        })
+            buffers: array,
+        }
     }
 
     /// The allocator to which all of it goes back.
