@@ -1,5 +1,5 @@
 -- Lemmas on homes.
-use Rattle.std.proofs.Common.{◌≡◌, ◌≢◌, ℕ, zero, suc, ◌+◌, ◌-◌, List, [], ◌∷◌, ◌++◌, length, refl, sym, ap, ◌∙◌, subst, arith, All, IsPermutation, map, take, drop, ltb, rules, tests}
+use Rattle.std.proofs.Common.{◌≡◌, ◌≢◌, ℕ, zero, suc, ◌+◌, ◌-◌, List, [], ◌∷◌, ◌++◌, length, refl, sym, ap, ◌∙◌, subst, arith, All, IsPermutation, append_assoc, map, take, drop, ltb, rules, tests}
 use Rattle.std.proofs.lemmas.List.{map-append}
 use Rattle.std.proofs.lemmas.List.Elements.{All-cons, All-nil, All-contains, All-contains_itself, All-weaker, Contains-append_left, Contains-push}
 use Rattle.std.specs.Prelude.{◌↔◌, IsTrue, Contains, Result, Ok, Err, MatchResult}
@@ -177,10 +177,10 @@ pub next_slot_shown : (owner class : ℕ) (b b' : Bump) (ties : List Carved) (r 
 next_slot_shown owner class b b' ties (Ok x) h = h ties
 next_slot_shown owner class b b' ties (Err e) h = (h.0, ap (λ (z : Bump). home_of owner class z ties) h.1)
 
--- one more of a list goes home
-pub kept_more : (bs : List Buffer) (b : Buffer) (old mid new : List AtHome) → IsPermutation (map (λ (x : Buffer). Kept x) bs ++ old) mid → IsPermutation (Kept b ∷ mid) new
-    → IsPermutation (map (λ (x : Buffer). Kept x) (bs ++ b ∷ []) ++ old) new
-kept_more bs b old mid new h g =
-    let ks = map (λ (x : Buffer). Kept x) bs in
-    let turn : IsPermutation ((ks ++ Kept b ∷ []) ++ old) ((Kept b ∷ [] ++ ks) ++ old) = IsPermutation-append_left old _ _ (IsPermutation-append_comm ks (Kept b ∷ [])) in
-    rw map-append (IsPermutation-trans _ _ _ turn (IsPermutation-trans _ _ _ (IsPermutation-append_right (Kept b ∷ []) _ _ h) g))
+-- the last of a list goes home
+pub kept_last : (all s s' : List AtHome) (rest : List Buffer) (b : Buffer) → IsPermutation all (map (λ (x : Buffer). Kept x) (rest ++ b ∷ []) ++ s)
+    → IsPermutation (Kept b ∷ s) s' → IsPermutation all (map (λ (x : Buffer). Kept x) rest ++ s')
+kept_last all s s' rest b h g =
+    let ks = map (λ (x : Buffer). Kept x) rest in
+    let split : map (λ (x : Buffer). Kept x) (rest ++ b ∷ []) ++ s ≡ ks ++ Kept b ∷ s = rw map-append (append_assoc ks (Kept b ∷ []) s) in
+    IsPermutation-trans _ _ _ (subst (λ l. IsPermutation all l) split h) (IsPermutation-append_right ks _ _ g)

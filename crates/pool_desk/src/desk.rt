@@ -1,6 +1,6 @@
 //! A desk that a worker holds.
 ghost use Rattle.std.specs.Prelude.{◌≡◌, ◌≢◌, ◌<◌, ◌≤◌, ◌^◌, ◌↔◌, [], ◌++◌, length, map, All, IsTrue, IsPermutation};
-ghost use Rattle.std.specs.Prelude.{Some, None, MatchBool, MatchOption, MatchResult, OnOk, OnErr};
+ghost use Rattle.std.specs.Prelude.{Some, None, MatchBool, MatchOption, MatchResult, IfOk, OnOk, OnErr};
 ghost use Rattle.region_cut.specs.Classes.{classes_of};
 ghost use Rattle.slot_chain.specs.Buffer.{Buffer, ended_of};
 ghost use Rattle.slot_chain.specs.Counts.{capped, sizes};
@@ -17,6 +17,7 @@ ghost use Rattle.pool_desk.specs.Steps.{Claims, NotNeededFor, Allocs, Frees, Fre
 ghost use Rattle.pool_desk.specs.Handling.{Adds, IsPassed, GoesHome, GoesOn};
 
 use crate::homes::Homes;
+use crate::spares::Spares;
 use crate::{Counts, DeskError, DeskPosting, Freed, IdleDesk};
 use digit_route::laws::shared_at_most_all;
 use digit_route::{Batch, Cache, Digits, RouteError};
@@ -31,13 +32,15 @@ use std::marker::Model;
 /// freed here.
 ///
 /// Nothing of it is shared, so no call waits. Only [`Desk::alloc`] of a slot that was never handed
-/// out takes memory, [`Desk::make_room`], and the listings.
+/// out takes memory, [`Desk::parcel`] where no array is kept for it, [`Desk::make_room`], and the
+/// listings.
 #[must_use]
 #[derive(Drop)]
 pub struct Desk<'r> {
     pub(crate) worker: u32,
     pub(crate) homes: Homes<'r>,
     pub(crate) cache: Cache<'r>,
+    pub(crate) spares: Spares<'r>,
 }
 
 impl<'r> Model for Desk<'r> {
@@ -193,7 +196,9 @@ impl<'r> Desk<'r> {
         ensures { FreesAll self.old parcel.entry result self.new }
     {
         if parcel.owner() == self.cache.number() {
-            self.homes.keep_all(parcel.into_buffers());
+            let mut array = parcel.into_buffers();
+            self.homes.keep_all(&mut array);
+            self.spares.keep(array);
             return Freed::Home;
         }
         self.cache.put_all(parcel);
@@ -202,6 +207,17 @@ impl<'r> Desk<'r> {
         } else {
             Freed::Cached
         }
+    }
+
+    /// An empty parcel for own buffers, with room for at least so many. It lies over an array that came
+    /// home, where one is kept that is large enough: a desk keeps at most 16, each for at most 256
+    /// buffers. Only else memory is taken. [`NoMemory`] is answered only where there is none for it.
+    pub fn parcel(&mut self, alloc: Global, places: usize) -> Result<Parcel<'r>, NoMemory>
+        ensures same { self.new ≡ self.old }
+        ensures value { IfOk result (λ p.
+            (p ≡ record { owner = self.old.number; places = p.places; items = [] }) × (places ≤ p.places)) }
+    {
+        self.spares.parcel(alloc, self.cache.number(), places)
     }
 
     // Takes an own buffer of a batch home, and puts another into the cache with one more forward.
@@ -251,6 +267,7 @@ impl<'r> Desk<'r> {
             let is_home = self.handle_one(buf);
             counts.count(is_home);
         }
+        self.spares.keep(array);
         counts
     }
 
@@ -363,6 +380,7 @@ impl<'r> Desk<'r> {
             worker: _,
             homes,
             cache,
+            spares: _,
         } = self;
         Ok(IdleDesk { homes, cache })
     }
@@ -387,11 +405,13 @@ impl<'r> Desk<'r> {
             worker,
             homes,
             cache,
+            spares,
         } = self;
         DeskPosting {
             worker,
             homes,
             posting: cache.posting(),
+            spares,
         }
     }
 
@@ -449,6 +469,7 @@ impl<'r> Desk<'r> {
             worker: _,
             homes,
             cache,
+            spares: _,
         } = self;
         cache.end(endings);
         homes.end(endings);

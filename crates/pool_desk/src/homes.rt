@@ -109,14 +109,15 @@ impl<'r> Homes<'r> {
         self.by_class[class.number() as usize].keep(buf);
     }
 
-    /// Takes own buffers home.
-    pub(crate) fn keep_all(&mut self, array: Vec<Buf<'r>>)
-        requires { All (λ (b : Buffer). b.owner ≡ self.old.owner) array.items }
+    /// Takes own buffers home, and leaves their array empty.
+    pub(crate) fn keep_all(&mut self, array: &mut Vec<Buf<'r>>)
+        requires { All (λ (b : Buffer). b.owner ≡ self.old.owner) array.old.items }
         ensures same { self.new ≡ record self.old { slots = self.new.slots } }
         ensures slots { IsPermutation
-            (map (λ (b : Buffer). Kept b) array.entry.items ++ self.old.slots) self.new.slots }
+            (map (λ (b : Buffer). Kept b) array.old.items ++ self.old.slots) self.new.slots }
+        ensures emptied { array.new.items ≡ [] }
     {
-        for buf in array {
+        while let Some(buf) = array.pop() {
             self.keep(buf);
         }
     }

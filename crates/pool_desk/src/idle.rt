@@ -10,6 +10,7 @@ ghost use Rattle.pool_desk.specs.Slots.{slots_in};
 
 use crate::desk::Desk;
 use crate::homes::Homes;
+use crate::spares::Spares;
 use digit_route::{Cache, Digits};
 use region_cut::Slot;
 use region_cut::endings::Endings;
@@ -106,6 +107,7 @@ impl<'r> IdleDesk<'r> {
             worker,
             homes,
             cache,
+            spares: Spares::new(),
         }
     }
 

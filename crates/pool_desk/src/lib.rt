@@ -17,6 +17,7 @@ mod homes;
 mod idle;
 mod listing;
 mod posting;
+mod spares;
 
 pub use counts::Counts;
 pub use desk::Desk;

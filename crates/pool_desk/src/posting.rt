@@ -7,6 +7,7 @@ ghost use Rattle.digit_route.specs.Route.{GivesBucket};
 
 use crate::desk::Desk;
 use crate::homes::Homes;
+use crate::spares::Spares;
 use digit_route::{Batch, Posting};
 use std::fmt;
 use std::marker::Model;
@@ -19,6 +20,7 @@ pub struct DeskPosting<'r> {
     pub(crate) worker: u32,
     pub(crate) homes: Homes<'r>,
     pub(crate) posting: Posting<'r>,
+    pub(crate) spares: Spares<'r>,
 }
 
 impl<'r> Model for DeskPosting<'r> {
@@ -82,12 +84,14 @@ impl<'r> DeskPosting<'r> {
             worker,
             homes,
             posting,
+            spares,
         } = self;
         let cache = posting.end();
         Desk {
             worker,
             homes,
             cache,
+            spares,
         }
     }
 
@@ -112,12 +116,14 @@ impl<'r> DeskPosting<'r> {
             worker,
             homes,
             posting,
+            spares,
         } = self;
         let cache = posting.put_back(batch);
         Desk {
             worker,
             homes,
             cache,
+            spares,
         }
     }
 }
