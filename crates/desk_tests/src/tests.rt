@@ -15,6 +15,7 @@ mod posting;
 mod refusal;
 mod room;
 mod route;
+mod spares;
 
 use digit_route::{Batch, Digits};
 use pool_desk::{Counts, Desk, DeskError, Freed, IdleDesk};
@@ -198,6 +199,7 @@ enum Play {
     FillsAtOnce,
     Bursts,
     BurstsLinked,
+    KeepsArrays,
 }
 
 // Each plays on desks, chunks and a list of buffers that `hold` has.
@@ -225,6 +227,7 @@ fn run<'r>(
         Play::FillsAtOnce => parcels::fills_at_once(rt, alloc, desk, other, parts),
         Play::Bursts => bursts::bursts(rt, alloc, desk, other, parts, lent),
         Play::BurstsLinked => bursts::bursts_linked(rt, alloc, desk, other, parts, lent),
+        Play::KeepsArrays => spares::keeps_arrays(rt, alloc, desk, other, parts),
     }
 }
 

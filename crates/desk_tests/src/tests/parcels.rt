@@ -6,14 +6,22 @@ use slot_chain::{Chain, Parcel};
 use std::alloc::Global;
 use std::process::Abort;
 
-// An empty parcel. After a want of memory the next try works.
-fn empty<'r>(rt: &impl Abort, alloc: Global, owner: u16, places: u32) -> Parcel<'r> {
-    match Parcel::new(alloc, owner, places as usize) {
+// An empty parcel of the desk. After a want of memory the next try works.
+pub(super) fn empty<'r>(
+    rt: &impl Abort,
+    alloc: Global,
+    owner: &mut Desk<'r>,
+    places: u32,
+) -> Parcel<'r> {
+    let parcel = match owner.parcel(alloc, places as usize) {
         Ok(parcel) => parcel,
-        Err(_) => Parcel::new(alloc, owner, places as usize)
+        Err(_) => owner
+            .parcel(alloc, places as usize)
             .ok()
             .expect(rt, "memory is there again"),
-    }
+    };
+    assert!(rt; parcel.is_empty() && parcel.owner() == owner.number());
+    parcel
 }
 
 // So many buffers of the desk, each lent for this many bytes.
@@ -24,7 +32,7 @@ pub(super) fn packed<'r>(
     size: usize,
     count: u32,
 ) -> Parcel<'r> {
-    let mut parcel = empty(rt, alloc, owner.number(), count);
+    let mut parcel = empty(rt, alloc, owner, count);
     for _ in 0..count {
         let buf = lend(rt, alloc, owner, size);
         assert!(rt; parcel.push(buf).is_ok());
@@ -103,7 +111,7 @@ pub(crate) fn packs<'r>(
     counts_are(rt, desk, 5, 0);
     free_all_is(rt, desk, parcel, Freed::Home);
     counts_are(rt, desk, 8, 0);
-    let nothing = empty(rt, alloc, desk.number(), 3);
+    let nothing = empty(rt, alloc, desk, 3);
     free_all_is(rt, desk, nothing, Freed::Home);
     counts_are(rt, desk, 8, 0);
     lends_again(rt, alloc, desk, 3, lent);
@@ -132,7 +140,7 @@ pub(crate) fn packs_anothers<'r>(
     parts: &mut Vec<Part<'r>>,
     lent: &mut Chain<'r>,
 ) {
-    let nothing = empty(rt, alloc, owner.number(), 3);
+    let nothing = empty(rt, alloc, owner, 3);
     free_all_is(rt, other, nothing, Freed::Cached);
     assert!(rt; other.next_batch().is_none());
     claim(rt, owner, parts, class(15));
