@@ -1,5 +1,5 @@
 //! A station that a worker holds.
-ghost use Rattle.std.specs.Prelude.{◌≡◌, ◌≢◌, ◌<◌, ◌^◌, ◌↔◌, [], IsTrue, MatchResult};
+ghost use Rattle.std.specs.Prelude.{◌≡◌, ◌≢◌, ◌<◌, ◌≤◌, ◌^◌, ◌↔◌, [], IsTrue, MatchResult, IfOk};
 ghost use Rattle.slot_chain.specs.Counts.{capped, sizes};
 ghost use Rattle.pool_desk.specs.HomesState.{HasClass};
 ghost use Rattle.pool_fabric.specs.Calls.{Lends, TakesAllBack, TakesBack};
@@ -13,7 +13,7 @@ use batch_inbox::{Receiver, Sender};
 use digit_route::Digits;
 use pool_desk::{Desk, DeskError, Freed};
 use region_cut::Class;
-use slot_chain::{Buf, Parcel};
+use slot_chain::{Buf, NoMemory, Parcel};
 use std::alloc::Global;
 use std::fmt;
 use std::marker::Model;
@@ -115,6 +115,15 @@ impl<'r, T: Receiver, S: Sender, J: Naming> HeldStation<'r, T, S, J> {
     {
         self.freed = self.freed.and_all(parcel.buffers());
         self.desk.free_all(parcel)
+    }
+
+    /// An empty parcel for the desk's buffers, as [`Desk::parcel`] gives it.
+    pub fn parcel(&mut self, alloc: Global, places: usize) -> Result<Parcel<'r>, NoMemory>
+        ensures same { self.new ≡ self.old }
+        ensures value { IfOk result (λ p.
+            (p ≡ record { owner = self.old.desk.number; places = p.places; items = [] }) × (places ≤ p.places)) }
+    {
+        self.desk.parcel(alloc, places)
     }
 
     /// Makes room for the pointers to others' buffers that will be freed here, as [`Desk::make_room`]
