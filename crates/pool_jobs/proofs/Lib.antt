@@ -1,3 +1,3 @@
 pub mod Adding
-pub mod Answering
+pub mod Looking
 pub mod Travels

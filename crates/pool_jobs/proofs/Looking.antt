@@ -1,4 +1,4 @@
--- What batches that were taken leave as it was.
+-- What a look into the inbox leaves as it was.
 use Rattle.std.proofs.Common.{◌≡◌, ℕ, ap, ◌∙◌}
 use Rattle.pool_fabric.proofs.Posting.{handled_stays}
 use Rattle.pool_fabric.specs.Posts.{TakesSome}

@@ -13,7 +13,7 @@ use batch_inbox::{Mail, Mailbox, Receiver, Sender};
 use pool_desk::{DeskError, Freed};
 use pool_fabric::{Fabric, HeldStation, Naming};
 use region_cut::Class;
-use slot_chain::{NoMemory, Parcel as Packed};
+use slot_chain::NoMemory;
 use std::alloc::Global;
 use std::fmt;
 use std::marker::Model;
@@ -25,8 +25,8 @@ const LOOK_EVERY: u64 = 64;
 
 /// The allocator of one worker: a station of the fabric that all workers share.
 ///
-/// Only [`Allocator::alloc`] of a slot that was never handed out takes memory, and posts may. A
-/// contract sees its station.
+/// Only [`Allocator::alloc`] of a slot that was never handed out takes memory, [`Allocator::parcel`]
+/// where no array is kept for it, and posts may. A contract sees its station.
 #[must_use]
 #[derive(Drop)]
 pub struct Allocator<'a, 'r, M: Mailbox, T: Receiver, S: Sender, G: Gate, J: Naming> {
@@ -212,12 +212,16 @@ impl<
         }
     }
 
-    /// An empty parcel for buffers of this allocator, with room for at least so many.
-    pub fn parcel(&self, places: usize) -> Result<Parcel<'r, J>, NoMemory>
-        ensures { IfOk result (λ p. (p ≡ record { owner = self.now.desk.number; places = p.places; items = [] })
-            × (places ≤ p.places)) }
+    /// An empty parcel for buffers of this allocator, with room for at least so many. Memory is taken
+    /// only where no array is kept for it: those of parcels that came home are, up to 16 of at most
+    /// 256 buffers each.
+    pub fn parcel(&mut self, places: usize) -> Result<Parcel<'r, J>, NoMemory>
+        ensures same { self.new ≡ self.old }
+        ensures value { IfOk result (λ p.
+            (p ≡ record { owner = self.old.desk.number; places = p.places; items = [] }) × (places ≤ p.places)) }
     {
-        let parcel = Packed::new(self.alloc, self.station.number(), places)?;
+        let _number = self.station.number();
+        let parcel = self.station.parcel(self.alloc, places)?;
         Ok(Parcel::new(parcel))
     }
 

@@ -1,4 +1,4 @@
-use Rattle.pool_jobs.proofs.Answering.{took}
+use Rattle.pool_jobs.proofs.Looking.{took}
 use Rattle.pool_jobs.proofs.allocator.Allocator.look.Goals as goal
 
 pub returns : goal.returns
