@@ -1,13 +1,16 @@
 //! Buffers of one allocator that are handed over and freed as a whole.
-ghost use Rattle.std.specs.Prelude.{◌≡◌, ◌+◌, ◌≤◌, ◌↔◌, [], ◌∷◌, ◌++◌, All, IsTrue, MatchOption, MatchResult, IfOk};
+ghost use Rattle.std.specs.Prelude.{◌≡◌, ◌+◌, ◌≤◌, ◌↔◌, [], ◌∷◌, ◌++◌, length, map, All, IsTrue, MatchOption};
+ghost use Rattle.std.specs.Prelude.{MatchResult, IfOk};
 ghost use Rattle.std.specs.Prelude.{vec_capacity};
 ghost use Rattle.region_cut.specs.Classes.{size_of};
+ghost use Rattle.slot_chain.specs.Buffer.{ended_of};
 ghost use Rattle.slot_chain.specs.Counts.{capped, sizes};
 ghost use Rattle.slot_chain.specs.Parcels.{IsPacked, KeepsOut, Packs};
 
 use crate::buf::Buf;
 use crate::error::NoMemory;
 use region_cut::Class;
+use region_cut::endings::Endings;
 use std::alloc::Global;
 use std::fmt;
 use std::marker::Model;
@@ -99,6 +102,30 @@ impl<'r> Parcel<'r> {
         self.buffers.as_slice()
     }
 
+    /// How many buffers there are, in constant time.
+    #[inline]
+    pub fn len(&self) -> usize
+        ensures { result ≡ length self.now.items }
+    {
+        self.buffers.len()
+    }
+
+    /// For how many buffers there is a place, those that are there counted too. Takes constant time.
+    #[inline]
+    pub fn places(&self) -> usize
+        ensures { result ≡ self.now.places }
+    {
+        self.buffers.capacity()
+    }
+
+    /// Whether each place has a buffer, so that [`Parcel::push`] takes none.
+    #[inline]
+    pub fn is_full(&self) -> bool
+        ensures { IsTrue result ↔ (self.now.places ≤ length self.now.items) }
+    {
+        self.len() >= self.places()
+    }
+
     /// Whether there is no buffer.
     pub fn is_empty(&self) -> bool
         ensures { IsTrue result ↔ (self.now.items ≡ []) }
@@ -113,7 +140,7 @@ impl<'r> Parcel<'r> {
         ensures { MatchResult result (λ _. Packs self.old buf.entry self.new)
             (λ b. (b ≡ buf.entry) × (self.new ≡ self.old) × KeepsOut self.old buf.entry) }
     {
-        if buf.owner() != self.owner || self.buffers.len() >= self.buffers.capacity() {
+        if buf.owner() != self.owner || self.is_full() {
             return Err(buf);
         }
         let mut buf = buf;
@@ -133,6 +160,16 @@ impl<'r> Parcel<'r> {
         let buf = self.buffers.pop()?;
         self.bytes = bytes_left(self.bytes, buf.class(), self.buffers.as_slice());
         Some(buf)
+    }
+
+    /// Lets all buffers go: it is then known what each ends as. Takes a walk over them.
+    pub fn end(self, endings: &mut Endings<'r>)
+        ensures { endings.new ≡ record endings.old { known = map ended_of self.entry.items ++ endings.old.known } }
+    {
+        let mut buffers = self.into_buffers();
+        while let Some(buf) = buffers.pop() {
+            endings.close(buf.into_front());
+        }
     }
 
     /// All of its buffers, in the order in which they came.

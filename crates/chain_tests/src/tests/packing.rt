@@ -84,9 +84,11 @@ fn fill(rt: &impl Abort, alloc: Global, places: usize) -> Result<(), NoMemory> {
     let mut region = Vec::from_elem(alloc, 0u8, CHUNK)?;
     let chain = filled(alloc, &mut region, class, 1)?;
     let mut parcel = Parcel::new(alloc, 1, places)?;
+    assert!(rt; parcel.places() >= places && parcel.is_full() == (parcel.places() == 0));
     let count = fill_up(rt, &mut parcel, chain);
-    assert!(rt; count >= places as u64 && count < 256);
-    same(rt, "the buffers", parcel.buffers().len() as u64, count);
+    assert!(rt; count >= places as u64 && count < 256 && parcel.is_full());
+    same(rt, "the buffers", parcel.len() as u64, count);
+    same(rt, "the places", parcel.places() as u64, count);
     same(
         rt,
         "the bytes",
