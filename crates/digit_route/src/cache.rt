@@ -13,7 +13,7 @@ ghost use Rattle.digit_route.specs.Route.{GivesBucket};
 
 use crate::counter::{bytes_left, bytes_without};
 use crate::row::Row;
-use crate::{Batch, BatchSink, Digits, Posting, RouteError};
+use crate::{Batch, BatchSink, Digits, Posting, Refused, RouteError};
 use region_cut::Slot;
 use region_cut::endings::Endings;
 use slot_chain::{Buf, NoMemory, Parcel};
@@ -196,6 +196,19 @@ impl<'r> Cache<'r> {
         self.bytes = self.bytes.saturating_add(size);
     }
 
+    /// Adds the buffers that were refused while this desk's cache was posted, in time for their number.
+    pub fn take_back(&mut self, refused: Refused<'r>)
+        requires number { refused.number ≡ self.old.number }
+        requires digits { refused.digits ≡ self.old.digits }
+        ensures same { self.new ≡ record self.old { items = self.new.items } }
+        ensures items { IsPermutation (self.old.items ++ refused.entry.items) self.new.items }
+    {
+        let mut refused = refused;
+        while let Some(buf) = refused.pop() {
+            self.put(buf);
+        }
+    }
+
     /// Why `take_bucket_for` would refuse, or `None` where it would give a batch.
     pub fn fault_for(&self, t: u16) -> Option<RouteError>
         ensures { RouteFault self.now.digits self.now.number t self.now.items result }
@@ -279,6 +292,16 @@ impl<'r> Cache<'r> {
             }
             None => None,
         }
+    }
+
+    /// Whether there is no buffer, where the first round is over: where
+    /// [`Cache::next_of_first_round`] gave nothing. It looks at one magazine alone.
+    pub fn is_empty_behind_first_round(&self) -> bool
+        requires { All (λ (x : Buffer). 0 < common self.now.digits x.owner self.now.number) self.now.items }
+        ensures { IsTrue result ↔ (self.now.items ≡ []) }
+    {
+        let _known = &self.limit;
+        self.row.own_is_empty()
     }
 
     // Takes out the bucket for some owner, in whichever round.

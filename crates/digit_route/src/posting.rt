@@ -8,7 +8,7 @@ ghost use Rattle.digit_route.specs.Route.{GivesBucket};
 
 use crate::row::Row;
 use crate::walks::some_owner;
-use crate::{Batch, Cache};
+use crate::{Batch, Cache, Digits};
 use std::fmt;
 use std::marker::Model;
 
@@ -65,6 +65,20 @@ impl<'r> Posting<'r> {
             limit,
             moves: 0,
         }
+    }
+
+    /// The desk whose cache it is.
+    pub fn number(&self) -> u16
+        ensures { result ≡ self.now.number }
+    {
+        self.row.number()
+    }
+
+    /// How the numbers of desks are read.
+    pub fn digits(&self) -> Digits
+        ensures { result ≡ self.now.digits }
+    {
+        self.row.digits()
     }
 
     /// How often a buffer was moved from one round's row into the next, or the greatest `u64` where

@@ -261,6 +261,16 @@ impl<'r> Row<'r> {
         }
     }
 
+    /// Whether no buffer is left, where each owner shares more digits with the desk than those below
+    /// the round: all that are left stand in one magazine then.
+    pub(crate) fn own_is_empty(&self) -> bool
+        requires { All (λ (x : Buffer). self.now.round < common self.now.digits x.owner self.now.number) self.now.items }
+        ensures { IsTrue result ↔ (self.now.items ≡ []) }
+    {
+        let own = self.digits.digit(self.number, self.round);
+        self.magazines.as_slice()[own as usize].is_empty()
+    }
+
     /// The batch of the desk's own that has the magazine's buffers.
     pub(crate) fn batch(&self, address: u16, magazine: Magazine<'r>) -> Batch<'r>
         requires { IsWellRouted self.now.digits self.now.number address magazine }

@@ -1,6 +1,6 @@
 //! Postings in rounds.
 use crate::tests::samples::{filled_in, same, same_at, take};
-use digit_route::{Batch, Cache, Posting};
+use digit_route::{Batch, Cache, Posting, Refused};
 use slot_chain::NoMemory;
 use std::alloc::Global;
 use std::process::Abort;
@@ -130,5 +130,40 @@ fn put_back(rt: &impl Abort, alloc: Global) -> Result<(), NoMemory> {
 fn is_put_back(rt: HostRuntime) {
     if put_back(&rt, rt.alloc()).is_err() {
         assert!(rt; put_back(&rt, rt.alloc()).is_ok());
+    }
+}
+
+// Posts all but the batch to 1, which is refused.
+fn post_but_one<'r>(rt: &impl Abort, posting: &mut Posting<'r>) -> Refused<'r> {
+    let mut refused = Refused::new(posting.number(), posting.digits());
+    for _ in 0..3 {
+        let batch = posting.next_batch().expect(rt, "a batch");
+        if batch.address() == 1 {
+            refused.add(batch);
+        }
+    }
+    assert!(rt; posting.next_batch().is_none());
+    refused
+}
+
+// The batch to 1 is refused, and the others go. Its buffer is in the cache again, and goes the next time.
+fn set_aside(rt: &impl Abort, alloc: Global) -> Result<(), NoMemory> {
+    let mut region = Vec::from_elem(alloc, 0u8, 4096)?;
+    let cache = filled_in(rt, alloc, &mut region, 0, 1, &[32, 32, 1, 2])?;
+    let mut posting = cache.posting();
+    let refused = post_but_one(rt, &mut posting);
+    assert!(rt; !refused.is_empty());
+    let mut cache = posting.end();
+    assert!(rt; cache.is_empty());
+    cache.take_back(refused);
+    drop(take(rt, &mut cache, 1, 1));
+    assert!(rt; cache.is_empty());
+    Ok(())
+}
+
+#[test]
+fn what_was_refused_is_kept_and_nothing_else(rt: HostRuntime) {
+    if set_aside(&rt, rt.alloc()).is_err() {
+        assert!(rt; set_aside(&rt, rt.alloc()).is_ok());
     }
 }
