@@ -200,6 +200,7 @@ enum Play {
     Bursts,
     BurstsLinked,
     KeepsArrays,
+    PassesOver,
 }
 
 // Each plays on desks, chunks and a list of buffers that `hold` has.
@@ -228,6 +229,7 @@ fn run<'r>(
         Play::Bursts => bursts::bursts(rt, alloc, desk, other, parts, lent),
         Play::BurstsLinked => bursts::bursts_linked(rt, alloc, desk, other, parts, lent),
         Play::KeepsArrays => spares::keeps_arrays(rt, alloc, desk, other, parts),
+        Play::PassesOver => spares::passes_over(rt, alloc, desk, parts),
     }
 }
 

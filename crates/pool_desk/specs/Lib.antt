@@ -6,3 +6,4 @@ pub mod NextSlots
 pub mod Refusals
 pub mod Slots
 pub mod Steps
+pub mod Spares

@@ -18,9 +18,9 @@ ghost use Rattle.pool_desk.specs.Handling.{Adds, IsPassed, GoesHome, GoesOn};
 
 use crate::homes::Homes;
 use crate::spares::Spares;
-use crate::{Counts, DeskError, DeskPosting, Freed, IdleDesk};
+use crate::{Counts, DeskError, Freed, IdleDesk};
 use digit_route::laws::shared_at_most_all;
-use digit_route::{Batch, Cache, Digits, RouteError};
+use digit_route::{Batch, Cache, Digits};
 use region_cut::endings::Endings;
 use region_cut::{Class, Part, Slot};
 use slot_chain::{Buf, Magazine, NoMemory, Parcel};
@@ -209,9 +209,10 @@ impl<'r> Desk<'r> {
         }
     }
 
-    /// An empty parcel for own buffers, with room for at least so many. It lies over an array that came
-    /// home, where one is kept that is large enough: a desk keeps at most 16, each for at most 256
-    /// buffers. Only else memory is taken. [`NoMemory`] is answered only where there is none for it.
+    /// An empty parcel for own buffers, with room for at least so many. It lies over an array in which
+    /// own buffers came home, where one is kept that is large enough: the one that was kept last of
+    /// those. A desk keeps at most 16 arrays, each for 1 to 256 buffers; one that comes beyond that is
+    /// let go. Only else memory is taken. [`NoMemory`] is answered only where there is none for it.
     pub fn parcel(&mut self, alloc: Global, places: usize) -> Result<Parcel<'r>, NoMemory>
         ensures same { self.new ≡ self.old }
         ensures value { IfOk result (λ p.
@@ -286,80 +287,6 @@ impl<'r> Desk<'r> {
         counts
     }
 
-    /// Why [`Desk::batch_for`] would refuse, or `None` where it would give a batch.
-    pub fn fault_for(&self, t: u16) -> Option<RouteError>
-        ensures { RouteFault self.now.digits self.now.number t self.now.cached result }
-    {
-        self.cache.fault_for(t)
-    }
-
-    /// Takes out of the cache all that goes to `t`: the buffers whose owners share more digits with
-    /// `t` than this desk does. Takes no memory.
-    pub fn batch_for(&mut self, t: u16) -> Result<Batch<'r>, RouteError>
-        ensures same { self.new ≡ record self.old { cached = self.new.cached } }
-        ensures value { MatchResult result
-            (λ b. RouteFault self.old.digits self.old.number t self.old.cached None × (b.address ≡ t)
-            × GivesBucket self.old.digits self.old.number self.old.cached b self.new.cached)
-            (λ e. RouteFault self.old.digits self.old.number t self.old.cached (Some e) × (self.new ≡ self.old)) }
-    {
-        self.cache.take_bucket_for(t)
-    }
-
-    /// Takes out of the cache all that goes to `t`, where [`Desk::fault_for`] said that it has a
-    /// batch. Takes no memory.
-    pub fn take_for(&mut self, t: u16) -> Batch<'r>
-        requires { RouteFault self.old.digits self.old.number t self.old.cached None }
-        ensures same { self.new ≡ record self.old { cached = self.new.cached } }
-        ensures address { result.address ≡ t }
-        ensures gives { GivesBucket self.old.digits self.old.number self.old.cached result self.new.cached }
-    {
-        self.cache.take_for(t)
-    }
-
-    /// Takes out of the cache all that goes to some owner of a buffer in it, or says that it is
-    /// empty. Takes no memory. To post all of the cache, [`Desk::posting`] takes fewer steps.
-    pub fn next_batch(&mut self) -> Option<Batch<'r>>
-        ensures same { self.new ≡ record self.old { cached = self.new.cached } }
-        ensures value { MatchOption result ((self.old.cached ≡ []) × (self.new.cached ≡ []))
-            (λ b. GivesBucket self.old.digits self.old.number self.old.cached b self.new.cached) }
-    {
-        self.cache.next_batch()
-    }
-
-    /// Takes out of the cache all that goes to some owner whose first digit isn't the desk's, or
-    /// says that all that are left share it. So a cache is posted where it stands, without a
-    /// [`Desk::posting`], as far as the first round goes. Takes no memory.
-    pub fn next_of_first_round(&mut self) -> Option<Batch<'r>>
-        ensures same { self.new ≡ record self.old { cached = self.new.cached } }
-        ensures value { MatchOption result (self.new.cached ≡ self.old.cached)
-            (λ b. GivesBucket self.old.digits self.old.number self.old.cached b self.new.cached) }
-        ensures round { MatchOption result
-            (All (λ (x : Buffer). 0 < common self.old.digits x.owner self.old.number) self.old.cached)
-            (λ b. All (λ (x : Buffer). common self.old.digits x.owner self.old.number ≡ 0) b.items) }
-    {
-        self.cache.next_of_first_round()
-    }
-
-    /// Makes room for the pointers to others' buffers that will be freed here, as much as the batches
-    /// had or wanted that were taken out of the cache: to be called after a post. What has no room is
-    /// linked, which costs more where another thread takes it. For desks of one thread it gains
-    /// nothing. Where memory is refused, there is less room.
-    pub fn make_room(&mut self, alloc: Global)
-        ensures { self.new ≡ self.old }
-    {
-        self.cache.make_room(alloc);
-    }
-
-    /// Takes back into the cache a batch of this desk that could not be posted. Takes no memory.
-    pub fn refused(&mut self, batch: Batch<'r>)
-        requires sender { batch.sender ≡ self.old.number }
-        requires digits { batch.digits ≡ self.old.digits }
-        ensures same { self.new ≡ record self.old { cached = self.new.cached } }
-        ensures items { IsPermutation (self.old.cached ++ batch.entry.items) self.new.cached }
-    {
-        self.cache.put_back(batch);
-    }
-
     /// The desk without its worker, where its cache is empty. Where it isn't, the desk is handed
     /// back as it was: it is unsettled.
     pub fn retire(self) -> Result<IdleDesk<'r>, Desk<'r>>
@@ -383,36 +310,6 @@ impl<'r> Desk<'r> {
             spares: _,
         } = self;
         Ok(IdleDesk { homes, cache })
-    }
-
-    /// Begins to post the cache, round by round. Takes no memory.
-    pub fn posting(self) -> DeskPosting<'r>
-        ensures { let d = self.entry in result ≡ record {
-          worker = d.worker;
-          home = d.home;
-          drawn = d.drawn;
-          posting = record {
-            number = d.number;
-            digits = d.digits;
-            limit = d.limit;
-            round = 0;
-            moves = 0;
-            items = d.cached;
-          };
-        } }
-    {
-        let Desk {
-            worker,
-            homes,
-            cache,
-            spares,
-        } = self;
-        DeskPosting {
-            worker,
-            homes,
-            posting: cache.posting(),
-            spares,
-        }
     }
 
     /// The number of slots at home, and of buffers in the cache, each at most the greatest `u64`.

@@ -17,6 +17,7 @@ mod homes;
 mod idle;
 mod listing;
 mod posting;
+mod routing;
 mod spares;
 
 pub use counts::Counts;

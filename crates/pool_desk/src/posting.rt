@@ -8,7 +8,7 @@ ghost use Rattle.digit_route.specs.Route.{GivesBucket};
 use crate::desk::Desk;
 use crate::homes::Homes;
 use crate::spares::Spares;
-use digit_route::{Batch, Posting};
+use digit_route::{Batch, Digits, Posting};
 use std::fmt;
 use std::marker::Model;
 
@@ -40,6 +40,20 @@ impl<'r> Model for DeskPosting<'r> {
 }
 
 impl<'r> DeskPosting<'r> {
+    /// The desk's number.
+    pub fn number(&self) -> u16
+        ensures { result ≡ self.now.posting.number }
+    {
+        self.posting.number()
+    }
+
+    /// How the numbers of desks are read.
+    pub fn digits(&self) -> Digits
+        ensures { result ≡ self.now.posting.digits }
+    {
+        self.posting.digits()
+    }
+
     /// Takes out all that goes to some owner of a buffer that is left, or says that nothing is
     /// left. Takes no memory.
     pub fn next_batch(&mut self) -> Option<Batch<'r>>

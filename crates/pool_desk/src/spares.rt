@@ -1,5 +1,7 @@
 //! Arrays that are kept for parcels to come.
-ghost use Rattle.std.specs.Prelude.{◌≡◌, ◌≤◌, [], IfOk};
+ghost use Rattle.std.specs.Prelude.{◌≡◌, ◌<◌, ◌≤◌, ◌↔◌, [], length, None, IsTrue, IfOk, IfSome, slice_index_or};
+ghost use Rattle.std.specs.Prelude.{vec_capacity};
+ghost use Rattle.pool_desk.specs.Spares.{HasRoom};
 
 use arrayvec::ArrayVec;
 use slot_chain::{Buf, NoMemory, Parcel};
@@ -46,17 +48,27 @@ impl<'r> Spares<'r> {
         }
     }
 
-    /// Keeps an array, where there is a place for it and it isn't too large to be kept.
+    /// Keeps an array, where it has a place for a buffer, isn't too large to be kept, and 16 aren't kept
+    /// already.
     pub(crate) fn keep(&mut self, array: Vec<Buf<'r>>)
         requires { array.items ≡ [] }
     {
-        if array.capacity() <= LARGEST && !self.arrays.is_full() {
+        let places = array.capacity();
+        if places > 0 && places <= LARGEST && !self.arrays.is_full() {
             self.arrays.push(Some(array));
         }
     }
 
-    /// An empty parcel with room for at least so many buffers, over the array that was kept last where
-    /// that has it. Only else memory is taken.
+    // Takes out the array that was kept last of those with room for so many buffers.
+    fn take(&mut self, places: usize) -> Option<Vec<Buf<'r>>>
+        ensures { IfSome result (λ a. (a.items ≡ []) × (places ≤ vec_capacity a)) }
+    {
+        let at = last_with_room(self.arrays.as_slice(), places)?;
+        self.arrays.remove(at)
+    }
+
+    /// An empty parcel with room for at least so many buffers, over the array that was kept last of those
+    /// that have it. Only where none has, memory is taken.
     pub(crate) fn parcel(
         &mut self,
         alloc: Global,
@@ -66,11 +78,33 @@ impl<'r> Spares<'r> {
         ensures { IfOk result (λ p.
             (p ≡ record { owner = owner; places = p.places; items = [] }) × (places ≤ p.places)) }
     {
-        if let Some(Some(array)) = self.arrays.pop() {
-            if array.capacity() >= places {
-                return Ok(Parcel::over(owner, array));
-            }
+        match self.take(places) {
+            Some(array) => Ok(Parcel::over(owner, array)),
+            None => Parcel::new(alloc, owner, places),
         }
-        Parcel::new(alloc, owner, places)
+    }
+}
+
+// The place of the last array that has room for so many buffers.
+fn last_with_room(arrays: &[Option<Vec<Buf<'_>>>], places: usize) -> Option<usize>
+    ensures { IfSome result (λ k. (k < length arrays.now) × HasRoom places (slice_index_or arrays.now k None)) }
+{
+    let mut at = arrays.len();
+    while at > 0 {
+        at -= 1;
+        if has_room(&arrays[at], places) {
+            return Some(at);
+        }
+    }
+    None
+}
+
+// Whether an array has room for so many buffers.
+fn has_room(array: &Option<Vec<Buf<'_>>>, places: usize) -> bool
+    ensures { IsTrue result ↔ HasRoom places array.now }
+{
+    match array {
+        None => false,
+        Some(array) => array.capacity() >= places,
     }
 }

@@ -71,6 +71,30 @@ pub(crate) fn keeps_arrays<'r>(
     assert!(rt; !has_more(rt, alloc, owner));
 }
 
+// Of two arrays that are kept, the one that came last is too small for the first parcel: it is passed over,
+// and kept for the second.
+pub(crate) fn passes_over<'r>(
+    rt: &impl Abort,
+    alloc: Global,
+    owner: &mut Desk<'r>,
+    parts: &mut Vec<Part<'r>>,
+) {
+    claim(rt, owner, parts, class(6));
+    let large = empty(rt, alloc, owner, 256);
+    let small = empty(rt, alloc, owner, 1);
+    free_all_is(rt, owner, large, Freed::Home);
+    free_all_is(rt, owner, small, Freed::Home);
+    let large = empty(rt, alloc, owner, 2);
+    assert!(rt; large.places() >= 256);
+    let small = empty(rt, alloc, owner, 1);
+    assert!(rt; small.places() < 256);
+}
+
+#[test]
+fn an_array_that_is_too_small_is_passed_over(rt: HostRuntime) {
+    plays(&rt, rt.alloc(), Play::PassesOver, (1, 0), 1);
+}
+
 #[test]
 fn arrays_are_kept_for_parcels_to_come(rt: HostRuntime) {
     plays(&rt, rt.alloc(), Play::KeepsArrays, (1, 0), 1);
