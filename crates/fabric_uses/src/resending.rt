@@ -75,9 +75,9 @@ fn tries<'r, J: Naming, R: Wait>(
 ) -> Result<Tried<'r, J>, AllocError> {
     let mut poster = poster;
     let mut held = lend_all(rt, alloc, fabric, &mut poster, desks)?;
-    poster.post(rt, fabric);
+    let _went = poster.post(rt, fabric);
     let first = take_all(rt, fabric, &mut held);
-    poster.post(rt, fabric);
+    let _went = poster.post(rt, fabric);
     let second = take_all(rt, fabric, &mut held);
     held.push(poster)?;
     Ok(Tried {

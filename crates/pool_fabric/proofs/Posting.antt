@@ -1,10 +1,13 @@
 -- One more batch is posted, or taken.
-use Rattle.std.proofs.Common.{◌≡◌, ℕ, zero, suc, ◌+◌, ◌<◌, List, [], ◌∷◌, ◌++◌, length, map, refl, sym, ap, ◌∙◌, arith, subst, Some, length-append, append_assoc, IsPermutation}
+use Rattle.std.proofs.Common.{◌≡◌, ℕ, zero, suc, ◌+◌, ◌<◌, List, [], ◌∷◌, ◌++◌, length, map, refl, sym, ap, ◌∙◌, arith, subst, Some, length-append, append_assoc, IsPermutation, ◌⊎◌, ⊎_elim, inl, inr}
 use Rattle.std.specs.Prelude.{slice_get, slice_set, All, slice_index_or, take, drop}
 use Rattle.std.proofs.lemmas.List.{append-nil}
 use Rattle.std.proofs.lemmas.List.Elements.{All-append}
-use Rattle.std.proofs.lemmas.List.Sorted.{IsPermutation-trans, IsPermutation-append_right, IsPermutation-refl}
+use Rattle.std.proofs.lemmas.List.Sorted.{IsPermutation-trans, IsPermutation-append_left, IsPermutation-append_right, IsPermutation-append_comm, IsPermutation-refl}
 use Rattle.slot_chain.specs.Buffer.{Buffer}
+use Rattle.digit_route.specs.Digits.{Scheme}
+use Rattle.digit_route.specs.Posts.{GivesAll}
+use Rattle.digit_route.specs.Route.{GivesBucket}
 use Rattle.digit_route.specs.States.{BatchState}
 use Rattle.region_cut.specs.declared.slot.Slot.{Slot}
 use Rattle.pool_desk.specs.Desks.{DeskState}
@@ -14,7 +17,7 @@ use Rattle.pool_fabric.specs.Weights.{weigh}
 use Rattle.pool_fabric.specs.Names.{Names}
 use Rattle.pool_fabric.specs.Seats.{SeatState, AreSeatsBy}
 use Rattle.pool_fabric.specs.Accounts.{of_buffer, of_batch, of_seats, held}
-use Rattle.pool_fabric.specs.Posts.{buffers_in, sent_at, sent_all, Posts, HandlesAll, TakesSome}
+use Rattle.pool_fabric.specs.Posts.{buffers_in, sent_at, sent_all, Posts, SendsOrKeeps, HandlesAll, TakesSome}
 use Rattle.pool_fabric.proofs.Sums.{weigh-append, weigh-snoc, weigh-permutation}
 use Rattle.pool_fabric.proofs.DeskSums.{handled}
 
@@ -72,44 +75,148 @@ pub seats_sent_all : (n : Names) (a : ℕ) (ss : List SeatState) (bs : List Batc
 seats_sent_all n a ss [] i = i
 seats_sent_all n a ss (b ∷ bs) i = seats_sent_all n a (sent_at b.address b ss) bs (seats_sent n a b.address b ss i)
 
-sent_all-snoc : (ss : List SeatState) (bs : List BatchState) (b : BatchState) → sent_all ss (bs ++ b ∷ []) ≡ sent_at b.address b (sent_all ss bs)
-sent_all-snoc ss [] b = refl
-sent_all-snoc ss (c ∷ cs) b = sent_all-snoc (sent_at c.address c ss) cs b
+-- the same from a list in another order
+Gives-before : (s : Scheme) (a : ℕ) (older old : List Buffer) (b : BatchState) (new : List Buffer) → IsPermutation older old
+    → GivesBucket s a old b new → GivesBucket s a older b new
+Gives-before s a older old b new p h = record {
+  sender = h.sender;
+  digits = h.digits;
+  routed = h.routed;
+  taken = record { together = IsPermutation-trans _ _ _ p h.taken.together; only = h.taken.only; all = h.taken.all };
+}
 
-buffers_in-snoc : (bs : List BatchState) (b : BatchState) → buffers_in (bs ++ b ∷ []) ≡ buffers_in bs ++ b.items
-buffers_in-snoc [] b = append-nil b.items
-buffers_in-snoc (c ∷ cs) b = ap (λ l. c.items ++ l) (buffers_in-snoc cs b) ∙ sym (append_assoc c.items (buffers_in cs) b.items)
+GivesAll-before : (s : Scheme) (a : ℕ) (older old : List Buffer) (bs : List BatchState) (new : List Buffer) → IsPermutation older old
+    → GivesAll s a old bs new → GivesAll s a older bs new
+GivesAll-before s a older old [] new p h = IsPermutation-trans _ _ _ p h
+GivesAll-before s a older old (x ∷ bs) new p h = (h.0, Gives-before s a older old x h.0 p h.1, h.2)
+
+-- more batches
+GivesAll-then : (s : Scheme) (a : ℕ) (items : List Buffer) (bs cs : List BatchState) (mid new : List Buffer)
+    → GivesAll s a items bs mid → GivesAll s a mid cs new → GivesAll s a items (bs ++ cs) new
+GivesAll-then s a items [] cs mid new h g = GivesAll-before s a items mid cs new h g
+GivesAll-then s a items (x ∷ bs) cs mid new h g = (h.0, h.1, GivesAll-then s a h.0 bs cs mid new h.2 g)
+
+one_batch : (s : Scheme) (a : ℕ) (old : List Buffer) (b : BatchState) (new : List Buffer) → GivesBucket s a old b new → GivesAll s a old (b ∷ []) new
+one_batch s a old b new g = (new, g, IsPermutation-refl new)
+
+-- what is left may stand in another order
+GivesAll-end : (s : Scheme) (a : ℕ) (items : List Buffer) (bs : List BatchState) (mid left : List Buffer)
+    → GivesAll s a items bs mid → IsPermutation mid left → GivesAll s a items bs left
+GivesAll-end s a items [] mid left h p = IsPermutation-trans _ _ _ h p
+GivesAll-end s a items (x ∷ bs) mid left h p = (h.0, h.1, GivesAll-end s a h.0 bs mid left h.2 p)
+
+buffers_in-append : (bs cs : List BatchState) → buffers_in (bs ++ cs) ≡ buffers_in bs ++ buffers_in cs
+buffers_in-append [] cs = refl
+buffers_in-append (b ∷ bs) cs = ap (λ l. b.items ++ l) (buffers_in-append bs cs) ∙ sym (append_assoc b.items (buffers_in bs) (buffers_in cs))
+
+sent_all-append : (ss : List SeatState) (bs cs : List BatchState) → sent_all ss (bs ++ cs) ≡ sent_all (sent_all ss bs) cs
+sent_all-append ss [] cs = refl
+sent_all-append ss (b ∷ bs) cs = sent_all-append (sent_at b.address b ss) bs cs
+
+-- two lists in two parts each
+pair_up : {X : Type 0} (xs bs cs ds es fs : List X) → IsPermutation xs (cs ++ ds) → IsPermutation bs (es ++ fs)
+    → IsPermutation (xs ++ bs) ((cs ++ es) ++ (ds ++ fs))
+pair_up xs bs cs ds es fs p q =
+    let first : IsPermutation (xs ++ bs) ((cs ++ ds) ++ bs) = IsPermutation-append_left bs _ _ p in
+    let next : IsPermutation ((cs ++ ds) ++ bs) ((cs ++ ds) ++ (es ++ fs)) = IsPermutation-append_right (cs ++ ds) _ _ q in
+    let swap : IsPermutation (ds ++ (es ++ fs)) (es ++ (ds ++ fs)) =
+    rw (← append_assoc ds es fs, ← append_assoc es ds fs) (IsPermutation-append_left fs _ _ (IsPermutation-append_comm ds es)) in
+    let turn : IsPermutation (cs ++ (ds ++ (es ++ fs))) (cs ++ (es ++ (ds ++ fs))) = IsPermutation-append_right cs _ _ swap in
+    let all : IsPermutation ((cs ++ ds) ++ (es ++ fs)) ((cs ++ es) ++ (ds ++ fs)) = rw (append_assoc cs ds (es ++ fs), append_assoc cs es (ds ++ fs)) turn in
+    IsPermutation-trans _ _ _ first (IsPermutation-trans _ _ _ next all)
 
 -- nothing was posted yet
-pub posts_none : (c : List Buffer) (ss : List SeatState) → Posts c ss c ss
-posts_none c ss = record { posted = []; together = IsPermutation-refl c; addresses = λ k d l. absurd (omega arith); seats_are = refl }
+pub posts_none : (s : Scheme) (a : ℕ) (c : List Buffer) (ss : List SeatState) → Posts s a c ss c [] ss
+posts_none s a c ss = record {
+  given = [];
+  posted = [];
+  refused = [];
+  whole = IsPermutation-refl c;
+  parted = IsPermutation-refl [];
+  aside_is = IsPermutation-refl [];
+  addresses = λ k d l. absurd (omega arith);
+  seats_are = refl;
+}
 
--- one more batch
-pub posts_more : (c c' c'' : List Buffer) (ss ss' ss'' : List SeatState) (b : BatchState) → Posts c ss c' ss' → IsPermutation c' (b.items ++ c'') → b.address < length ss' → ss'' ≡ sent_at b.address b ss'
-    → Posts c ss c'' ss''
-posts_more c c' c'' ss ss' ss'' b p taken less sent = record {
-  posted = p.posted ++ b ∷ [];
-  together =
-      let step = IsPermutation-append_right (buffers_in p.posted) c' (b.items ++ c'') taken in
-      let all = IsPermutation-trans c (buffers_in p.posted ++ c') (buffers_in p.posted ++ (b.items ++ c'')) p.together step in
-      subst (λ l. IsPermutation c l) (sym (append_assoc (buffers_in p.posted) b.items c'') ∙ ap (λ l. l ++ c'') (sym (buffers_in-snoc p.posted b))) all;
+-- what was posted first, and then
+pub posts_then : (s : Scheme) (a : ℕ) (c l m x y : List Buffer) (ss ss' ss'' : List SeatState) → Posts s a c ss l x ss' → Posts s a l ss' m y ss''
+    → Posts s a c ss m (x ++ y) ss''
+posts_then s a c l m x y ss ss' ss'' p q = record {
+  given = p.given ++ q.given;
+  posted = p.posted ++ q.posted;
+  refused = p.refused ++ q.refused;
+  whole = GivesAll-then s a c p.given q.given l m p.whole q.whole;
+  parted = pair_up p.given q.given p.posted p.refused q.posted q.refused p.parted q.parted;
+  aside_is = rw (buffers_in-append p.refused q.refused)
+      (IsPermutation-trans _ _ _ (IsPermutation-append_left (buffers_in q.refused) _ _ p.aside_is) (IsPermutation-append_right x _ _ q.aside_is));
   addresses =
       let n : length ss' ≡ length ss = ap length p.seats_are ∙ length-sent_all ss p.posted in
-      All-append (λ (x : BatchState). x.address < length ss) p.posted (b ∷ []) p.addresses (one_address (length ss) b (subst (λ m. b.address < m) n less));
-  seats_are = sent ∙ ap (sent_at b.address b) p.seats_are ∙ sym (sent_all-snoc ss p.posted b);
-} where
-  one_address : (n : ℕ) (b : BatchState) → b.address < n → All (λ (x : BatchState). x.address < n) (b ∷ [])
-  one_address n b l zero d e = l
-  one_address n b l (suc k) d e = absurd (omega arith)
+      All-append (λ (b : BatchState). b.address < length ss) p.posted q.posted p.addresses
+      (subst (λ n. All (λ (b : BatchState). b.address < n) q.posted) n q.addresses);
+  seats_are = q.seats_are ∙ ap (λ l. sent_all l q.posted) p.seats_are ∙ sym (sent_all-append ss p.posted q.posted);
+}
 
--- the cache in another order
-pub posts_end : (c c' c'' : List Buffer) (ss ss' : List SeatState) → Posts c ss c' ss' → IsPermutation c' c'' → Posts c ss c'' ss'
-posts_end c c' c'' ss ss' p e = record {
+one_address : (n : ℕ) (b : BatchState) → b.address < n → All (λ (x : BatchState). x.address < n) (b ∷ [])
+one_address n b l zero d e = l
+one_address n b l (suc k) d e = absurd (omega arith)
+
+-- one batch, which was posted, or set aside
+posts_one : (s : Scheme) (a : ℕ) (old new aside : List Buffer) (b : BatchState) (ss ss' : List SeatState) → GivesBucket s a old b new
+    → SendsOrKeeps b ss [] ss' aside → Posts s a old ss new aside ss'
+posts_one s a old new aside b ss ss' g h = ⊎_elim
+    (λ (p : (b.address < length ss) × (ss' ≡ sent_at b.address b ss) × (aside ≡ [])). record {
+      given = b ∷ [];
+      posted = b ∷ [];
+      refused = [];
+      whole = one_batch s a old b new g;
+      parted = IsPermutation-refl (b ∷ []);
+      aside_is = rw p.2 (IsPermutation-refl []);
+      addresses = one_address (length ss) b p.0;
+      seats_are = p.1;
+    })
+    (λ (p : (ss' ≡ ss) × IsPermutation b.items aside). record {
+      given = b ∷ [];
+      posted = [];
+      refused = b ∷ [];
+      whole = one_batch s a old b new g;
+      parted = IsPermutation-refl (b ∷ []);
+      aside_is = rw (append-nil b.items) p.1;
+      addresses = λ k d l. absurd (omega arith);
+      seats_are = p.0;
+    })
+    h
+
+-- what is left, and what is set aside, in another order
+pub posts_end : (s : Scheme) (a : ℕ) (c l m x y : List Buffer) (ss ss' : List SeatState) → Posts s a c ss l x ss' → IsPermutation l m → IsPermutation x y
+    → Posts s a c ss m y ss'
+posts_end s a c l m x y ss ss' p e f = record {
+  given = p.given;
   posted = p.posted;
-  together = IsPermutation-trans c (buffers_in p.posted ++ c') (buffers_in p.posted ++ c'') p.together (IsPermutation-append_right (buffers_in p.posted) c' c'' e);
+  refused = p.refused;
+  whole = GivesAll-end s a c p.given l m p.whole e;
+  parted = p.parted;
+  aside_is = IsPermutation-trans _ _ _ p.aside_is f;
   addresses = p.addresses;
   seats_are = p.seats_are;
 }
+
+-- one more batch
+pub posts_more : (s : Scheme) (a : ℕ) (c l m x y : List Buffer) (ss ss' ss'' : List SeatState) (b : BatchState) → Posts s a c ss l x ss'
+    → GivesBucket s a l b m → SendsOrKeeps b ss' x ss'' y → Posts s a c ss m y ss''
+posts_more s a c l m x y ss ss' ss'' b p g h = ⊎_elim
+    (λ (q : (b.address < length ss') × (ss'' ≡ sent_at b.address b ss') × (y ≡ x)).
+    rw (q.2 ∙ sym (append-nil x)) (posts_then s a c l m x [] ss ss' ss'' p (posts_one s a l m [] b ss' ss'' g (inl (q.0, q.1, refl)))))
+    (λ (q : (ss'' ≡ ss') × IsPermutation (x ++ b.items) y).
+    posts_end s a c m m (x ++ b.items) y ss ss'' (posts_then s a c l m x b.items ss ss' ss'' p (posts_one s a l m b.items b ss' ss'' g (inr (q.0, IsPermutation-refl b.items))))
+    (IsPermutation-refl m) q.1)
+    h
+
+-- the seats stay this desk's
+pub seats_kept : (n : Names) (a : ℕ) (b : BatchState) (ss ss' : List SeatState) (x y : List Buffer) → AreSeatsBy n a ss → SendsOrKeeps b ss x ss' y → AreSeatsBy n a ss'
+seats_kept n a b ss ss' x y i h = ⊎_elim
+    (λ (q : (b.address < length ss) × (ss' ≡ sent_at b.address b ss) × (y ≡ x)). subst (λ l. AreSeatsBy n a l) (sym q.1) (seats_sent n a b.address b ss i))
+    (λ (q : (ss' ≡ ss) × IsPermutation (x ++ b.items) y). subst (λ l. AreSeatsBy n a l) (sym q.0) i)
+    h
 
 weigh-sent_at : (h : Slot → ℕ) (k : ℕ) (b : BatchState) (ss : List SeatState) → k < length ss → of_seats h (sent_at k b ss) ≡ of_seats h ss + of_batch h b
 weigh-sent_at h k b [] l = absurd (omega arith)
@@ -126,12 +233,32 @@ weigh-sent_all h ss (b ∷ bs) a =
     let f = weigh-append (of_buffer h) b.items (buffers_in bs) in
     omega arith
 
--- what was cached is what is cached still, and what was posted
-pub posted_sum : (h : Slot → ℕ) (c : List Buffer) (ss : List SeatState) (c' : List Buffer) (ss' : List SeatState) → Posts c ss c' ss'
-    → weigh (of_buffer h) c + of_seats h ss ≡ weigh (of_buffer h) c' + of_seats h ss'
-posted_sum h c ss c' ss' p =
-    let a = weigh-permutation (of_buffer h) c (buffers_in p.posted ++ c') p.together in
-    let b = weigh-append (of_buffer h) (buffers_in p.posted) c' in
+weigh-buffers_in : (h : Slot → ℕ) (bs : List BatchState) → weigh (of_buffer h) (buffers_in bs) ≡ weigh (of_batch h) bs
+weigh-buffers_in h [] = refl
+weigh-buffers_in h (b ∷ bs) =
+    let i = weigh-buffers_in h bs in
+    let e = weigh-append (of_buffer h) b.items (buffers_in bs) in
+    omega arith
+
+weigh-given : (h : Slot → ℕ) (s : Scheme) (a : ℕ) (c : List Buffer) (bs : List BatchState) (l : List Buffer) → GivesAll s a c bs l
+    → weigh (of_buffer h) c ≡ weigh (of_batch h) bs + weigh (of_buffer h) l
+weigh-given h s a c [] l p = let e = weigh-permutation (of_buffer h) c l p in omega arith
+weigh-given h s a c (b ∷ bs) l g =
+    let i = weigh-given h s a g.0 bs l g.2 in
+    let p = weigh-permutation (of_buffer h) c (b.items ++ g.0) g.1.taken.together in
+    let e = weigh-append (of_buffer h) b.items g.0 in
+    omega arith
+
+-- what was cached is what is left and what is set aside, and what was posted
+pub posted_sum : (h : Slot → ℕ) (s : Scheme) (a : ℕ) (c : List Buffer) (ss : List SeatState) (l x : List Buffer) (ss' : List SeatState) → Posts s a c ss l x ss'
+    → weigh (of_buffer h) c + of_seats h ss ≡ weigh (of_buffer h) l + weigh (of_buffer h) x + of_seats h ss'
+posted_sum h s a c ss l x ss' p =
+    let given = weigh-given h s a c p.given l p.whole in
+    let parted = weigh-permutation (of_batch h) p.given (p.posted ++ p.refused) p.parted in
+    let parts = weigh-append (of_batch h) p.posted p.refused in
+    let posted = weigh-buffers_in h p.posted in
+    let refused = weigh-buffers_in h p.refused in
+    let aside = weigh-permutation (of_buffer h) (buffers_in p.refused) x p.aside_is in
     let d = weigh-sent_all h ss p.posted p.addresses in
     let e = ap (of_seats h) p.seats_are in
     omega arith
@@ -214,28 +341,3 @@ written [] (y ∷ ys) n e m = absurd (omega arith)
 written (x ∷ xs) [] n e m = absurd (omega arith)
 written (x ∷ xs) (y ∷ ys) zero e m = absurd (omega arith)
 written (x ∷ xs) (y ∷ ys) (suc n) e m = ap (λ l. x ∷ l) (written xs ys n (omega arith) (omega arith))
-
-sent_all-append : (ss : List SeatState) (bs cs : List BatchState) → sent_all ss (bs ++ cs) ≡ sent_all (sent_all ss bs) cs
-sent_all-append ss [] cs = refl
-sent_all-append ss (b ∷ bs) cs = sent_all-append (sent_at b.address b ss) bs cs
-
-buffers_in-append : (bs cs : List BatchState) → buffers_in (bs ++ cs) ≡ buffers_in bs ++ buffers_in cs
-buffers_in-append [] cs = refl
-buffers_in-append (b ∷ bs) cs = ap (λ l. b.items ++ l) (buffers_in-append bs cs) ∙ sym (append_assoc b.items (buffers_in bs) (buffers_in cs))
-
--- what was posted first, and then
-pub posts_then : (c c' c'' : List Buffer) (ss ss' ss'' : List SeatState) → Posts c ss c' ss' → Posts c' ss' c'' ss'' → Posts c ss c'' ss''
-posts_then c c' c'' ss ss' ss'' p q = record {
-  posted = p.posted ++ q.posted;
-  together =
-      let first = buffers_in p.posted in
-      let next = buffers_in q.posted in
-      let step = IsPermutation-append_right first c' (next ++ c'') q.together in
-      let all = IsPermutation-trans c (first ++ c') (first ++ (next ++ c'')) p.together step in
-      subst (λ l. IsPermutation c l) (sym (append_assoc first next c'') ∙ ap (λ l. l ++ c'') (sym (buffers_in-append p.posted q.posted))) all;
-  addresses =
-      let n : length ss' ≡ length ss = ap length p.seats_are ∙ length-sent_all ss p.posted in
-      All-append (λ (x : BatchState). x.address < length ss) p.posted q.posted p.addresses
-      (subst (λ m. All (λ (x : BatchState). x.address < m) q.posted) n q.addresses);
-  seats_are = q.seats_are ∙ ap (λ l. sent_all l q.posted) p.seats_are ∙ sym (sent_all-append ss p.posted q.posted);
-}

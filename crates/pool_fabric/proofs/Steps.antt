@@ -113,13 +113,13 @@ takes_keeps n s k d t i a =
 
 -- the cache is posted
 pub posts_keeps : (n : Names) (s : StationState) (d : DeskState) (seats : List SeatState) → IsStation n s → d ≡ record s.desk { cached = d.cached } → AreSeatsBy n s.desk.number seats
-    → Posts s.desk.cached s.seats d.cached seats → IsStation n (record s { desk = d; seats = seats })
+    → Posts s.desk.digits s.desk.number s.desk.cached s.seats [] d.cached seats → IsStation n (record s { desk = d; seats = seats })
 posts_keeps n s d seats i same are a =
     let r = reseat n s d s.lent s.freed (ap (λ (x : DeskState). x.number) same) (ap (λ (x : DeskState). x.digits) same) (ap (λ (x : DeskState). x.limit) same) i.seated in
     record {
       slots = λ h.
           let p = i.slots h in
-          let e = posted_sum h s.desk.cached s.seats d.cached seats a in
+          let e = posted_sum h s.desk.digits s.desk.number s.desk.cached s.seats [] d.cached seats a in
           let o = ap (λ (x : DeskState). weigh (of_chunk h) x.drawn) same in
           let q = ap (λ (x : DeskState). weigh (of_home h) x.home) same in
           omega arith;
@@ -173,5 +173,5 @@ claims_part s class p d page a more = record { part = p; desk = a; same = ap (λ
 
 -- the same, where the seats are written back
 pub posts_written : (n : Names) (s : StationState) (d : DeskState) (seats back : List SeatState) → back ≡ seats → IsStation n s → d ≡ record s.desk { cached = d.cached } → AreSeatsBy n s.desk.number seats
-    → Posts s.desk.cached s.seats d.cached seats → IsStation n (record s { desk = d; seats = back })
+    → Posts s.desk.digits s.desk.number s.desk.cached s.seats [] d.cached seats → IsStation n (record s { desk = d; seats = back })
 posts_written n s d seats back e i same are a = subst (λ l. IsStation n (record s { desk = d; seats = l })) (sym e) (posts_keeps n s d seats i same are a)

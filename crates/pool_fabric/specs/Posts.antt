@@ -1,6 +1,8 @@
 -- What is posted, and what is taken.
-use Rattle.std.specs.Prelude.{◌≡◌, ℕ, zero, suc, ◌<◌, List, [], ◌∷◌, ◌++◌, All, IsPermutation, length}
+use Rattle.std.specs.Prelude.{◌≡◌, ℕ, zero, suc, ◌<◌, ◌⊎◌, List, [], ◌∷◌, ◌++◌, All, IsPermutation, length}
 use Rattle.slot_chain.specs.Buffer.{Buffer}
+use Rattle.digit_route.specs.Digits.{Scheme}
+use Rattle.digit_route.specs.Posts.{GivesAll}
 use Rattle.digit_route.specs.States.{BatchState}
 use Rattle.pool_desk.specs.Desks.{DeskState}
 use Rattle.pool_desk.specs.Steps.{Handles}
@@ -23,12 +25,22 @@ abbrev pub sent_all : List SeatState → List BatchState → List SeatState
 sent_all seats [] = seats
 sent_all seats (b ∷ bs) = sent_all (sent_at b.address b seats) bs
 
--- Some batches were posted, each to its address.
--- With the cache that is left they are the cache of before, each buffer the same.
-pub record Posts (cached : List Buffer) (seats : List SeatState) (cached' : List Buffer) (seats' : List SeatState)
-    : Type 0 where
+-- the batch was sent to its address, or its buffers were set aside
+abbrev pub SendsOrKeeps : BatchState → List SeatState → List Buffer → List SeatState → List Buffer → Type 0
+SendsOrKeeps b seats aside seats' aside' =
+    ((b.address < length seats) × (seats' ≡ sent_at b.address b seats) × (aside' ≡ aside))
+    ⊎ ((seats' ≡ seats) × IsPermutation (aside ++ b.items) aside')
+
+-- Batches of desk a were taken out of its cache in turn, each the whole bucket for its address of what was there then.
+-- Those that weren't refused were posted, each to its address; the buffers of the others were set aside, each the same.
+pub record Posts (s : Scheme) (a : ℕ) (cached : List Buffer) (seats : List SeatState) (left aside : List Buffer)
+    (seats' : List SeatState) : Type 0 where
+  pub given : List BatchState
   pub posted : List BatchState
-  pub together : IsPermutation cached (buffers_in posted ++ cached')
+  pub refused : List BatchState
+  pub whole : GivesAll s a cached given left
+  pub parted : IsPermutation given (posted ++ refused)
+  pub aside_is : IsPermutation (buffers_in refused) aside
   pub addresses : All (λ (b : BatchState). b.address < length seats) posted
   pub seats_are : seats' ≡ sent_all seats posted
 

@@ -6,7 +6,7 @@ ghost use Rattle.digit_route.specs.Digits.{common};
 ghost use Rattle.pool_fabric.specs.Limits.{most_taken};
 ghost use Rattle.pool_fabric.specs.Names.{box_at};
 ghost use Rattle.pool_fabric.specs.Seats.{seat_of, AreSeatsBy, AreBoxes};
-ghost use Rattle.pool_fabric.specs.Posts.{Posts, TakesSome, sent_at};
+ghost use Rattle.pool_fabric.specs.Posts.{Posts, SendsOrKeeps, TakesSome, sent_at};
 
 use crate::ledger::Ledger;
 use crate::named::Named;
@@ -15,8 +15,8 @@ use crate::shelf::Shelf;
 use crate::station::Station;
 use crate::store::Store;
 use batch_inbox::{Mail, Mailbox, Receiver, Sender};
-use digit_route::Batch;
-use pool_desk::{Desk, IdleDesk};
+use digit_route::{Batch, Refused};
+use pool_desk::{Desk, DeskPosting, IdleDesk};
 use std::sync::{Mutex, Wait};
 use std::{fmt, mem};
 
@@ -107,9 +107,90 @@ impl<'r, T: Receiver, S: Sender, M: Mail<'r, TakeSeat = T, SendSeat = S>, J: Nam
         }
     }
 
-    // Posts all of a desk's cache, round by round. At `Ok` nothing is left; at `Err` a batch was
-    // refused, or its address has no inbox, and that batch and the rest are in the cache.
-    fn post_until_refused<R: Wait>(
+    // Posts a batch to its address. Where the inbox refuses it, or there is none, its buffers are added to
+    // what was refused.
+    fn post_or_keep<R: Wait>(
+        &self,
+        rt: &R,
+        seats: &mut [S],
+        batch: Batch<'r>,
+        refused: &mut Refused<'r>,
+    )
+        requires seats { AreSeatsBy J.names batch.sender (map (seat_of S.inbox S.number S.sent S.resting) seats.old) }
+        requires digits { batch.digits ≡ J.names.digits }
+        requires refused { (refused.old.number ≡ batch.sender) × (refused.old.digits ≡ batch.digits) }
+        ensures same { refused.new ≡ record refused.old { items = refused.new.items } }
+        ensures goes { let seat = seat_of S.inbox S.number S.sent S.resting in
+            SendsOrKeeps batch.entry (map seat seats.old) refused.old.items (map seat seats.new) refused.new.items }
+    {
+        if let Err(batch) = self.post_one(rt, seats, batch) {
+            refused.add(batch);
+        }
+    }
+
+    // Posts what the desk gives in the first round, where it stands, and hands back what was refused.
+    // What is left goes in later rounds.
+    fn post_first_round<R: Wait>(&self, rt: &R, desk: &mut Desk<'r>, seats: &mut [S]) -> Refused<'r>
+        requires digits { desk.old.digits ≡ J.names.digits }
+        requires seats { AreSeatsBy J.names desk.old.number
+            (map (seat_of S.inbox S.number S.sent S.resting) seats.old) }
+        ensures same { desk.new ≡ record desk.old { cached = desk.new.cached } }
+        ensures refused { result
+            ≡ record { number = desk.old.number; digits = desk.old.digits; items = result.items } }
+        ensures seats { AreSeatsBy J.names desk.old.number
+            (map (seat_of S.inbox S.number S.sent S.resting) seats.new) }
+        ensures posts { let seat = seat_of S.inbox S.number S.sent S.resting in
+            Posts desk.old.digits desk.old.number desk.old.cached (map seat seats.old)
+            desk.new.cached result.items (map seat seats.new) }
+        ensures later { All (λ (x : Buffer). 0 < common desk.new.digits x.owner desk.new.number) desk.new.cached }
+    {
+        let mut refused = Refused::new(desk.number(), desk.digits());
+        while let Some(batch) = desk.next_of_first_round() {
+            self.post_or_keep(rt, seats, batch, &mut refused);
+        }
+        refused
+    }
+
+    // Posts all that a posting gives, and hands back what was refused.
+    fn post_rounds<R: Wait>(
+        &self,
+        rt: &R,
+        posting: &mut DeskPosting<'r>,
+        seats: &mut [S],
+    ) -> Refused<'r>
+        requires digits { posting.old.posting.digits ≡ J.names.digits }
+        requires seats { AreSeatsBy J.names posting.old.posting.number
+            (map (seat_of S.inbox S.number S.sent S.resting) seats.old) }
+        ensures same { posting.new ≡ record posting.old {
+          posting =
+              record posting.old.posting {
+                round = posting.new.posting.round;
+                moves = posting.new.posting.moves;
+                items = posting.new.posting.items;
+              };
+        } }
+        ensures emptied { posting.new.posting.items ≡ [] }
+        ensures refused { result ≡ record {
+          number = posting.old.posting.number;
+          digits = posting.old.posting.digits;
+          items = result.items;
+        } }
+        ensures seats { AreSeatsBy J.names posting.old.posting.number
+            (map (seat_of S.inbox S.number S.sent S.resting) seats.new) }
+        ensures posts { let seat = seat_of S.inbox S.number S.sent S.resting in let p = posting.old.posting in
+            Posts p.digits p.number p.items (map seat seats.old) [] result.items (map seat seats.new) }
+    {
+        let mut refused = Refused::new(posting.number(), posting.digits());
+        while let Some(batch) = posting.next_batch() {
+            self.post_or_keep(rt, seats, batch, &mut refused);
+        }
+        refused
+    }
+
+    /// Posts all of a desk's cache, round by round. A batch that its inbox refuses, or whose address has
+    /// none, holds back no other: its buffers are in the cache of the desk that comes back, and nothing
+    /// else is. At `Ok` no batch was refused.
+    pub fn post_all<R: Wait>(
         &self,
         rt: &R,
         desk: Desk<'r>,
@@ -123,97 +204,95 @@ impl<'r, T: Receiver, S: Sender, M: Mail<'r, TakeSeat = T, SendSeat = S>, J: Nam
         ensures seats { AreSeatsBy J.names desk.entry.number
             (map (seat_of S.inbox S.number S.sent S.resting) seats.new) }
         ensures posts { let seat = seat_of S.inbox S.number S.sent S.resting in MatchResult result
-            (λ d. Posts desk.entry.cached (map seat seats.old) d.cached (map seat seats.new))
-            (λ d. Posts desk.entry.cached (map seat seats.old) d.cached (map seat seats.new)) }
+            (λ d. Posts d.digits d.number desk.entry.cached (map seat seats.old) [] d.cached (map seat seats.new))
+            (λ d. Posts d.digits d.number desk.entry.cached (map seat seats.old) [] d.cached (map seat seats.new)) }
         ensures all { IfOk result (λ d. d.cached ≡ []) }
     {
         let mut posting = desk.posting();
-        while let Some(batch) = posting.next_batch() {
-            if let Err(batch) = self.post_one(rt, seats, batch) {
-                return Err(posting.refused(batch));
-            }
+        let refused = self.post_rounds(rt, &mut posting, seats);
+        let mut desk = posting.end();
+        if refused.is_empty() {
+            return Ok(desk);
         }
-        Ok(posting.end())
+        desk.take_back(refused);
+        Err(desk)
     }
 
-    /// Posts all of a desk's cache, round by round. It ends where a batch is refused, or where its
-    /// address has no inbox; that batch and the rest stay in the cache.
-    pub fn post_all<R: Wait>(&self, rt: &R, desk: Desk<'r>, seats: &mut [S]) -> Desk<'r>
-        requires digits { desk.digits ≡ J.names.digits }
-        requires seats { AreSeatsBy J.names desk.number (map (seat_of S.inbox S.number S.sent S.resting) seats.old) }
-        ensures same { result ≡ record desk.entry { cached = result.cached } }
-        ensures seats { AreSeatsBy J.names desk.entry.number
-            (map (seat_of S.inbox S.number S.sent S.resting) seats.new) }
-        ensures posts { Posts
-            desk.entry.cached (map (seat_of S.inbox S.number S.sent S.resting) seats.old)
-            result.cached (map (seat_of S.inbox S.number S.sent S.resting) seats.new) }
-    {
-        match self.post_until_refused(rt, desk, seats) {
-            Ok(desk) => desk,
-            Err(desk) => desk,
-        }
-    }
-
-    // Posts what the desk gives in the first round, where it stands. Says whether no batch was
-    // refused, and then what is left goes in later rounds; one that was is back in the cache.
-    fn post_first_round<R: Wait>(&self, rt: &R, desk: &mut Desk<'r>, seats: &mut [S]) -> bool
-        requires digits { desk.old.digits ≡ J.names.digits }
-        requires seats { AreSeatsBy J.names desk.old.number
-            (map (seat_of S.inbox S.number S.sent S.resting) seats.old) }
-        ensures same { desk.new ≡ record desk.old { cached = desk.new.cached } }
-        ensures seats { AreSeatsBy J.names desk.old.number
-            (map (seat_of S.inbox S.number S.sent S.resting) seats.new) }
-        ensures posts { Posts
-            desk.old.cached (map (seat_of S.inbox S.number S.sent S.resting) seats.old)
-            desk.new.cached (map (seat_of S.inbox S.number S.sent S.resting) seats.new) }
-        ensures later { IsTrue result
-            → All (λ (x : Buffer). 0 < common desk.new.digits x.owner desk.new.number) desk.new.cached }
-    {
-        while let Some(batch) = desk.next_of_first_round() {
-            if let Err(batch) = self.post_one(rt, seats, batch) {
-                desk.refused(batch);
-                return false;
-            }
-        }
-        true
-    }
-
-    // Posts all of a desk's cache, which is moved out of its place for that time. By itself, since
-    // what it has on its stack would else be cleared at every post.
+    // Posts all of a desk's cache, which is moved out of its place for that time. Says whether no batch
+    // was refused. By itself, since what it has on its stack would else be cleared at every post.
     #[cold]
     #[inline(never)]
-    fn post_moved<R: Wait>(&self, rt: &R, desk: &mut Desk<'r>, seats: &mut [S])
+    fn post_moved<R: Wait>(&self, rt: &R, desk: &mut Desk<'r>, seats: &mut [S]) -> bool
         requires digits { desk.old.digits ≡ J.names.digits }
         requires seats { AreSeatsBy J.names desk.old.number
             (map (seat_of S.inbox S.number S.sent S.resting) seats.old) }
         ensures same { desk.new ≡ record desk.old { cached = desk.new.cached } }
         ensures seats { AreSeatsBy J.names desk.old.number
             (map (seat_of S.inbox S.number S.sent S.resting) seats.new) }
-        ensures posts { Posts
-            desk.old.cached (map (seat_of S.inbox S.number S.sent S.resting) seats.old)
-            desk.new.cached (map (seat_of S.inbox S.number S.sent S.resting) seats.new) }
+        ensures posts { let seat = seat_of S.inbox S.number S.sent S.resting in
+            Posts desk.old.digits desk.old.number desk.old.cached (map seat seats.old)
+            [] desk.new.cached (map seat seats.new) }
+        ensures all { IsTrue result → desk.new.cached ≡ [] }
     {
         let moved = taken_out(desk);
-        *desk = self.post_all(rt, moved, seats);
+        match self.post_all(rt, moved, seats) {
+            Ok(posted) => {
+                *desk = posted;
+                true
+            }
+            Err(posted) => {
+                *desk = posted;
+                false
+            }
+        }
     }
 
-    /// Posts all of a desk's cache, as [`Fabric::post_all`] does. The desk is moved only where
-    /// buffers are left whose owners share a digit with it: a desk is some kilobytes, and it is
-    /// posted often.
-    pub(crate) fn post_in_place<R: Wait>(&self, rt: &R, desk: &mut Desk<'r>, seats: &mut [S])
+    // Posts what is left behind the first round, where anything is. Says whether no batch was refused.
+    #[inline(always)]
+    fn post_later_rounds<R: Wait>(&self, rt: &R, desk: &mut Desk<'r>, seats: &mut [S]) -> bool
+        requires digits { desk.old.digits ≡ J.names.digits }
+        requires seats { AreSeatsBy J.names desk.old.number
+            (map (seat_of S.inbox S.number S.sent S.resting) seats.old) }
+        requires later { All (λ (x : Buffer). 0 < common desk.old.digits x.owner desk.old.number) desk.old.cached }
+        ensures same { desk.new ≡ record desk.old { cached = desk.new.cached } }
+        ensures seats { AreSeatsBy J.names desk.old.number
+            (map (seat_of S.inbox S.number S.sent S.resting) seats.new) }
+        ensures posts { let seat = seat_of S.inbox S.number S.sent S.resting in
+            Posts desk.old.digits desk.old.number desk.old.cached (map seat seats.old)
+            [] desk.new.cached (map seat seats.new) }
+        ensures all { IsTrue result → desk.new.cached ≡ [] }
+    {
+        if desk.is_posted() {
+            return true;
+        }
+        self.post_moved(rt, desk, seats)
+    }
+
+    /// Posts all of a desk's cache, as [`Fabric::post_all`] does, and says whether no batch was refused.
+    /// The desk is moved only where buffers are left whose owners share a digit with it: a desk is some
+    /// kilobytes, and it is posted often.
+    pub(crate) fn post_in_place<R: Wait>(
+        &self,
+        rt: &R,
+        desk: &mut Desk<'r>,
+        seats: &mut [S],
+    ) -> bool
         requires digits { desk.old.digits ≡ J.names.digits }
         requires seats { AreSeatsBy J.names desk.old.number
             (map (seat_of S.inbox S.number S.sent S.resting) seats.old) }
         ensures same { desk.new ≡ record desk.old { cached = desk.new.cached } }
         ensures seats { AreSeatsBy J.names desk.old.number
             (map (seat_of S.inbox S.number S.sent S.resting) seats.new) }
-        ensures posts { Posts
-            desk.old.cached (map (seat_of S.inbox S.number S.sent S.resting) seats.old)
-            desk.new.cached (map (seat_of S.inbox S.number S.sent S.resting) seats.new) }
+        ensures posts { let seat = seat_of S.inbox S.number S.sent S.resting in
+            Posts desk.old.digits desk.old.number desk.old.cached (map seat seats.old)
+            [] desk.new.cached (map seat seats.new) }
+        ensures all { IsTrue result → desk.new.cached ≡ [] }
     {
-        if self.post_first_round(rt, desk, seats) && desk.cached_bytes() > 0 {
-            self.post_moved(rt, desk, seats);
-        }
+        let refused = self.post_first_round(rt, desk, seats);
+        let rest = self.post_later_rounds(rt, desk, seats);
+        let first = refused.is_empty();
+        desk.take_back(refused);
+        first && rest
     }
 
     /// Takes batches from the desk's inbox and handles each, until it is given none, but not more

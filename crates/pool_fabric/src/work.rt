@@ -1,5 +1,5 @@
 //! What a worker does with its station at a fabric.
-ghost use Rattle.std.specs.Prelude.{◌≡◌, ◌<◌, ◌≤◌, MatchBool};
+ghost use Rattle.std.specs.Prelude.{◌≡◌, ◌<◌, ◌≤◌, [], IsTrue, MatchBool};
 ghost use Rattle.region_cut.specs.Classes.{classes_of};
 ghost use Rattle.pool_desk.specs.HomesState.{LacksClass};
 ghost use Rattle.pool_desk.specs.Desks.{profile_at};
@@ -29,17 +29,20 @@ impl<'r, T: Receiver, S: Sender, J: Naming> HeldStation<'r, T, S, J> {
         fabric.take_some(rt, &mut self.desk, &mut self.take)
     }
 
-    /// Posts all of the desk's cache, until a batch is refused.
+    /// Posts all of the desk's cache. What an inbox refuses stays cached, and nothing else does. Says
+    /// whether all went.
     pub fn post<M: Mail<'r, TakeSeat = T, SendSeat = S>, R: Wait>(
         &mut self,
         rt: &R,
         fabric: &Fabric<'r, M, T, S, J>,
-    )
+    ) -> bool
         ensures same { self.new ≡ record self.old { desk = self.new.desk; seats = self.new.seats } }
         ensures desk { self.new.desk ≡ record self.old.desk { cached = self.new.desk.cached } }
-        ensures posts { Posts self.old.desk.cached self.old.seats self.new.desk.cached self.new.seats }
+        ensures posts { Posts self.old.desk.digits self.old.desk.number self.old.desk.cached self.old.seats
+            [] self.new.desk.cached self.new.seats }
+        ensures all { IsTrue result → self.new.desk.cached ≡ [] }
     {
-        fabric.post_in_place(rt, &mut self.desk, self.seats.as_mut_slice());
+        fabric.post_in_place(rt, &mut self.desk, self.seats.as_mut_slice())
     }
 
     /// Claims a part of the stock for a class that has no slot at home, or says that the stock is

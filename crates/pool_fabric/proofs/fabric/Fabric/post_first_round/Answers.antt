@@ -1,31 +1,30 @@
-use Rattle.std.proofs.Common.{◌<◌, ◌++◌, map, refl, sym, ap, ◌∙◌, arith, subst, IsPermutation}
-use Rattle.std.proofs.lemmas.List.Sorted.{IsPermutation-trans, IsPermutation-append_comm}
-use Rattle.digit_route.specs.States.{BatchState}
+use Rattle.std.proofs.Common.{◌≡◌, ◌∷◌, ◌++◌, List, map, refl, sym, ap, ◌∙◌, arith, subst}
+use Rattle.slot_chain.specs.Buffer.{Buffer}
+use Rattle.digit_route.specs.Digits.{Scheme}
+use Rattle.digit_route.specs.Route.{GivesBucket}
+use Rattle.digit_route.specs.States.{RefusedState}
 use Rattle.pool_desk.specs.Desks.{DeskState}
-use Rattle.pool_fabric.specs.Seats.{seat_of, AreSeatsBy}
+use Rattle.pool_fabric.specs.Seats.{seat_of}
 use Rattle.pool_fabric.specs.Posts.{Posts}
-use Rattle.pool_fabric.proofs.Posting.{length-mapped, posts_none, posts_more, posts_end, seats_sent, batch_smaller}
+use Rattle.pool_fabric.proofs.Posting.{posts_none, posts_more, seats_kept, batch_smaller}
 use Rattle.pool_fabric.proofs.fabric.Fabric.post_first_round.Goals as goal
 
 pub loop-batch-init : goal.loop-batch-init
 loop-batch-init g c =
-    let ss = map (seat_of g.S.Sender.inbox g.S.Sender.number g.S.Sender.sent g.S.Sender.resting) c.args.seats.now in
-    record { same = refl; seats = c.requires.seats; posts = posts_none c.args.desk.now.cached ss }
-
-pub returns-in-Err-clause-posts : goal.returns-in-Err-clause-posts
-returns-in-Err-clause-posts g c =
-    let i = c.loop-batch.invariant in
     let as_seat = seat_of g.S.Sender.inbox g.S.Sender.number g.S.Sender.sent g.S.Sender.resting in
-    let b = c.in-Some.batch in
-    let old = c.loop-batch.desk.cached in
-    let new = c.next_of_first_round.new.self.cached in
-    let last = c.refused.new.self.cached in
-    let back : IsPermutation (new ++ b.items) last =
-    subst (λ (x : BatchState). IsPermutation (new ++ x.items) last) c.in-Err.ensures.0 c.refused.ensures.items in
-    let turned = IsPermutation-trans old (b.items ++ new) (new ++ b.items) c.in-Some.ensures.value.taken.together (IsPermutation-append_comm b.items new) in
-    let all = posts_end c.args.desk.now.cached old last (map as_seat c.args.seats.now) (map as_seat c.loop-batch.seats) i.posts
-    (IsPermutation-trans old (new ++ b.items) last turned back) in
-    subst (λ l. Posts c.args.desk.now.cached (map as_seat c.args.seats.now) last l) (sym c.in-Err.ensures.1) all
+    let ss = map as_seat c.args.seats.now in
+    let d = c.args.desk.now in
+    let e = c.new-refused.ensures in
+    record {
+      same = refl;
+      refused = λ i. record {
+        number = (ap (λ (r : RefusedState). r.number) e ∙ c.number.ensures.value) i;
+        digits = (ap (λ (r : RefusedState). r.digits) e ∙ c.digits.ensures) i;
+        items = c.new-refused.result.items;
+      };
+      seats = c.requires.seats;
+      posts = subst (λ (l : List Buffer). Posts d.digits d.number d.cached ss d.cached l ss) (sym (ap (λ (r : RefusedState). r.items) e)) (posts_none d.digits d.number d.cached ss);
+    }
 
 pub loop-batch-smaller : goal.loop-batch-smaller
 loop-batch-smaller g c =
@@ -39,12 +38,21 @@ loop-batch-preserved g c =
     let i = c.loop-batch.invariant in
     let as_seat = seat_of g.S.Sender.inbox g.S.Sender.number g.S.Sender.sent g.S.Sender.resting in
     let b = c.in-Some.batch in
-    let new = c.next_of_first_round.new.self.cached in
-    let e = c.in_default-post_one.ensures in
+    let d = c.args.desk.now in
+    let new = c.next_of_first_round.new.self in
+    let goes = c.post_or_keep.ensures.goes in
     let ss = map as_seat c.loop-batch.seats in
+    let after = map as_seat c.post_or_keep.new.seats in
+    let x = c.loop-batch.refused.items in
+    let y = c.post_or_keep.new.refused.items in
+    let number : c.loop-batch.desk.number ≡ d.number = ap (λ (d : DeskState). d.number) i.same in
+    let digits : c.loop-batch.desk.digits ≡ d.digits = ap (λ (d : DeskState). d.digits) i.same in
+    let gives : GivesBucket d.digits d.number c.loop-batch.desk.cached b new.cached =
+    subst (λ (s : Scheme). GivesBucket s d.number c.loop-batch.desk.cached b new.cached) digits
+    (subst (λ a. GivesBucket c.loop-batch.desk.digits a c.loop-batch.desk.cached b new.cached) number c.in-Some.ensures.value) in
     record {
-      same = c.in-Some.ensures.same ∙ ap (λ (d : DeskState). record d { cached = new }) i.same;
-      seats = subst (λ l. AreSeatsBy g.J.Naming.names c.args.desk.now.number l) (sym e.1) (seats_sent _ _ b.address b ss i.seats);
-      posts = posts_more c.args.desk.now.cached c.loop-batch.desk.cached new (map as_seat c.args.seats.now) ss _ b i.posts c.in-Some.ensures.value.taken.together
-          (subst (λ n. b.address < n) (sym (length-mapped as_seat c.loop-batch.seats)) e.0) e.1;
+      same = c.in-Some.ensures.same ∙ ap (λ (d : DeskState). record d { cached = new.cached }) i.same;
+      refused = c.post_or_keep.ensures.same ∙ ap (λ (r : RefusedState). record r { items = y }) i.refused;
+      seats = seats_kept g.J.Naming.names d.number b ss after x y i.seats goes;
+      posts = posts_more d.digits d.number d.cached c.loop-batch.desk.cached new.cached x y (map as_seat c.args.seats.now) ss after b i.posts gives goes;
     }

@@ -1,43 +1,30 @@
-use Rattle.std.proofs.Common.{◌≡◌, ◌<◌, ◌++◌, map, length, refl, sym, ap, ◌∙◌, arith, subst, IsPermutation}
-use Rattle.std.proofs.lemmas.List.{nil_from_length}
-use Rattle.std.proofs.lemmas.List.Sorted.{IsPermutation-trans, IsPermutation-append_comm, length_permutation}
-use Rattle.digit_route.specs.States.{BatchState}
+use Rattle.std.proofs.Common.{◌≡◌, ◌∷◌, ◌++◌, List, map, refl, sym, ap, ◌∙◌, arith, subst}
+use Rattle.slot_chain.specs.Buffer.{Buffer}
+use Rattle.digit_route.specs.Digits.{Scheme}
+use Rattle.digit_route.specs.Route.{GivesBucket}
+use Rattle.digit_route.specs.States.{RefusedState}
 use Rattle.pool_desk.specs.Desks.{DeskPostingState}
-use Rattle.pool_fabric.specs.Seats.{seat_of, AreSeatsBy}
+use Rattle.pool_fabric.specs.Seats.{seat_of}
 use Rattle.pool_fabric.specs.Posts.{Posts}
-use Rattle.pool_fabric.proofs.Posting.{length-mapped, posts_none, posts_more, posts_end, seats_sent, batch_smaller}
-use Rattle.pool_fabric.proofs.fabric.Fabric.post_until_refused.Goals as goal
+use Rattle.pool_fabric.proofs.Posting.{posts_none, posts_more, seats_kept, batch_smaller}
+use Rattle.pool_fabric.proofs.fabric.Fabric.post_rounds.Goals as goal
 
 pub loop-batch-init : goal.loop-batch-init
 loop-batch-init g c =
-    let e = c.posting-posting.ensures in
-    let d = c.args.desk in
-    let ss = map (seat_of g.S.Sender.inbox g.S.Sender.number g.S.Sender.sent g.S.Sender.resting) c.args.seats.now in
-    record {
-      same = subst (λ (p : DeskPostingState).
-          p ≡ record {
-            worker = d.worker;
-            home = d.home;
-            drawn = d.drawn;
-            posting = record { number = d.number; digits = d.digits; limit = d.limit; round = p.posting.round; moves = p.posting.moves; items = p.posting.items };
-          }) (sym e) refl;
-      seats = c.requires.seats;
-      posts = subst (λ (p : DeskPostingState). Posts d.cached ss p.posting.items ss) (sym e) (posts_none d.cached ss);
-    }
-
-pub returns-in-Err-clause-posts : goal.returns-in-Err-clause-posts
-returns-in-Err-clause-posts g c =
-    let i = c.loop-batch.invariant in
     let as_seat = seat_of g.S.Sender.inbox g.S.Sender.number g.S.Sender.sent g.S.Sender.resting in
-    let b = c.in-Some.batch in
-    let old = c.loop-batch.posting.posting.items in
-    let new = c.next_batch.new.self.posting.items in
-    let back : IsPermutation (new ++ b.items) c.refused.result.cached =
-    subst (λ (x : BatchState). IsPermutation (new ++ x.items) c.refused.result.cached) c.in-Err.ensures.0 c.refused.ensures.items in
-    let turned = IsPermutation-trans old (b.items ++ new) (new ++ b.items) c.in-Some.ensures.value.taken.together (IsPermutation-append_comm b.items new) in
-    let all = posts_end c.args.desk.cached old c.refused.result.cached (map as_seat c.args.seats.now) (map as_seat c.loop-batch.seats) i.posts
-    (IsPermutation-trans old (new ++ b.items) c.refused.result.cached turned back) in
-    subst (λ l. Posts c.args.desk.cached (map as_seat c.args.seats.now) c.refused.result.cached l) (sym c.in-Err.ensures.1) all
+    let ss = map as_seat c.args.seats.now in
+    let d = c.args.posting.now.posting in
+    let e = c.new-refused.ensures in
+    record {
+      same = refl;
+      refused = λ i. record {
+        number = (ap (λ (r : RefusedState). r.number) e ∙ c.number.ensures) i;
+        digits = (ap (λ (r : RefusedState). r.digits) e ∙ c.digits.ensures) i;
+        items = c.new-refused.result.items;
+      };
+      seats = c.requires.seats;
+      posts = subst (λ (l : List Buffer). Posts d.digits d.number d.items ss d.items l ss) (sym (ap (λ (r : RefusedState). r.items) e)) (posts_none d.digits d.number d.items ss);
+    }
 
 pub loop-batch-smaller : goal.loop-batch-smaller
 loop-batch-smaller g c =
@@ -51,31 +38,22 @@ loop-batch-preserved g c =
     let i = c.loop-batch.invariant in
     let as_seat = seat_of g.S.Sender.inbox g.S.Sender.number g.S.Sender.sent g.S.Sender.resting in
     let b = c.in-Some.batch in
+    let d = c.args.posting.now.posting in
     let new = c.next_batch.new.self.posting in
-    let e = c.in_default-post_one.ensures in
+    let goes = c.post_or_keep.ensures.goes in
     let ss = map as_seat c.loop-batch.seats in
+    let after = map as_seat c.post_or_keep.new.seats in
+    let x = c.loop-batch.refused.items in
+    let y = c.post_or_keep.new.refused.items in
+    let number : c.loop-batch.posting.posting.number ≡ d.number = ap (λ (p : DeskPostingState). p.posting.number) i.same in
+    let digits : c.loop-batch.posting.posting.digits ≡ d.digits = ap (λ (p : DeskPostingState). p.posting.digits) i.same in
+    let gives : GivesBucket d.digits d.number c.loop-batch.posting.posting.items b new.items =
+    subst (λ (s : Scheme). GivesBucket s d.number c.loop-batch.posting.posting.items b new.items) digits
+    (subst (λ a. GivesBucket c.loop-batch.posting.posting.digits a c.loop-batch.posting.posting.items b new.items) number c.in-Some.ensures.value) in
     record {
       same = c.in-Some.ensures.same
-          ∙ ap (λ (p : DeskPostingState). record {
-            worker = p.worker;
-            home = p.home;
-            drawn = p.drawn;
-            posting = record { number = p.posting.number; digits = p.posting.digits; limit = p.posting.limit; round = new.round; moves = new.moves; items = new.items };
-          }) i.same;
-      seats = subst (λ l. AreSeatsBy g.J.Naming.names c.args.desk.number l) (sym e.1) (seats_sent _ _ b.address b ss i.seats);
-      posts = posts_more c.args.desk.cached c.loop-batch.posting.posting.items new.items (map as_seat c.args.seats.now) ss _ b i.posts c.in-Some.ensures.value.taken.together
-          (subst (λ n. b.address < n) (sym (length-mapped as_seat c.loop-batch.seats)) e.0) e.1;
+          ∙ ap (λ (p : DeskPostingState). record p { posting = record p.posting { round = new.round; moves = new.moves; items = new.items } }) i.same;
+      refused = c.post_or_keep.ensures.same ∙ ap (λ (r : RefusedState). record r { items = y }) i.refused;
+      seats = seats_kept g.J.Naming.names d.number b ss after x y i.seats goes;
+      posts = posts_more d.digits d.number d.items c.loop-batch.posting.posting.items new.items x y (map as_seat c.args.seats.now) ss after b i.posts gives goes;
     }
-
-pub returns-clause-posts : goal.returns-clause-posts
-returns-clause-posts g c =
-    let i = c.loop-batch.invariant in
-    let as_seat = seat_of g.S.Sender.inbox g.S.Sender.number g.S.Sender.sent g.S.Sender.resting in
-    let v = c.in_default.ensures.value in
-    posts_end c.args.desk.cached c.loop-batch.posting.posting.items c.end.result.cached (map as_seat c.args.seats.now) (map as_seat c.loop-batch.seats) i.posts
-    (subst (λ l. IsPermutation l c.end.result.cached) (v.1 ∙ sym v.0) c.end.ensures.items)
-
-pub returns-clause-all : goal.returns-clause-all
-returns-clause-all g c =
-    let v = c.in_default.ensures.value in
-    nil_from_length c.end.result.cached (length_permutation _ c.end.result.cached c.end.ensures.items ∙ ap length v.1)

@@ -1,4 +1,4 @@
-use Rattle.std.proofs.Common.{length, map, ap, ◌∙◌, subst}
+use Rattle.std.proofs.Common.{[], length, map, ap, ◌∙◌, subst}
 use Rattle.pool_fabric.specs.Seats.{seat_of}
 use Rattle.pool_fabric.specs.Posts.{Posts}
 use Rattle.pool_fabric.proofs.Posting.{written}
@@ -14,4 +14,4 @@ invariant_of-self g c =
     let new = c.post_in_place.new.seats in
     let back = written new c.self.inside.seats.items c.self.inside.seats.len (c.post_in_place.auto.seats ∙ ap length slice) c.self.inside.seats.ok.0 in
     posts_written _ _ desk (map as_seat new) _ (ap (map as_seat) back) c.self.invariant e.same e.seats
-    (subst (λ l. Posts c.self.inside.desk.cached (map as_seat l) desk.cached (map as_seat new)) slice e.posts)
+    (subst (λ l. Posts c.self.inside.desk.digits c.self.inside.desk.number c.self.inside.desk.cached (map as_seat l) [] desk.cached (map as_seat new)) slice e.posts)
