@@ -9,7 +9,7 @@ ghost use Rattle.event_floor.specs.headline.Bytes.{Holds, HoldsSome, KeepsBytes,
 ghost use Rattle.event_floor.specs.headline.Headline.{Applies, Headline, Shows};
 ghost use Rattle.event_floor.specs.headline.EndsKnown.{EndsKnown};
 ghost use Rattle.event_floor.specs.headline.Listing.{listing_of};
-ghost use Rattle.event_floor.specs.headline.Memory.{MayLackMemory};
+ghost use Rattle.event_floor.specs.headline.Memory.{LacksOnlyWhereItMay, MayLackMemory};
 ghost use Rattle.event_floor.specs.headline.Names.{IsNamed};
 ghost use Rattle.pool_machine.specs.declared.refusal.Refusal.TheVariants.{NoMemory as RefusedForMemory};
 ghost use Rattle.pool_machine.specs.Listing.{Shown};
@@ -142,6 +142,7 @@ impl<'r> Floor<'r> {
     ) -> Result<Vec<Result<Reply, Refusal>>, NoMemory>
         ensures shows { Shows self.old }
         ensures headline { IfOk result (λ answers. Headline self.old requests.now answers.items self.new) }
+        ensures memory { IfOk result (λ answers. LacksOnlyWhereItMay self.old requests.now answers.items self.new) }
         ensures named { IsNamed self.new }
         ensures bytes { KeepsBytes self.old self.new }
         ensures unchanged { OnErr result (self.new ≡ self.old) }
