@@ -96,6 +96,13 @@ impl<'r> Chunks<'r> {
         end_parts(undrawn, endings);
     }
 
+    /// How many there are, drawn or not.
+    pub(crate) fn count(&self) -> usize
+        ensures { result ≡ length self.now.parts }
+    {
+        self.drawn.len() + self.undrawn.len()
+    }
+
     /// How many are drawn.
     pub(crate) fn drawn_count(&self) -> u64
         ensures { result ≡ length self.now.drawn }

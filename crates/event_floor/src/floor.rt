@@ -1,6 +1,7 @@
 //! The floor.
 ghost use Rattle.std.specs.Prelude.{ℕ, List, [], ◌≡◌, ◌≤◌, ◌^◌, ◌++◌, length, map, flat_map, IfOk, IfErr, OnErr};
 ghost use Rattle.std.specs.Prelude.{Err};
+ghost use Rattle.region_cut.specs.Limits.{chunk_limit};
 ghost use Rattle.region_cut.specs.Parts.{AreNumbered, name_of, bytes_of};
 ghost use Rattle.digit_route.specs.Limits.{largest_limit};
 ghost use Rattle.event_floor.specs.Floors.{desk_count};
@@ -178,7 +179,8 @@ impl<'r> Floor<'r> {
     }
 
     // What its type keeps.
-    fn keeps(&self)
+    pub(crate) fn keeps(&self)
+        ensures few { self.now.chunks ≤ chunk_limit }
         ensures shows { Shows self.now }
         ensures named { IsNamed self.now }
         ensures held { HoldsSome self.now }

@@ -1,5 +1,6 @@
 //! What a floor tells of its lists.
-ghost use Rattle.std.specs.Prelude.{◌≡◌, ◌<◌, length, map, IfOk, IsPermutation};
+ghost use Rattle.std.specs.Prelude.{◌≡◌, ◌<◌, ◌≤◌, length, map, IfOk, IsPermutation};
+ghost use Rattle.region_cut.specs.Limits.{chunk_limit};
 ghost use Rattle.slot_chain.specs.Counts.{capped};
 ghost use Rattle.slot_chain.specs.Slots.{slot_of};
 ghost use Rattle.pool_desk.specs.Homes.{slot_at};
@@ -8,6 +9,9 @@ ghost use Rattle.event_floor.specs.Floors.{desk_count, desk_at};
 ghost use Rattle.event_floor.specs.Lent.{buffers_lent};
 ghost use Rattle.event_floor.specs.Inboxes.{buffers_in, inbox_at};
 ghost use Rattle.event_floor.specs.Desks.{home_of, cached_of};
+ghost use Rattle.event_floor.specs.headline.Bytes.{HoldsSome};
+ghost use Rattle.event_floor.specs.headline.Headline.{Shows};
+ghost use Rattle.event_floor.specs.headline.Names.{IsNamed};
 
 use crate::Floor;
 use crate::any_desk::{AnyDesk, cached, home};
@@ -79,6 +83,22 @@ impl<'r> Floor<'r> {
         ensures { result ≡ desk_count self.now }
     {
         self.lists.desks.len() as u32
+    }
+
+    /// How many chunks it has, drawn or not.
+    ///
+    /// Its contract also tells what the type keeps of every floor: its lists show some state that a run of the machine
+    /// leads to, each buffer has the name of its place, its bytes are those of some region, and it has no more chunks
+    /// than a region. So the laws (`laws`) hold of a floor that was lent.
+    pub fn chunk_count(&self) -> u32
+        ensures value { result ≡ self.now.chunks }
+        ensures few { self.now.chunks ≤ chunk_limit }
+        ensures shows { Shows self.now }
+        ensures named { IsNamed self.now }
+        ensures held { HoldsSome self.now }
+    {
+        self.keeps();
+        self.lists.chunks.count() as u32
     }
 
     /// How many chunks are drawn.
