@@ -13,6 +13,8 @@ mod handing;
 mod opening;
 #[cfg(test)]
 mod tests;
+#[cfg(test)]
+mod told;
 
 #[cfg(test)]
 pub use asking::ask;
@@ -22,3 +24,5 @@ pub use ending::{Answers, Life, leaves_as_it_was, lives};
 pub use handing::hand_out;
 #[cfg(test)]
 pub use opening::open;
+#[cfg(test)]
+pub use told::{counted, on_loan};
