@@ -1,5 +1,5 @@
 -- The lists of a floor have each slot of its drawn chunks once.
-use Rattle.std.proofs.Common.{◌≡◌, ℕ, zero, suc, ◌+◌, ◌<◌, ◌≤◌, true, false, cond, List, [], ◌∷◌, ◌++◌, Option, Some, None, option_map, flat_map, Ok, Err, IfErr, IsPermutation, refl, sym, ap, ◌∙◌, subst, arith, ⊎_elim, add-one, append_assoc, append-nil}
+use Rattle.std.proofs.Common.{◌≡◌, ℕ, zero, suc, ◌+◌, ◌<◌, ◌≤◌, true, false, cond, List, [], ◌∷◌, ◌++◌, Option, Some, None, option_map, flat_map, Ok, Err, IfOk, IfErr, IsPermutation, Bool, refl, sym, ap, ◌∙◌, subst, arith, ⊎_elim, add-one, append_assoc, append-nil}
 use Rattle.std.specs.List.{range_with_len}
 use Rattle.std.proofs.lemmas.Bool.{cases_lt, lt-ltb, le-ltb}
 use Rattle.std.proofs.lemmas.Grind.{flat_map-append}
@@ -13,9 +13,9 @@ use Rattle.pool_machine.specs.Slots.{one_if, has_index, is_drawn_slot}
 use Rattle.event_floor.specs.Floors.{FloorState}
 use Rattle.event_floor.specs.headline.ListsSlots.{FloorsListSlots, ListsSlots, slots_on, slots_with}
 use Rattle.slot_audit.specs.Audit.{class_noted, slots_for, IsDrawnSlot, FindsEachSlot, IsFault}
-use Rattle.trace_audit.specs.FloorSlots.{IsFaultOn, ShowsPool, TellsDrawn}
-use Rattle.trace_audit.specs.Replay.{FindsNothing}
+use Rattle.trace_audit.specs.FloorSlots.{HasEachOnce, IsFaultOn, IsVerdictOn, ShowsPool, TellsDrawn}
 use Rattle.trace_audit.specs.Report.{Verdict}
+use Rattle.trace_audit.specs.Steps.{IsFound, IsTold}
 use Rattle.slot_audit.specs.declared.fault.Fault.{Fault}
 use Rattle.slot_audit.specs.declared.fault.Fault.TheVariants.{Stranger, Doubled, Missing, NoMemory}
 
@@ -93,10 +93,17 @@ module _ (sound : ReachedIsSound) (law : FloorsListSlots) (v : FloorState) (draw
   no_fault found (Missing s) perm f = let e = (exactly found perm).all s f.2.0.0 in let l = f.2.0.1 in absurd (omega (arith, e, l))
   no_fault found NoMemory perm f = refl
 
+-- an audit answers what is so of the lists
+pub is_verdict : (v : FloorState) (r : Verdict) → IfOk r (λ _. HasEachOnce v) → IfErr r (λ fault. IsFaultOn v fault) → IsVerdictOn v r
+is_verdict v (Ok u) h f = h
+is_verdict v (Err fault) h f = f
+
 -- so an audit of a floor finds nothing wrong
-pub finds_nothing : ReachedIsSound → FloorsListSlots → (v : FloorState) (r : Verdict) → ShowsPool v → IfErr r (λ fault. IsFaultOn v fault) → FindsNothing (Some r)
-finds_nothing sound law v (Ok u) p f = tt
-finds_nothing sound law v (Err fault) p (drawn, found, tells, perm, f) = no_fault sound law v drawn p tells found fault perm f
+pub finds_nothing : ReachedIsSound → FloorsListSlots → (audits : Bool) (v : FloorState) (audit : Option Verdict) → ShowsPool v → IsFound audits v audit → IsTold audits audit
+finds_nothing sound law true v None p f = f
+finds_nothing sound law true v (Some (Ok u)) p f = tt
+finds_nothing sound law true v (Some (Err fault)) p (drawn, found, tells, perm, f) = no_fault sound law v drawn p tells found fault perm f
+finds_nothing sound law false v audit p none = none
 
 -- what holds of the slots in some order holds of them in order
 pub each_once : (v : FloorState) (drawn : List (Option ℕ)) (found : List Slot) → IsPermutation (slots_on v) found → FindsEachSlot drawn found → FindsEachSlot drawn (slots_on v)

@@ -1,5 +1,5 @@
 -- What an audit of a floor goes over: the slots of all its lists, and its drawn chunks.
-use Rattle.std.specs.Prelude.{ℕ, ◌≡◌, ◌<◌, ◌≤◌, List, Option, None, IsPermutation}
+use Rattle.std.specs.Prelude.{ℕ, ◌≡◌, ◌<◌, ◌≤◌, List, Option, None, Ok, Err, IsPermutation}
 use Rattle.region_cut.specs.Limits.{chunk_limit}
 use Rattle.region_cut.specs.declared.slot.Slot.{Slot}
 use Rattle.pool_machine.specs.State.{State}
@@ -10,6 +10,7 @@ use Rattle.event_floor.specs.headline.Listing.{listing_of}
 use Rattle.event_floor.specs.headline.ListsSlots.{slots_on}
 use Rattle.slot_audit.specs.Audit.{FindsEachSlot, IsFault, class_noted}
 use Rattle.slot_audit.specs.declared.fault.Fault.{Fault}
+use Rattle.trace_audit.specs.Report.{Verdict}
 
 -- of each chunk of a region, the class that the floor drew it for
 pub record TellsDrawn (v : FloorState) (drawn : List (Option ℕ)) : Type 0 where
@@ -25,6 +26,11 @@ HasEachOnce v = (drawn : List (Option ℕ)) × TellsDrawn v drawn × FindsEachSl
 abbrev pub IsFaultOn : FloorState → Fault → Type 0
 IsFaultOn v fault = (drawn : List (Option ℕ)) × (found : List Slot) × TellsDrawn v drawn
     × IsPermutation (slots_on v) found × IsFault drawn found fault
+
+-- the verdict is so of the floor's lists
+abbrev pub IsVerdictOn : FloorState → Verdict → Type 0
+IsVerdictOn v (Ok u) = HasEachOnce v
+IsVerdictOn v (Err fault) = IsFaultOn v fault
 
 -- the floor shows a state of a pool that has no more chunks than a region
 pub record ShowsPool (v : FloorState) : Type 0 where

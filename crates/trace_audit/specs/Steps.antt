@@ -15,6 +15,7 @@ use Rattle.pool_machine.specs.Listing.{Shown}
 use Rattle.region_cut.specs.declared.slot.Slot.{Slot}
 use Rattle.trace_audit.specs.Limits.{held_limit, request_limit}
 use Rattle.trace_audit.specs.FloorCounts.{Tally, tally_lines, told}
+use Rattle.trace_audit.specs.FloorSlots.{IsVerdictOn}
 use Rattle.trace_audit.specs.Report.{answer_line, audit_line, bad_line, Verdict}
 use Rattle.trace_audit.specs.Trace.{BeginsWithRequest}
 use Rattle.trace_audit.specs.Replay.{FindsNothing, IsAudited, IsPartial, Replays, ReplaysAudited}
@@ -116,12 +117,18 @@ abbrev pub audit_lines : Option Verdict → List ℕ
 audit_lines None = []
 audit_lines (Some verdict) = audit_line verdict
 
--- the line of the audit was written where it is asked for, or a beginning of it
-abbrev pub TellsAudit : {E : Type 0} → Bool → Option (List ℕ) → Option (List ℕ) → Bool → Result (Option Verdict) E
-    → Type 0
-TellsAudit audits old new failed (Ok audit) = IsTold audits audit × Appends old new (audit_lines audit)
+-- what an audit of this floor answers, where one is asked for: what is so of the floor's lists
+abbrev pub IsFound : Bool → FloorState → Option Verdict → Type 0
+IsFound true floor (Some verdict) = IsVerdictOn floor verdict
+IsFound true floor None = ⊥
+IsFound false floor audit = audit ≡ None
+
+-- the line of the audit of this floor was written where it is asked for, or a beginning of it
+abbrev pub TellsAudit : {E : Type 0} → Bool → FloorState → Option (List ℕ) → Option (List ℕ) → Bool
+    → Result (Option Verdict) E → Type 0
+TellsAudit audits floor old new failed (Ok audit) = IsFound audits floor audit × Appends old new (audit_lines audit)
     × (failed ≡ false)
-TellsAudit audits old new failed (Err e) = ((audit : Option Verdict) × IsTold audits audit
+TellsAudit audits floor old new failed (Err e) = ((audit : Option Verdict) × IsFound audits floor audit
     × Begins old new (audit_lines audit)) × (failed ≡ true)
 
 -- what stands behind the answers was written, or a beginning of it

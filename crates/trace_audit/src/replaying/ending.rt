@@ -67,22 +67,21 @@ fn close_behind<W: Sink>(floor: &Floor<'_>, writer: &mut W, end: End) -> Result<
     }
 }
 
-/// Audits the floor where that is asked for, and writes the line of the answer.
+/// Audits the floor where that is asked for, and writes the line of the answer. Nothing is known of the floor here, so
+/// the answer is one that its lists gave.
 fn tell_audit<W: Sink>(
     alloc: Global,
     floor: &Floor<'_>,
     writer: &mut W,
     audits: bool,
 ) -> Result<Option<Result<(), Fault>>, Failed>
-    requires down { W.has_failed writer.old ≡ false }
-    requires shows { ShowsPool floor.now }
-    ensures { TellsAudit audits (W.contents writer.old) (W.contents writer.new) (W.has_failed writer.new) result }
+    requires { W.has_failed writer.old ≡ false }
+    ensures { TellsAudit audits floor.now (W.contents writer.old) (W.contents writer.new) (W.has_failed writer.new)
+        result }
 {
     if !audits {
         return Ok(None);
     }
-    floors_list_slots();
-    sound_states();
     let answer = audit_floor(alloc, floor);
     write_audit(answer, writer)?;
     Ok(Some(answer))
@@ -101,6 +100,8 @@ pub(crate) fn finish<W: Sink>(
     ensures finished { Finishes audits floor.now end (W.contents writer.old) (W.contents writer.new) result }
     ensures flags { Failures false (W.has_failed writer.new) result }
 {
+    floors_list_slots();
+    sound_states();
     match close_behind(floor, writer, end) {
         Ok(()) => match tell_audit(alloc, floor, writer, audits) {
             Ok(audit) => Ok((end, audit)),

@@ -134,8 +134,10 @@ fn play<R: Source, W: Sink>(
 ///
 /// The floor's limit is 4,096 bytes, its region has 4,096 bytes for each chunk of the header. One reply is written for
 /// each request line as soon as it is read, so memory does not grow with the trace. Reading stops at the first bad
-/// line; nothing is written after a failed write. Where the floor or its region can't be made for want of memory the
-/// answer is `NoRoom`.
+/// line. Where the floor or its region can't be made for want of memory the answer is `NoRoom`.
+///
+/// After a failed write nothing more is written. No clause says so, for a sink does not tell how many writes were made:
+/// the tests `a_write_fails` and `a_write_takes_nothing` of `trace_uses` count them.
 pub fn replay<R: Source, W: Sink>(
     alloc: Global,
     reader: &mut R,
