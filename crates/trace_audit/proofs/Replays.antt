@@ -173,7 +173,7 @@ module _ (h : Header) (fits : IsHeader h) (start : FloorState) (opens : Opens h 
   -- the end of the trace was found, and what stands behind the answers was written, or a beginning of it
   pub finished : MachineLaws → (audits : Bool) (left0 left out0 out out' : Option (List ℕ)) (held0 : List ℕ) (now : FloorState) (end : End) (r : Result (End × Option Verdict) ReplayError)
       → Driven left0 left held0 start now out0 out (Ok end) → Finishes audits now end out out' r → ReplayedBehind audits (header_line h ++ held0) left0 left out0 out' r
-  finished laws audits left0 left out0 out out' held0 now end (Ok x) (n, rest, p, ends) (is, t, wrote) first read =
+  finished laws audits left0 left out0 out out' held0 now end (Ok x) (n, rest, p, ends) (is, found, t, wrote) first read =
       came_to audits first left out0 out' x
       (subst (λ (e : End). IsAsked audits e x.1) (sym is) (asked audits n rest (IsAtEnd left) end x.1 ends t))
       (subst (λ (e : End). HoldsOfAll first left (λ bytes. ReportsTrace bytes (with_audit x.1 (Appends out0 out')) e)) (sym is)

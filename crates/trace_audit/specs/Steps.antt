@@ -134,7 +134,7 @@ TellsAudit audits floor old new failed (Err e) = ((audit : Option Verdict) × Is
 -- what stands behind the answers was written, or a beginning of it
 abbrev pub Finishes : Bool → FloorState → End → (old new : Option (List ℕ))
     → Result (End × Option Verdict) ReplayError → Type 0
-Finishes audits floor end old new (Ok r) = (r.0 ≡ end) × IsTold audits r.1
+Finishes audits floor end old new (Ok r) = (r.0 ≡ end) × IsFound audits floor r.1 × IsTold audits r.1
     × Appends old new (tail_text (told floor) end ++ audit_lines r.1)
 Finishes audits floor end old new (Err Read) = ⊥
 Finishes audits floor end old new (Err Write) = (audit : Option Verdict) × IsTold audits audit

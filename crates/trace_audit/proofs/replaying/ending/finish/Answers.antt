@@ -8,6 +8,7 @@ use Rattle.trace_audit.proofs.replaying.ending.finish.Goals as goal
 pub returns-in-Ok-tell_audit-clause-finished : goal.returns-in-Ok-tell_audit-clause-finished
 returns-in-Ok-tell_audit-clause-finished g c = (
   refl,
+  c.in-Ok-tell_audit.ensures.0,
   finds_nothing c.sound_states.ensures.reached c.floors_list_slots.ensures c.args.audits c.args.floor.now _ c.requires.shows c.in-Ok-tell_audit.ensures.0,
   Appends-trans _ _ _ _ _ c.in-Ok.ensures.0 c.in-Ok-tell_audit.ensures.1,
 )
