@@ -4,4 +4,9 @@
 #![tactic(auto)]
 
 #[cfg(test)]
+mod echo;
+#[cfg(test)]
 mod tests;
+
+#[cfg(test)]
+pub use echo::Echo;

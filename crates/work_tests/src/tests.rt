@@ -1,7 +1,12 @@
 //! What workloads and tasks are run over, and what is told of them at the end.
 
+mod due;
 mod handed;
+mod looks;
+mod marks;
 mod meeting;
+mod rows;
+mod sizes;
 mod tasks;
 mod told;
 mod workloads;
@@ -14,6 +19,7 @@ use pool_fabric::Opening;
 use pool_jobs::{
     Ended, Finished, Gate, NoGate, Plan, Tally, Task, Workload, run, run_linked, work, work_linked,
 };
+use rand_core::{Rng, SeedableRng};
 use rand_pcg::Pcg32;
 use region_cut::{CHUNK, cut};
 use std::sync::Wait;
@@ -55,7 +61,7 @@ fn opening_over<'r, T: Receiver, S: Sender, M: NewMail<T, S>, R: AllocGlobal>(
 }
 
 // The workload over this ground, at its end.
-fn ended_over<'r, G: Gate + Sync, R: AllocGlobal + Threads + Wait + Sync>(
+fn ended_over<'r, N, G, R>(
     rt: &R,
     region: &'r mut Vec<u8>,
     gate: &G,
@@ -63,17 +69,21 @@ fn ended_over<'r, G: Gate + Sync, R: AllocGlobal + Threads + Wait + Sync>(
     workload: Workload,
     plan: &Plan,
 ) -> Result<Ended<'r>, Fail>
+where
+    N: Rng + SeedableRng + Send + Drop,
+    G: Gate + Sync,
+    R: AllocGlobal + Threads + Wait + Sync,
     requires { (1 ≤ ground.desks) × (ground.desks ≤ 64) × (ground.limit ≤ 1048576) }
 {
     let alloc = rt.alloc();
     match ground.inboxes {
         Inboxes::Queues => {
             let opening = opening_over(rt, region, ground)?;
-            Ok(work::<G, Pcg32, R>(rt, alloc, opening, gate, workload, plan)?)
+            Ok(work::<G, N, R>(rt, alloc, opening, gate, workload, plan)?)
         }
         Inboxes::Links => {
             let opening = opening_over(rt, region, ground)?;
-            Ok(work_linked::<G, Pcg32, R>(rt, alloc, opening, gate, workload, plan)?)
+            Ok(work_linked::<G, N, R>(rt, alloc, opening, gate, workload, plan)?)
         }
     }
 }
@@ -89,7 +99,7 @@ fn tally_of<G: Gate + Sync, R: AllocGlobal + Threads + Wait + Sync>(
     requires { (1 ≤ ground.desks) × (ground.desks ≤ 64) × (ground.limit ≤ 1048576) × (ground.chunks ≤ 1024) }
 {
     let mut region = Vec::from_elem(rt.alloc(), 0u8, ground.chunks * CHUNK)?;
-    Ok(ended_over(rt, &mut region, gate, ground, workload, plan)?.tally)
+    Ok(ended_over::<Pcg32, G, R>(rt, &mut region, gate, ground, workload, plan)?.tally)
 }
 
 // What tasks answered and counted.

@@ -2,6 +2,7 @@
 
 use super::{BOTH, Ground, Inboxes, ended_over};
 use pool_jobs::{Gate, Plan, Workload};
+use rand_pcg::Pcg32;
 use region_cut::CHUNK;
 use std::sync::Wait;
 use std::sync::atomic::{AtomicBool, Ordering};
@@ -60,7 +61,14 @@ fn batches_left<R: AllocGlobal + Threads + Wait + Sync>(
         is_answered: AtomicBool::new(false),
     };
     let mut region = Vec::from_elem(rt.alloc(), 0u8, ground.chunks * CHUNK)?;
-    let ended = ended_over(rt, &mut region, &gate, ground, workload, &plan)?;
+    let ended = ended_over::<Pcg32, BothAtWork, R>(
+        rt,
+        &mut region,
+        &gate,
+        ground,
+        workload,
+        &plan,
+    )?;
     Ok(ended.found.batches.len())
 }
 
