@@ -59,6 +59,8 @@ where
     Ok(Seen {
         back,
         posts: watch.posts(),
+        calls: watch.calls(),
+        calls_held: watch.calls_held(),
         gave_up: watch.gave_up(),
     })
 }
@@ -89,12 +91,16 @@ where
     let Seen {
         back,
         posts,
+        calls,
+        calls_held,
         gave_up,
     } = seen::<N, J, R>(rt, alloc, &fabric, hold, workload, plan, workers)?;
     let ended = settle(rt, alloc, fabric, back.held, back.counts)?;
     Ok(Watched {
         ended,
         posts,
+        calls,
+        calls_held,
         gave_up,
     })
 }

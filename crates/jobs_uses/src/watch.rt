@@ -19,11 +19,14 @@ pub struct Hold {
 }
 
 /// A gate that holds worker 0 before one of its calls until so many posts were counted, at all inboxes
-/// of a fabric. It gives up after ten million looks, and notes that.
+/// of a fabric. It gives up after ten million looks, and notes that. It counts the calls of worker 0
+/// that were answered.
 #[derive(Drop)]
 pub struct Watch<'a> {
     hold: Hold,
     counts: Vec<&'a AtomicU64>,
+    calls: AtomicU64,
+    calls_held: AtomicU64,
     gave_up: AtomicBool,
 }
 
@@ -44,6 +47,8 @@ impl<'a> Watch<'a> {
         Ok(Watch {
             hold,
             counts,
+            calls: AtomicU64::new(0),
+            calls_held: AtomicU64::new(0),
             gave_up: AtomicBool::new(false),
         })
     }
@@ -57,6 +62,16 @@ impl<'a> Watch<'a> {
         posts
     }
 
+    /// How many calls of worker 0 were answered so far.
+    pub fn calls(&self) -> u64 {
+        self.calls.load(Ordering::SeqCst)
+    }
+
+    /// How many of them when it was held.
+    pub fn calls_held(&self) -> u64 {
+        self.calls_held.load(Ordering::SeqCst)
+    }
+
     /// Whether the posts never came.
     pub fn gave_up(&self) -> bool {
         self.gave_up.load(Ordering::SeqCst)
@@ -68,6 +83,7 @@ impl Gate for Watch<'_> {
         if worker != 0 || call != self.hold.call {
             return;
         }
+        self.calls_held.store(self.calls(), Ordering::SeqCst);
         for _ in 0..LOOKS {
             if self.posts() >= self.hold.posts {
                 return;
@@ -77,5 +93,9 @@ impl Gate for Watch<'_> {
         self.gave_up.store(true, Ordering::SeqCst);
     }
 
-    fn after(&self, _worker: u32, _call: u64) {}
+    fn after(&self, worker: u32, _call: u64) {
+        if worker == 0 {
+            let _calls = self.calls.fetch_add(1, Ordering::SeqCst);
+        }
+    }
 }

@@ -11,6 +11,10 @@ pub struct Watched<'r> {
     pub ended: Ended<'r>,
     /// How many posts were answered `Ok`, at all inboxes.
     pub posts: u64,
+    /// How many calls of worker 0 were answered.
+    pub calls: u64,
+    /// How many of them when it was held.
+    pub calls_held: u64,
     /// Whether a worker was let go before its posts were counted.
     pub gave_up: bool,
 }
@@ -20,5 +24,7 @@ pub struct Watched<'r> {
 pub struct Seen<'r, T: Receiver, S: Sender, J: Naming> {
     pub back: Back<'r, T, S, J>,
     pub posts: u64,
+    pub calls: u64,
+    pub calls_held: u64,
     pub gave_up: bool,
 }

@@ -22,7 +22,9 @@ const PLAN: Plan = Plan {
     drop_first: false,
 };
 
-// The producer waits before its ninth call until all eight slots are on their way home.
+// The producer waits before its ninth call until all eight slots are on their way home. Its allocator asks
+// the desk for a buffer once in each call, and claims its chunk in the first one: so the eight calls before
+// gave the eight slots.
 const HOLD: Hold = Hold { call: 9, posts: 8 };
 
 // A producer of 16 buffers has a chunk of eight slots, and its consumer posts each buffer that it
@@ -51,6 +53,8 @@ fn watched_over<'r, R: AllocGlobal + Threads + Wait + Sync>(
 struct Outcome {
     tally: Tally,
     posts: u64,
+    calls: u64,
+    calls_held: u64,
     gave_up: bool,
 }
 
@@ -63,6 +67,8 @@ fn outcome_of<R: AllocGlobal + Threads + Wait + Sync>(
     Ok(Outcome {
         tally: watched.ended.tally,
         posts: watched.posts,
+        calls: watched.calls,
+        calls_held: watched.calls_held,
         gave_up: watched.gave_up,
     })
 }
@@ -79,6 +85,7 @@ fn eight_slots_serve_sixteen_buffers(rt: HostRuntime) -> Result<(), Fail> {
         let outcome = outcome_of(&rt, inner)?;
         assert!(rt; !outcome.gave_up);
         assert_eq!(rt; outcome.posts, 16);
+        assert!(rt; outcome.calls_held == 8 && outcome.calls == 16);
         assert_eq!(rt; outcome.tally.counts, wanted);
         assert!(rt; outcome.tally.audit.is_ok());
     }

@@ -24,7 +24,8 @@ fn batches_left<R: Abort + AllocGlobal + Wait>(rt: &R, frees: Frees) -> Result<u
 }
 
 // 16 batches of a buffer each are posted, and the next is refused. So 148 are cached when a post is
-// refused for the last time, and it is tried again at 185: ten more buffers wait for the end.
+// refused for the last time, and it is tried again at 185: ten more buffers wait for the end. Refuses an owner that
+// takes one batch where there are more: 15 others would be left.
 #[test]
 fn few_posts_are_tried_again(rt: HostRuntime) -> Result<(), Fail> {
     let frees = Frees {
