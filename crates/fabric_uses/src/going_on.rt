@@ -31,7 +31,7 @@ struct Post {
 
 // Two posts, and all stations.
 #[derive(Drop)]
-struct Tries<'r, T: Receiver, S: Sender, J: Naming> {
+struct TwoPosts<'r, T: Receiver, S: Sender, J: Naming> {
     first: Post,
     second: Post,
     held: Vec<HeldStation<'r, T, S, J>>,
@@ -98,14 +98,14 @@ where
 }
 
 // The inbox of this number refuses a batch of the first post.
-fn tries<'r, T, S, M, J, R>(
+fn post_both<'r, T, S, M, J, R>(
     rt: &R,
     alloc: Global,
     fabric: &Fabric<'r, RefusingOnce<M>, T, S, J>,
     poster: HeldStation<'r, T, S, J>,
     desks: usize,
     number: u16,
-) -> Result<Tries<'r, T, S, J>, AllocError>
+) -> Result<TwoPosts<'r, T, S, J>, AllocError>
 where
     T: Receiver,
     S: Sender,
@@ -121,7 +121,7 @@ where
     let first = post_once(rt, fabric, &mut poster, held.as_mut_slice(), number);
     let second = post_once(rt, fabric, &mut poster, held.as_mut_slice(), number);
     held.push(poster)?;
-    Ok(Tries {
+    Ok(TwoPosts {
         first,
         second,
         held,
@@ -150,14 +150,14 @@ where
     let Some(station) = fabric.station(rt) else {
         return Err(GatherError::NoMemory);
     };
-    let Ok(tries) = tries(rt, alloc, &fabric, station.adopt(0), desks, number) else {
+    let Ok(posts) = post_both(rt, alloc, &fabric, station.adopt(0), desks, number) else {
         return Err(GatherError::NoMemory);
     };
-    let Tries {
+    let TwoPosts {
         first,
         second,
         held,
-    } = tries;
+    } = posts;
     let found = gather(rt, alloc, fabric, held)?;
     Ok(Posts {
         refused: [first.refused, second.refused],
