@@ -93,8 +93,11 @@ HELP = {
     "replay --help": ["Usage: poolctl replay [OPTIONS]", "      --audit  Audit the pool at the end"],
 }
 
+# The stacks, in bytes, from which on `replay` and `work` do what they are to do. 64 KB and 96 KB are the aim.
+REPLAY_STACK, WORK_STACK, MOST_STACK = 128 << 10, 256 << 10, 512 << 10
+
 # Reads of standard input fail from the call FAIL_READ on, writes to standard output from FAIL_WRITE on, both with the
-# error FAIL_WITH. The file CALLED gets a letter for each such call.
+# error FAIL_WITH; with FAIL_ONCE that call alone fails. The file CALLED gets a letter for each such call.
 LIBRARY = r"""
 #define _GNU_SOURCE
 #include <dlfcn.h>
@@ -118,6 +121,7 @@ static int fails(long *count, const char *from, const char *letter) {
     close(file);
     *count += 1;
     if (!number(from) || *count < number(from)) return 0;
+    if (number("FAIL_ONCE") && *count > number(from)) return 0;
     errno = number("FAIL_WITH");
     return 1;
 }
@@ -151,15 +155,18 @@ def is_fresh():
     return PROGRAM.exists() and all(path.stat().st_mtime <= PROGRAM.stat().st_mtime for path in sources)
 
 
-def ran(words, given=b"", memory=None, more=None, **streams):
-    """The status, standard output and standard error of the program with these words, in an environment with more."""
+def ran(words, given=b"", memory=None, stack=None, more=None, **streams):
+    """The status, standard output and standard error of the program with these words, in an environment with more. Where
+    the stack is limited, there is no more than that in the environment, since it lies on the stack."""
 
     def limit():
         if memory:
             resource.setrlimit(resource.RLIMIT_AS, (memory, memory))
+        if stack:
+            resource.setrlimit(resource.RLIMIT_STACK, (stack, stack))
 
     how = {"stdin": subprocess.PIPE, "stdout": subprocess.PIPE, "stderr": subprocess.PIPE, **streams}
-    environment = {**os.environ, **(more or {})}
+    environment = {**({} if stack else os.environ), **(more or {})}
     started = subprocess.Popen([PROGRAM, *words], preexec_fn=limit, cwd="/", env=environment, **how)
     out, err = started.communicate(given if how["stdin"] == subprocess.PIPE else None, timeout=120)
     return started.returncode, out, err
@@ -267,23 +274,26 @@ def streams():
 
 
 def failing():
-    """Reads and writes that fail at a given call: which calls were made, the last of them the failed one."""
+    """Reads and writes that fail at a given call: which calls were made, the last of them the failed one, but for a write
+    that was interrupted, which is made again."""
     read, write = b"poolctl: read failed\n", b"poolctl: write failed\n"
     replies = REPORT[: REPORT.index(b"desk")]
     with tempfile.TemporaryDirectory() as folder:
         folder = pathlib.Path(folder)
         library, called = before_libc.compiled(LIBRARY, folder), folder / "called"
-        for name, words, fails, with_error, out, err, calls in [
-            ("the rest is written behind a failed read", ["replay"], {"READ": 2}, errno.EIO, replies, read, "rrw"),
-            ("the rest can't be written", ["replay"], {"READ": 2, "WRITE": 1}, errno.EIO, b"", write, "rrw"),
-            ("nothing follows a failed write", ["classes"], {"WRITE": 1}, errno.EPIPE, b"", write, "w"),
-            ("nothing follows a failed write of a report", ["replay"], {"WRITE": 1}, errno.ENOSPC, b"", write, "rrw"),
+        for status, name, words, fails, with_error, out, err, calls in [
+            (3, "the rest is written behind a failed read", ["replay"], {"READ": 2}, errno.EIO, replies, read, "rrw"),
+            (3, "the rest can't be written", ["replay"], {"READ": 2, "WRITE": 1}, errno.EIO, b"", write, "rrw"),
+            (3, "nothing follows a failed write", ["classes"], {"WRITE": 1}, errno.EPIPE, b"", write, "w"),
+            (3, "nothing follows a failed write of a report", ["replay"], {"WRITE": 1}, errno.ENOSPC, b"", write, "rrw"),
+            (0, "an interrupted write is tried again", ["classes"], {"WRITE": 1, "ONCE": 1}, errno.EINTR, CLASSES, b"", "ww"),
+            (3, "an interrupted read is an error", ["replay"], {"READ": 1, "ONCE": 1}, errno.EINTR, b"", read, "r"),
         ]:
             more = {f"FAIL_{kind}": str(call) for kind, call in fails.items()}
             more |= {"FAIL_WITH": str(with_error), "LD_PRELOAD": str(library), "CALLED": str(called)}
             called.write_text("")
-            row(f"3: {name}", ran(words, GOOD, more=more), 3, out, err)
-            tell(f"3: {name}: the calls", called.read_text() == calls, called.read_text())
+            row(f"{status}: {name}", ran(words, GOOD, more=more), status, out, err)
+            tell(f"{status}: {name}: the calls", called.read_text() == calls, called.read_text())
 
 
 def memory():
@@ -294,7 +304,7 @@ def memory():
     row("0: 64 chunks, audited", whole, 0, None, b"")
     no_audit = whole[1].replace(b"audit yes\n", b"audit no memory\n")
     wanted = {"no memory": 0, "no room": 0, "audit no memory": 0, "done": 0}
-    strange, limit, step = [], 1 << 20, 16 << 10
+    strange, limit, step = [], 1 << 20, 8 << 10
     while limit < 64 << 20 and wanted["done"] < 3:
         got = ran(["replay", "--audit"], trace, memory=limit)
         if got == (1, b"", b"poolctl: no memory\n"):
@@ -313,6 +323,17 @@ def memory():
     tell("no limit leads out of the table", not strange, strange[:3])
 
 
+def stacks():
+    """From some size of the stack on, the program does what it does in any other."""
+    ring = ["work", "ring", "--threads", "4", "--count", "200"]
+    for words, given, least in [(["replay", "--audit"], GOOD, REPLAY_STACK), (ring, b"", WORK_STACK)]:
+        whole = ran(words, given)
+        row(f"0: {words[0]}, to be run in small stacks", whole, 0, None, b"")
+        sizes = range(least, MOST_STACK + 1, 8 << 10)
+        strange = [(size, got) for size in sizes if (got := ran(words, given, stack=size)) != whole]
+        tell(f"0: {words[0]} in each stack from {least >> 10} KB on", not strange, strange[:3])
+
+
 def main():
     if not is_fresh():
         built = subprocess.run(["rt", "run", "--", "classes"], cwd=CRATE, capture_output=True, text=True)
@@ -326,6 +347,7 @@ def main():
     streams()
     failing()
     memory()
+    stacks()
     print(f"{len(failed)} rows of the table failed")
     sys.exit(1 if failed else 0)
 
