@@ -97,7 +97,7 @@ fn fill<H: Heap, R: Wait>(
 fn check<H: Heap, R: Wait>(rt: &R, heap: &mut H, channels: &Channels<H::Buffer>) -> u64 {
     let mut intact = 0u64;
     for packet in 0..PACKETS {
-        let Some(buffer) = channels.receive(rt) else {
+        let Some(buffer) = channels.receive(rt, heap) else {
             return intact;
         };
         if holds_only(buffer.bytes(), byte_of(packet)) {
@@ -112,7 +112,7 @@ fn check<H: Heap, R: Wait>(rt: &R, heap: &mut H, channels: &Channels<H::Buffer>)
 
 fn release<H: Heap, R: Wait>(rt: &R, heap: &mut H, channels: &Channels<H::Buffer>) -> u64 {
     for packet in 0..PACKETS {
-        let Some(buffer) = channels.receive(rt) else {
+        let Some(buffer) = channels.receive(rt, heap) else {
             return packet;
         };
         heap.free(rt, buffer);

@@ -1,3 +1,4 @@
 pub mod Adding
 pub mod Looking
+pub mod Largest
 pub mod Travels

@@ -21,9 +21,10 @@ pub record Keeps (names : Names) (old new : StationState) : Type 0 where
   pub lent : new.lent ≡ old.lent
   pub freed : new.freed ≡ old.freed
 
--- this buffer was lent out, and none was freed
+-- this buffer of the desk's own was lent out, and none was freed
 pub record LendsOut (names : Names) (old : StationState) (b : Buffer) (new : StationState) : Type 0 where
   pub desk : SameDesk names old new
+  pub owner : b.owner ≡ old.desk.number
   pub lent : new.lent ≡ old.lent ++ b ∷ []
   pub freed : new.freed ≡ old.freed
 

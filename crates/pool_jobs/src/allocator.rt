@@ -1,8 +1,10 @@
 //! The allocator that a worker holds.
-ghost use Rattle.std.specs.Prelude.{◌≡◌, ◌<◌, ◌≤◌, [], ◌∷◌, ◌++◌, IfSome, IfOk, MatchOption};
-ghost use Rattle.region_cut.specs.Classes.{size_of, classes_of, NoClassFor};
+ghost use Rattle.std.specs.Prelude.{◌≡◌, ◌<◌, ◌≤◌, ◌↔◌, [], ◌∷◌, ◌++◌, IsTrue, IfSome, IfOk, MatchOption};
+ghost use Rattle.region_cut.specs.Classes.{size_of, classes_of, largest_of, NoClassFor};
 ghost use Rattle.digit_route.specs.Profiles.{profile_of};
+ghost use Rattle.pool_fabric.specs.Limits.{most_taken};
 ghost use Rattle.pool_jobs.specs.Serving.{IsClassFor, Keeps, SameDesk, Serves};
+ghost use Rattle.pool_jobs.specs.declared.error.PoolError.TheVariants.{TooLarge};
 
 use crate::buffer::Buffer;
 use crate::error::PoolError;
@@ -95,12 +97,15 @@ impl<
         self.station.digits().profile().class_for(size)
     }
 
-    // Takes what came in batches, at most 64.
-    fn look<R: Wait>(&mut self, rt: &R)
-        ensures { Keeps J.names self.old self.new }
+    /// Takes what came home in batches, at most 64 of them, and says how many it took. What goes on to
+    /// another allocator is cached here, to be posted.
+    pub fn collect<R: Wait>(&mut self, rt: &R) -> u32
+        ensures keeps { Keeps J.names self.old self.new }
+        ensures most { result ≤ most_taken }
     {
-        let _taken = self.station.take(rt, self.fabric);
+        let taken = self.station.take(rt, self.fabric);
         let _number = self.station.number();
+        taken
     }
 
     // Asks the desk.
@@ -127,7 +132,7 @@ impl<
         requires { class < classes_of (profile_of J.names.digits.bits) }
         ensures { Keeps J.names self.old self.new }
     {
-        self.look(rt);
+        let _taken = self.collect(rt);
         let _number = self.station.number();
         if !self.station.has_home(class) {
             self.post_from = 0;
@@ -169,10 +174,30 @@ impl<
         answer
     }
 
-    // Posts all that is cached, unless a post was refused and little has come since. A refused one
-    // costs as much as the cache is long, so the cache grows by a quarter before the next. What came
-    // is taken first, since it may have to go on to others. Behind the post there is room again for the
-    // pointers to what will be freed.
+    /// Posts all that is cached, whether that is due or not, and says whether all went. What an inbox
+    /// refuses stays cached, and nothing else does.
+    ///
+    /// Up to the limit's bytes of others' buffers are cached here otherwise, for as long as nothing is
+    /// freed here. So a thread that is about to wait, or to work without the pool for long, calls it
+    /// first: others may need those slots.
+    #[cold]
+    #[inline(never)]
+    pub fn flush<R: Wait>(&mut self, rt: &R) -> bool
+        ensures keeps { Keeps J.names self.old self.new }
+        ensures all { IsTrue result → self.new.desk.cached ≡ [] }
+    {
+        let _number = self.station.number();
+        let all = self.station.post(rt, self.fabric);
+        // there is room again for the pointers to what will be freed
+        self.station.make_room(self.alloc);
+        let left = self.station.cached_bytes();
+        self.post_from = left.saturating_add(left / 4);
+        all
+    }
+
+    // Posts all that is cached, unless a batch was refused and little has come since. A post that is
+    // refused costs as much as what is left is long, so the cache grows by a quarter before the next.
+    // What came is taken first, since it may have to go on to others.
     #[cold]
     #[inline(never)]
     fn post_again<R: Wait>(&mut self, rt: &R)
@@ -182,16 +207,13 @@ impl<
         if self.station.cached_bytes() < self.post_from {
             return;
         }
-        self.look(rt);
-        self.station.post(rt, self.fabric);
-        self.station.make_room(self.alloc);
-        let left = self.station.cached_bytes();
-        self.post_from = left.saturating_add(left / 4);
+        let _taken = self.collect(rt);
+        let _all = self.flush(rt);
     }
 
     /// Takes a buffer back, and posts all that is cached where that is due.
     ///
-    /// Where an inbox refuses a batch, the rest stays cached, and the worker goes on. It tries again
+    /// Where an inbox refuses a batch, its buffers stay cached, and the worker goes on. It tries again
     /// when the cache is due and has grown by a quarter, or once [`Allocator::alloc`] found no slot at
     /// home and none in its own inbox: so the posts that are refused cost a constant time a buffer,
     /// over many.
@@ -259,7 +281,7 @@ impl<
             post_from: _,
             mut station,
         } = self;
-        station.post(rt, fabric);
+        let _all = station.post(rt, fabric);
         match station.retire() {
             Ok(settled) => match fabric.put_back(rt, settled) {
                 Ok(()) => None,
@@ -352,11 +374,17 @@ impl<
     G: Gate,
     J: Naming,
 > Heap for Allocator<'a, 'r, M, T, S, G, J> {
+    ghost use Rattle.region_cut.specs.Classes.{largest_of};
+    ghost use Rattle.digit_route.specs.Profiles.{profile_of};
+
     type Buffer = Buffer<'r, J>;
+
+    ghost largest = { λ _. largest_of (profile_of J.names.digits.bits) };
 
     #[inline]
     fn alloc<R: Wait>(&mut self, rt: &R, size: usize) -> Result<Buffer<'r, J>, PoolError>
         ensures large_enough { IfOk result (λ b. size ≤ size_of b.class) }
+        ensures too_large { (result ≡ Err TooLarge) ↔ (largest_of (profile_of J.names.digits.bits) < size) }
         ensures serves { Serves J.names self.old size result self.new }
     {
         self.alloc(rt, size)
@@ -369,6 +397,20 @@ impl<
         ensures freed { self.new.freed ≡ self.old.freed ++ buffer.entry ∷ [] }
     {
         self.free(rt, buffer);
+    }
+
+    fn flush<R: Wait>(&mut self, rt: &R) -> bool
+        ensures keeps { Keeps J.names self.old self.new }
+        ensures all { IsTrue result → self.new.desk.cached ≡ [] }
+    {
+        self.flush(rt)
+    }
+
+    fn collect<R: Wait>(&mut self, rt: &R) -> u32
+        ensures keeps { Keeps J.names self.old self.new }
+        ensures most { result ≤ most_taken }
+    {
+        self.collect(rt)
     }
 }
 

@@ -1,5 +1,5 @@
 //! What came back of several workers.
-ghost use Rattle.std.specs.Prelude.{◌≡◌, [], ◌∷◌, ◌++◌, IfOk, OnOk, OnErr};
+ghost use Rattle.std.specs.Prelude.{◌≡◌, ◌<◌, [], ◌∷◌, ◌++◌, length, IsPermutation, MatchOption, IfOk, OnOk, OnErr};
 ghost use Rattle.pool_jobs.specs.Counted.{both, counted_by, counts_of, none_counted, stations_of};
 
 use crate::counting::Done;
@@ -55,6 +55,36 @@ impl<'r, T: Receiver, S: Sender, J: Naming> Back<'r, T, S, J> {
         self.counts = self.counts.plus(counts);
         Ok(())
     }
+
+    /// Takes out the station whose desk has the least number, where one came back.
+    pub(crate) fn take_least(&mut self) -> Option<HeldStation<'r, T, S, J>>
+        ensures counts { self.new.counts ≡ self.old.counts }
+        ensures held { MatchOption result
+            ((self.old.held.items ≡ []) × (self.new.held.items ≡ []))
+            (λ s. IsPermutation self.old.held.items (s ∷ self.new.held.items)) }
+    {
+        if self.held.is_empty() {
+            return None;
+        }
+        let at = place_of_least(self.held.as_slice());
+        Some(self.held.swap_remove(at))
+    }
+}
+
+// Where the station stands whose desk has the least number.
+fn place_of_least<'r, T: Receiver, S: Sender, J: Naming>(
+    stations: &[HeldStation<'r, T, S, J>],
+) -> usize
+    requires { 0 < length stations.now }
+    ensures { result < length stations.now }
+{
+    let mut least = 0;
+    for at in 1..stations.len() {
+        if stations[at].number() < stations[least].number() {
+            least = at;
+        }
+    }
+    least
 }
 
 // Keeps the station that one worker left, if any, and tells what it counted.

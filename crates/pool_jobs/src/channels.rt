@@ -1,6 +1,7 @@
 //! The channels between tasks.
 ghost use Rattle.std.specs.Prelude.{◌≡◌, length, IfOk, IfErr};
 
+use crate::heap::Heap;
 use crate::task::Task;
 use crossbeam_channel::{Receiver, Sender};
 use std::alloc::{AllocError, Global};
@@ -29,12 +30,17 @@ impl<B: Drop> Channels<B> {
         }
     }
 
-    /// Waits for the next buffer. There is none once each task that sends to this one has ended or
+    /// Gives the next buffer, and waits until there is one. Before it waits, it posts what is cached at
+    /// the task's allocator ([`Heap::flush`]), so that no other task starves for those slots. There is none once each task that sends to this one has ended or
     /// stopped to send, and all that they handed over was received. The buffers of one sender come
     /// in its order.
     ///
     /// A task that sends to itself waits for ever, unless it stopped to send before.
-    pub fn receive<R: Wait>(&self, rt: &R) -> Option<B> {
+    pub fn receive<H: Heap<Buffer = B>, R: Wait>(&self, rt: &R, heap: &mut H) -> Option<B> {
+        if let Ok(buffer) = self.from.try_recv(rt) {
+            return Some(buffer);
+        }
+        let _all = heap.flush(rt);
         self.from.recv(rt).ok()
     }
 

@@ -1,6 +1,9 @@
 //! An allocator that counts its calls.
-ghost use Rattle.std.specs.Prelude.{◌≡◌, ◌≤◌, ◌+◌, [], ◌∷◌, ◌++◌, IfOk, IfSome, MatchResult};
-ghost use Rattle.region_cut.specs.Classes.{size_of};
+ghost use Rattle.std.specs.Prelude.{◌≡◌, ◌<◌, ◌≤◌, ◌↔◌, ◌+◌, [], ◌∷◌, ◌++◌, IsTrue, IfOk, IfSome, MatchResult};
+ghost use Rattle.region_cut.specs.Classes.{size_of, largest_of};
+ghost use Rattle.digit_route.specs.Profiles.{profile_of};
+ghost use Rattle.pool_fabric.specs.Limits.{most_taken};
+ghost use Rattle.pool_jobs.specs.declared.error.PoolError.TheVariants.{TooLarge};
 ghost use Rattle.slot_chain.specs.Counts.{capped};
 ghost use Rattle.pool_jobs.specs.Counted.{none_counted};
 ghost use Rattle.pool_jobs.specs.Serving.{Keeps, SameDesk, Serves};
@@ -90,11 +93,17 @@ impl<
     G: Gate,
     J: Naming,
 > Heap for Counting<'a, 'r, M, T, S, G, J> {
+    ghost use Rattle.region_cut.specs.Classes.{largest_of};
+    ghost use Rattle.digit_route.specs.Profiles.{profile_of};
+
     type Buffer = Buffer<'r, J>;
+
+    ghost largest = { λ _. largest_of (profile_of J.names.digits.bits) };
 
     #[inline]
     fn alloc<R: Wait>(&mut self, rt: &R, size: usize) -> Result<Buffer<'r, J>, PoolError>
         ensures large_enough { IfOk result (λ b. size ≤ size_of b.class) }
+        ensures too_large { (result ≡ Err TooLarge) ↔ (largest_of (profile_of J.names.digits.bits) < size) }
         ensures serves { Serves J.names self.old.allocator size result self.new.allocator }
         ensures counted { let counts = self.old.counts in MatchResult result
             (λ _. self.new.counts ≡ record counts { allocated = capped (counts.allocated + 1) })
@@ -117,5 +126,21 @@ impl<
     {
         self.counts.freed = self.counts.freed.saturating_add(1);
         self.allocator.free(rt, buffer);
+    }
+
+    fn flush<R: Wait>(&mut self, rt: &R) -> bool
+        ensures keeps { Keeps J.names self.old.allocator self.new.allocator }
+        ensures all { IsTrue result → self.new.allocator.desk.cached ≡ [] }
+        ensures counted { self.new.counts ≡ self.old.counts }
+    {
+        self.allocator.flush(rt)
+    }
+
+    fn collect<R: Wait>(&mut self, rt: &R) -> u32
+        ensures keeps { Keeps J.names self.old.allocator self.new.allocator }
+        ensures most { result ≤ most_taken }
+        ensures counted { self.new.counts ≡ self.old.counts }
+    {
+        self.allocator.collect(rt)
     }
 }

@@ -1,5 +1,6 @@
 //! What a worker sees of its allocator. These traits name no lifetime, so a thread may run over them.
-ghost use Rattle.std.specs.Prelude.{◌≡◌, ◌<◌, ◌≤◌, length, replicate, slice_set, IfOk};
+ghost use Rattle.std.specs.Prelude.{◌≡◌, ◌<◌, ◌≤◌, ◌↔◌, length, replicate, slice_set, IfOk};
+ghost use Rattle.pool_jobs.specs.declared.error.PoolError.TheVariants.{TooLarge};
 
 use crate::error::PoolError;
 use std::sync::Wait;
@@ -37,12 +38,26 @@ pub trait Bytes: Drop {
 
 /// An allocator in the hands of a worker.
 pub trait Heap: Drop {
+    ghost use Rattle.std.specs.Prelude.{ℕ};
+
     type Buffer: Bytes;
 
-    /// A buffer of at least `size` bytes.
+    /// The greatest size that it gives.
+    ghost largest: { Self → ℕ };
+
+    /// A buffer of at least `size` bytes. It is [`PoolError::TooLarge`] where no class has as many, and
+    /// only there.
     fn alloc<R: Wait>(&mut self, rt: &R, size: usize) -> Result<Self::Buffer, PoolError>
-        ensures large_enough { IfOk result (λ b. size ≤ Self.Buffer.size b) };
+        ensures large_enough { IfOk result (λ b. size ≤ Self.Buffer.size b) }
+        ensures too_large { (result ≡ Err TooLarge) ↔ (largest self.old < size) };
 
     /// Takes a buffer back, whichever allocator of the pool gave it.
     fn free<R: Wait>(&mut self, rt: &R, buffer: Self::Buffer);
+
+    /// Posts all of others' buffers that are cached here, so that they come home, and says whether all
+    /// went. To be called before a task waits for others: they may need those slots.
+    fn flush<R: Wait>(&mut self, rt: &R) -> bool;
+
+    /// Takes what came home, at most 64 batches, and says how many it took.
+    fn collect<R: Wait>(&mut self, rt: &R) -> u32;
 }

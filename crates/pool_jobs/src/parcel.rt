@@ -58,7 +58,21 @@ impl<'r, J: Naming> Parcel<'r, J> {
     pub fn len(&self) -> usize
         ensures { result ≡ length self.now.items }
     {
-        self.parcel.buffers().len()
+        self.parcel.len()
+    }
+
+    /// For how many buffers there is a place, those that are there counted too.
+    pub fn places(&self) -> usize
+        ensures { result ≡ self.now.places }
+    {
+        self.parcel.places()
+    }
+
+    /// Whether each place has a buffer, so that [`Parcel::push`] takes none.
+    pub fn is_full(&self) -> bool
+        ensures { IsTrue result ↔ (self.now.places ≤ length self.now.items) }
+    {
+        self.parcel.is_full()
     }
 
     /// Whether there is no buffer.

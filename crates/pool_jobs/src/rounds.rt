@@ -189,8 +189,8 @@ impl<
         Ok(rows)
     }
 
-    // Those who work in one round. What came back of the round before, because a post was refused there,
-    // goes to the first of them.
+    // Those who work in one round. What came back of the round before, because a batch was refused there,
+    // goes to the first of them, in order of the desks' numbers.
     fn starters<N: Rng + SeedableRng + Drop>(
         &mut self,
         seed: u64,
@@ -203,7 +203,7 @@ impl<
         for worker in 0..self.workers {
             let random = N::seed_from_u64(seed.wrapping_add(u64::from(worker)));
             let entrance = Entrance::new(self.alloc, self.fabric, self.gate, worker);
-            let station = self.back.held.pop();
+            let station = self.back.take_least();
             let drops = drop_first && worker == 0;
             starters.push(Applicant::new(entrance, station, random, worker, drops))?;
         }

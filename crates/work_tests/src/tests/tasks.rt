@@ -60,7 +60,7 @@ impl Task for Act {
                 Ok(given)
             }
             Act::Frees => Ok(free_all(rt, heap, &channels)),
-            Act::Drops => Ok(drop_all(rt, &channels)),
+            Act::Drops => Ok(drop_all(rt, heap, &channels)),
             Act::Fails => Err(PoolError::UsedUp),
         }
     }
@@ -127,7 +127,7 @@ fn wait_and_give<H: Heap, R: Wait>(
 fn free_all<H: Heap, R: Wait>(rt: &R, heap: &mut H, channels: &Channels<H::Buffer>) -> u64 {
     let mut freed = 0u64;
     for _ in rt.forever() {
-        let Some(buffer) = channels.receive(rt) else {
+        let Some(buffer) = channels.receive(rt, heap) else {
             break;
         };
         heap.free(rt, buffer);
@@ -136,10 +136,10 @@ fn free_all<H: Heap, R: Wait>(rt: &R, heap: &mut H, channels: &Channels<H::Buffe
     freed
 }
 
-fn drop_all<B: Bytes, R: Wait>(rt: &R, channels: &Channels<B>) -> u64 {
+fn drop_all<H: Heap, R: Wait>(rt: &R, heap: &mut H, channels: &Channels<H::Buffer>) -> u64 {
     let mut dropped = 0u64;
     for _ in rt.forever() {
-        let Some(buffer) = channels.receive(rt) else {
+        let Some(buffer) = channels.receive(rt, heap) else {
             break;
         };
         drop(buffer);
