@@ -1,6 +1,7 @@
-//! A thread may own, and hand over, a piece, a room, a buffer and a chain: each is passed to a call that wants `Send`.
+//! A thread may own, and hand over, a piece, a room, a buffer, a chain, a magazine and a parcel: each is passed to a
+//! call that wants `Send`.
 use region_cut::Piece;
-use slot_chain::{Buf, Chain, Room};
+use slot_chain::{Buf, Chain, Magazine, Parcel, Room};
 
 // What a thread is started with has to be `Send`.
 fn crosses<T: Send + Drop>(value: T) {
@@ -25,4 +26,14 @@ pub fn buf_crosses(buf: Buf<'_>) {
 /// A chain crosses.
 pub fn chain_crosses(chain: Chain<'_>) {
     crosses(chain);
+}
+
+/// A magazine crosses.
+pub fn magazine_crosses(magazine: Magazine<'_>) {
+    crosses(magazine);
+}
+
+/// A parcel crosses.
+pub fn parcel_crosses(parcel: Parcel<'_>) {
+    crosses(parcel);
 }

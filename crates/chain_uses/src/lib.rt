@@ -10,7 +10,9 @@ mod sending;
 mod walking;
 mod writing;
 
-pub use crossing::{buf_crosses, chain_crosses, piece_crosses, room_crosses};
+pub use crossing::{
+    buf_crosses, chain_crosses, magazine_crosses, parcel_crosses, piece_crosses, room_crosses,
+};
 pub use filling::{fill_part, fill_region};
 pub use knowing::mark_first;
 pub use sending::turned;
