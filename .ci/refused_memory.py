@@ -26,6 +26,7 @@ import tempfile
 import time
 
 import before_libc
+import built_tests
 
 TOP = pathlib.Path(__file__).resolve().parent.parent
 SECONDS = 60
@@ -100,24 +101,6 @@ void _exit(int status) {
 """
 
 
-def is_fresh(program, crate):
-    """Whether the program is younger than the crate's sources."""
-    sources = [path for kind in ("src", "specs", "proofs") for path in (crate / kind).rglob("*") if path.is_file()]
-    return program.exists() and all(path.stat().st_mtime <= program.stat().st_mtime for path in sources)
-
-
-def tests_of(crate):
-    """The built tests of the crate, and their names."""
-    program = crate / "out" / f"{crate.name}_tests"
-    if not is_fresh(program, crate):
-        run = subprocess.run(["rt", "test"], cwd=crate, capture_output=True, text=True)
-        if run.returncode != 0:
-            print(run.stdout + run.stderr)
-            sys.exit(2)
-    listed = subprocess.run([program, "--list"], capture_output=True, text=True, check=True).stdout
-    return program, [line[: -len(": test")] for line in listed.splitlines() if line.endswith(": test")]
-
-
 def ran(library, program, test, refused, counted):
     """Why the test doesn't bear this refusal, None where it does, and how many allocations it asked for."""
     environment = {**os.environ, "LD_PRELOAD": str(library), "REFUSE": str(refused), "COUNTED": str(counted)}
@@ -179,7 +162,7 @@ def main():
             start = time.monotonic()
             name, _, words = name.partition(":")
             words = [word for word in (words or WRITTEN_FOR_IT.get(name, "")).split(",") if word]
-            program, tests = tests_of(TOP / "crates" / name)
+            program, tests = built_tests.of(TOP / "crates" / name)
             tests = [test for test in tests if not words or any(word in test for word in words)]
             deep = [test for test in tests if name in DEEP and any(word in test for word in DEEP[name].split(","))]
             with concurrent.futures.ThreadPoolExecutor(len(os.sched_getaffinity(0))) as pool:

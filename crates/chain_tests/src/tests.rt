@@ -5,8 +5,10 @@ ghost use Rattle.std.specs.Prelude.{◌<◌};
 ghost use Rattle.slot_chain.specs.Buffer.{owner_limit};
 
 mod bytes;
+mod given_back;
 mod giving;
 mod long;
+mod no_memory;
 mod order;
 mod packing;
 mod refusal;

@@ -1,0 +1,157 @@
+//! The calls that take no memory, between two marks behind which `.ci/no_memory.py` refuses each
+//! allocation. No clause says that a call takes none: a `push` that grows its array would meet all
+//! of them.
+use crate::tests::order::chains;
+use crate::tests::same;
+use memory_marks::{Mark, set};
+use region_cut::CHUNK;
+use slot_chain::{Buf, Chain, Magazine, NoMemory, Parcel};
+use std::alloc::Global;
+use std::process::Abort;
+
+// Each buffer of one chain goes to the other, and all are appended to the first again.
+fn move_all<'r>(rt: &impl Abort, first: &mut Chain<'r>, second: &mut Chain<'r>) {
+    while let Some(buf) = first.pop() {
+        second.push(buf);
+    }
+    first.append(second);
+    same(rt, "the slots of both", first.len(), 16);
+    same(rt, "the bytes of both", first.bytes_total(), 8192);
+    assert!(rt; first.walk().next().is_some() && second.is_empty());
+}
+
+fn chain(rt: &impl Abort, alloc: Global) -> Result<(), NoMemory> {
+    let mut region = Vec::from_elem(alloc, 0u8, 2 * CHUNK)?;
+    let (mut first, mut second) = chains(rt, alloc, &mut region)?;
+    set(alloc, Mark::TakesNone);
+    move_all(rt, &mut first, &mut second);
+    drop(Chain::new());
+    drop(first);
+    set(alloc, Mark::MayTake);
+    Ok(())
+}
+
+#[test]
+fn a_chain_takes_none(rt: HostRuntime) {
+    if chain(&rt, rt.alloc()).is_err() {
+        assert!(rt; chain(&rt, rt.alloc()).is_ok());
+    }
+}
+
+// As many go in as the parcel has places for, and the rest comes back.
+fn pack<'r>(parcel: &mut Parcel<'r>, chain: &mut Chain<'r>, back: &mut Chain<'r>) {
+    while let Some(buf) = chain.pop() {
+        if let Err(buf) = parcel.push(buf) {
+            back.push(buf);
+        }
+    }
+}
+
+fn unpack<'r>(parcel: &mut Parcel<'r>, chain: &mut Chain<'r>) {
+    while let Some(buf) = parcel.pop() {
+        chain.push(buf);
+    }
+}
+
+// Five of eight have a place.
+fn fill_parcel<'r>(rt: &impl Abort, mut parcel: Parcel<'r>, mut chain: Chain<'r>) -> Vec<Buf<'r>> {
+    let mut back = Chain::new();
+    pack(&mut parcel, &mut chain, &mut back);
+    same(rt, "those with a place", parcel.buffers().len() as u64, 5);
+    same(rt, "those without", back.len(), 3);
+    unpack(&mut parcel, &mut chain);
+    pack(&mut parcel, &mut chain, &mut back);
+    same(rt, "the bytes of five", parcel.bytes_total(), 2560);
+    parcel.into_buffers()
+}
+
+fn parcel(rt: &impl Abort, alloc: Global) -> Result<(), NoMemory> {
+    let mut region = Vec::from_elem(alloc, 0u8, 2 * CHUNK)?;
+    let (first, _second) = chains(rt, alloc, &mut region)?;
+    let parcel = Parcel::new(alloc, 7, 5)?;
+    set(alloc, Mark::TakesNone);
+    let array = fill_parcel(rt, parcel, first);
+    set(alloc, Mark::MayTake);
+    same(rt, "the array's buffers", array.len() as u64, 5);
+    Ok(())
+}
+
+#[test]
+fn a_parcel_takes_none(rt: HostRuntime) {
+    if parcel(&rt, rt.alloc()).is_err() {
+        assert!(rt; parcel(&rt, rt.alloc()).is_ok());
+    }
+}
+
+// A list without an array and one with some are filled and emptied by turns.
+fn fill_lists<'r>(rt: &impl Abort, mut chain: Chain<'r>, mut roomy: Magazine<'r>) {
+    let mut linked = Magazine::new();
+    while let Some(buf) = chain.pop() {
+        linked.push(buf);
+    }
+    while let Some(buf) = linked.pop() {
+        roomy.push(buf);
+    }
+    let taken = roomy.take();
+    same(rt, "the slots", taken.len(), 8);
+    assert!(rt; roomy.is_empty() && roomy.pop_array().is_none());
+}
+
+fn magazine(rt: &impl Abort, alloc: Global) -> Result<(), NoMemory> {
+    let mut region = Vec::from_elem(alloc, 0u8, 2 * CHUNK)?;
+    let (first, _second) = chains(rt, alloc, &mut region)?;
+    let mut roomy = Magazine::new();
+    roomy.make_room(alloc);
+    set(alloc, Mark::TakesNone);
+    fill_lists(rt, first, roomy);
+    set(alloc, Mark::MayTake);
+    Ok(())
+}
+
+#[test]
+fn a_magazine_takes_none(rt: HostRuntime) {
+    if magazine(&rt, rt.alloc()).is_err() {
+        assert!(rt; magazine(&rt, rt.alloc()).is_ok());
+    }
+}
+
+// Two arrays, of which a list without room keeps none: their buffers are linked.
+fn append_arrays<'r>(
+    rt: &impl Abort,
+    first: Parcel<'r>,
+    second: Parcel<'r>,
+    mut list: Magazine<'r>,
+) {
+    list.append(first.into_buffers());
+    list.append(second.into_buffers());
+    same(rt, "the slots of both", list.len(), 8);
+}
+
+fn packed<'r>(alloc: Global, chain: &mut Chain<'r>) -> Result<Parcel<'r>, NoMemory> {
+    let mut parcel = Parcel::new(alloc, 7, 4)?;
+    while let Some(buf) = chain.pop() {
+        if let Err(buf) = parcel.push(buf) {
+            chain.push(buf);
+            break;
+        }
+    }
+    Ok(parcel)
+}
+
+fn append(rt: &impl Abort, alloc: Global) -> Result<(), NoMemory> {
+    let mut region = Vec::from_elem(alloc, 0u8, 2 * CHUNK)?;
+    let (mut chain, _second) = chains(rt, alloc, &mut region)?;
+    let first = packed(alloc, &mut chain)?;
+    let second = packed(alloc, &mut chain)?;
+    set(alloc, Mark::TakesNone);
+    append_arrays(rt, first, second, Magazine::new());
+    set(alloc, Mark::MayTake);
+    Ok(())
+}
+
+#[test]
+fn appended_arrays_take_none(rt: HostRuntime) {
+    if append(&rt, rt.alloc()).is_err() {
+        assert!(rt; append(&rt, rt.alloc()).is_ok());
+    }
+}
