@@ -1,6 +1,5 @@
 //! Tests of a fabric: posts that are refused, and desks and stations that are missing.
 
-mod going_on;
 mod lacking;
 mod leaving;
 mod memory;

@@ -33,9 +33,9 @@ fn by_a_full_chain(rt: HostRuntime) {
 }
 
 // All buffers of the chain, in a parcel with a place for each.
-fn packed<'r>(alloc: Global, mut chain: Chain<'r>) -> Result<Parcel<'r>, NoMemory> {
+fn packed<'r>(alloc: Global, chain: Chain<'r>) -> Result<Parcel<'r>, NoMemory> {
     let mut parcel = Parcel::new(alloc, 7, 8)?;
-    while let Some(buf) = chain.pop() {
+    for buf in chain {
         drop(parcel.push(buf));
     }
     Ok(parcel)

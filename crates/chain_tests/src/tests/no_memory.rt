@@ -11,9 +11,12 @@ use std::process::Abort;
 
 // Each buffer of one chain goes to the other, and all are appended to the first again.
 fn move_all<'r>(rt: &impl Abort, first: &mut Chain<'r>, second: &mut Chain<'r>) {
-    while let Some(buf) = first.pop() {
-        second.push(buf);
+    for _ in 0..8 {
+        if let Some(buf) = first.pop() {
+            second.push(buf);
+        }
     }
+    assert!(rt; first.is_empty());
     first.append(second);
     same(rt, "the slots of both", first.len(), 16);
     same(rt, "the bytes of both", first.bytes_total(), 8192);
@@ -40,7 +43,10 @@ fn a_chain_takes_none(rt: HostRuntime) {
 
 // As many go in as the parcel has places for, and the rest comes back.
 fn pack<'r>(parcel: &mut Parcel<'r>, chain: &mut Chain<'r>, back: &mut Chain<'r>) {
-    while let Some(buf) = chain.pop() {
+    for _ in 0..8 {
+        let Some(buf) = chain.pop() else {
+            return;
+        };
         if let Err(buf) = parcel.push(buf) {
             back.push(buf);
         }
@@ -48,8 +54,10 @@ fn pack<'r>(parcel: &mut Parcel<'r>, chain: &mut Chain<'r>, back: &mut Chain<'r>
 }
 
 fn unpack<'r>(parcel: &mut Parcel<'r>, chain: &mut Chain<'r>) {
-    while let Some(buf) = parcel.pop() {
-        chain.push(buf);
+    for _ in 0..8 {
+        if let Some(buf) = parcel.pop() {
+            chain.push(buf);
+        }
     }
 }
 
@@ -83,15 +91,21 @@ fn a_parcel_takes_none(rt: HostRuntime) {
     }
 }
 
+fn pour<'r>(from: &mut Magazine<'r>, to: &mut Magazine<'r>) {
+    for _ in 0..8 {
+        if let Some(buf) = from.pop() {
+            to.push(buf);
+        }
+    }
+}
+
 // A list without an array and one with some are filled and emptied by turns.
-fn fill_lists<'r>(rt: &impl Abort, mut chain: Chain<'r>, mut roomy: Magazine<'r>) {
+fn fill_lists<'r>(rt: &impl Abort, chain: Chain<'r>, mut roomy: Magazine<'r>) {
     let mut linked = Magazine::new();
-    while let Some(buf) = chain.pop() {
+    for buf in chain {
         linked.push(buf);
     }
-    while let Some(buf) = linked.pop() {
-        roomy.push(buf);
-    }
+    pour(&mut linked, &mut roomy);
     let taken = roomy.take();
     same(rt, "the slots", taken.len(), 8);
     assert!(rt; roomy.is_empty() && roomy.pop_array().is_none());
@@ -129,10 +143,9 @@ fn append_arrays<'r>(
 
 fn packed<'r>(alloc: Global, chain: &mut Chain<'r>) -> Result<Parcel<'r>, NoMemory> {
     let mut parcel = Parcel::new(alloc, 7, 4)?;
-    while let Some(buf) = chain.pop() {
-        if let Err(buf) = parcel.push(buf) {
-            chain.push(buf);
-            break;
+    for _ in 0..4 {
+        if let Some(buf) = chain.pop() {
+            drop(parcel.push(buf));
         }
     }
     Ok(parcel)

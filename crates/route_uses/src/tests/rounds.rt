@@ -133,32 +133,37 @@ fn is_put_back(rt: HostRuntime) {
     }
 }
 
-// Posts all but the batch to 1, which is refused.
-fn post_but_one<'r>(rt: &impl Abort, posting: &mut Posting<'r>) -> Refused<'r> {
-    let mut refused = Refused::new(posting.number(), posting.digits());
-    for _ in 0..3 {
-        let batch = posting.next_batch().expect(rt, "a batch");
-        if batch.address() == 1 {
-            refused.add(batch);
-        }
-    }
-    assert!(rt; posting.next_batch().is_none());
-    refused
-}
-
-// The batch to 1 is refused, and the others go. Its buffer is in the cache again, and goes the next time.
+// Of three batches the first is refused, and the others go. Its buffers are in the cache again, and nothing
+// else is: the next batch is the same.
 fn set_aside(rt: &impl Abort, alloc: Global) -> Result<(), NoMemory> {
     let mut region = Vec::from_elem(alloc, 0u8, 4096)?;
     let cache = filled_in(rt, alloc, &mut region, 0, 1, &[32, 32, 1, 2])?;
     let mut posting = cache.posting();
-    let refused = post_but_one(rt, &mut posting);
-    assert!(rt; !refused.is_empty());
+    let first = posting.next_batch().expect(rt, "a batch");
+    let (address, len) = (first.address(), first.len());
+    let mut refused = Refused::new(first.sender(), first.digits());
+    refused.add(first);
+    drop(posting.next_batch());
+    drop(posting.next_batch());
+    assert!(rt; posting.next_batch().is_none() && !refused.is_empty());
     let mut cache = posting.end();
     assert!(rt; cache.is_empty());
     cache.take_back(refused);
-    drop(take(rt, &mut cache, 1, 1));
-    assert!(rt; cache.is_empty());
+    check_again(rt, cache, address, len);
     Ok(())
+}
+
+// The cache has one batch alone, with this address and so many buffers.
+fn check_again(rt: &impl Abort, mut cache: Cache<'_>, address: u16, len: u64) {
+    let again = cache.next_batch().expect(rt, "the batch again");
+    same(
+        rt,
+        "the address",
+        u64::from(again.address()),
+        u64::from(address),
+    );
+    same(rt, "the buffers", again.len(), len);
+    assert!(rt; cache.is_empty());
 }
 
 #[test]
