@@ -31,7 +31,7 @@ const CLASS_BY_STEP: [u8; 65] = [
 /// 19; which of them a pool uses is a matter of its [`Profile`](crate::Profile).
 #[derive(Clone, Copy, Debug, PartialEq, Eq, PartialOrd, Ord, Hash)]
 pub struct Class {
-    number: u32,
+    number: u8,
 }
 
 impl Model for Class {
@@ -57,7 +57,9 @@ impl Class {
         ensures { MatchOption result (class_count ≤ number) (λ c. c ≡ number) }
     {
         if number < CLASSES {
-            Some(Class { number })
+            Some(Class {
+                number: number as u8,
+            })
         } else {
             None
         }
@@ -71,7 +73,7 @@ impl Class {
         ensures least { (k : ℕ) → n ≤ size_of k → k < class_count → result ≤ k }
     {
         Class {
-            number: CLASS_BY_STEP[(n + 15) / 16] as u32,
+            number: CLASS_BY_STEP[(n + 15) / 16],
         }
     }
 
@@ -80,7 +82,7 @@ impl Class {
         ensures value { result ≡ self }
         ensures in_range { result < class_count }
     {
-        self.number
+        u32::from(self.number)
     }
 
     /// The size in bytes of each of its slots.
