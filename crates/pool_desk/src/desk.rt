@@ -287,6 +287,23 @@ impl<'r> Desk<'r> {
         counts
     }
 
+    /// Whether nothing is cached, so that the desk may be retired or passed on.
+    pub fn is_settled(&self) -> bool
+        ensures { IsTrue result ↔ (self.now.cached ≡ []) }
+    {
+        self.cache.is_empty()
+    }
+
+    /// Passes the desk on to another worker, whose number is kept and not looked at. It is
+    /// [`Desk::retire`] and [`IdleDesk::adopt`] without a move of the desk, which is some kilobytes;
+    /// the arrays that are kept for parcels stay. Takes constant time and no memory.
+    pub fn pass_to(&mut self, worker: u32)
+        requires { self.old.cached ≡ [] }
+        ensures { self.new ≡ record self.old { worker = worker } }
+    {
+        self.worker = worker;
+    }
+
     /// The desk without its worker, where its cache is empty. Where it isn't, the desk is handed
     /// back as it was: it is unsettled.
     pub fn retire(self) -> Result<IdleDesk<'r>, Desk<'r>>

@@ -6,8 +6,9 @@ ghost use Rattle.digit_route.specs.Digits.{common};
 ghost use Rattle.digit_route.specs.Route.{GivesBucket, RouteFault};
 
 use crate::{Desk, DeskPosting};
-use digit_route::{Batch, Refused, RouteError};
+use digit_route::{Batch, Cache, Posting, Refused, RouteError};
 use std::alloc::Global;
+use std::mem;
 
 impl<'r> Desk<'r> {
     /// Why [`Desk::batch_for`] would refuse, or `None` where it would give a batch.
@@ -100,6 +101,29 @@ impl<'r> Desk<'r> {
         ensures { IsTrue result ↔ (self.now.cached ≡ []) }
     {
         self.cache.is_empty_behind_first_round()
+    }
+
+    /// Takes out all that is cached, to be posted round by round, and leaves an empty cache. What is
+    /// refused comes back by [`Desk::take_back`]. Takes no memory.
+    #[inline(never)]
+    pub fn take_posting(&mut self) -> Posting<'r>
+        ensures same { self.new ≡ record self.old { cached = [] } }
+        ensures posting { let d = self.old in result ≡ record {
+          number = d.number;
+          digits = d.digits;
+          limit = d.limit;
+          round = 0;
+          moves = 0;
+          items = d.cached;
+        } }
+    {
+        let _known = self.cache.number();
+        let empty = Cache::new(
+            self.cache.number(),
+            self.cache.digits(),
+            self.cache.limit(),
+        );
+        mem::replace(&mut self.cache, empty).posting()
     }
 
     /// Begins to post the cache, round by round. Takes no memory.
