@@ -13,25 +13,39 @@ fn without_one_at<'r, J: Naming, R: Wait>(
     rt: &R,
     alloc: Global,
     opening: Opening<'r, Inbox<'r>, TakeSeat<'r>, SendSeat<'r>>,
-) -> Result<Found<'r>, GatherError>
+    missing: u16,
+) -> Result<Found<'r>, GatherError<'r>>
     requires { J.names ≡ opening }
     ensures { IfOk result (λ f. IsEachDesk opening.entry.count f.desks.items) }
 {
+    let desks = opening.desks();
     let Ok(fabric) = Fabric::<'r, Inbox<'r>, TakeSeat<'r>, SendSeat<'r>, J>::open(alloc, opening)
     else {
         return Err(GatherError::NoMemory);
     };
-    drop(fabric.station(rt));
-    gather(rt, alloc, fabric, Vec::new(alloc))
+    let mut held = Vec::new(alloc);
+    for _desk in 0..desks {
+        let Some(station) = fabric.station(rt) else {
+            break;
+        };
+        if station.number() == missing {
+            continue;
+        }
+        if held.push(station.adopt(0)).is_err() {
+            return Err(GatherError::NoMemory);
+        }
+    }
+    gather(rt, alloc, fabric, held)
 }
 
-/// A fabric is opened, one of its stations dropped, and the others gathered.
+/// A fabric is opened, the station of one desk dropped, and the others gathered.
 pub fn without_one<'r, R: Wait>(
     rt: &R,
     alloc: Global,
     opening: Opening<'r, Inbox<'r>, TakeSeat<'r>, SendSeat<'r>>,
-) -> Result<Found<'r>, GatherError>
+    missing: u16,
+) -> Result<Found<'r>, GatherError<'r>>
     ensures { IfOk result (λ f. IsEachDesk opening.entry.count f.desks.items) }
 {
-    without_one_at::<Brand, R>(rt, alloc, opening)
+    without_one_at::<Brand, R>(rt, alloc, opening, missing)
 }

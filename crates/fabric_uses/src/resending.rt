@@ -92,7 +92,7 @@ fn post_twice_at<'r, J: Naming, R: Wait>(
     rt: &R,
     alloc: Global,
     opening: Opening<'r, Refusing<'r>, TakeSeat<'r>, SendSeat<'r>>,
-) -> Result<Resent<'r>, GatherError>
+) -> Result<Resent<'r>, GatherError<'r>>
     requires { J.names ≡ opening }
     ensures whole { IfOk result (λ r. IsWhole r.found.desks.items r.found.batches.items r.found.lent.items
         r.found.freed.items r.found.parts.items opening.entry.chunks) }
@@ -128,7 +128,7 @@ pub fn post_twice<'r, R: Wait>(
     rt: &R,
     alloc: Global,
     opening: Opening<'r, Refusing<'r>, TakeSeat<'r>, SendSeat<'r>>,
-) -> Result<Resent<'r>, GatherError>
+) -> Result<Resent<'r>, GatherError<'r>>
     ensures whole { IfOk result (λ r. IsWhole r.found.desks.items r.found.batches.items r.found.lent.items
         r.found.freed.items r.found.parts.items opening.entry.chunks) }
     ensures desks { IfOk result (λ r. IsEachDesk opening.entry.count r.found.desks.items) }

@@ -81,7 +81,7 @@ fn worked<'r, J: Naming, R: Wait>(
 {
     let fabric = Fabric::<'r, Inbox<'r>, TakeSeat<'r>, SendSeat<'r>, J>::open(alloc, opening)?;
     let Left { held, counts } = at_work(rt, alloc, &fabric, &NoGate, count, size)?;
-    settle(rt, alloc, fabric, held, counts)
+    Ok(settle(rt, alloc, fabric, held, counts)?)
 }
 
 /// One worker allocates and frees, so often, and all that there is then is accounted for.

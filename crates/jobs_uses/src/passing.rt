@@ -66,7 +66,7 @@ fn at_fabric<'r, J: Naming, N: Rng, R: Wait>(
     opening: Opening<'r, LinkInbox<'r>, TakeSeat<'r>, SendSeat<'r>>,
     random: &mut N,
     count: u32,
-) -> Result<Passed<'r>, GatherError>
+) -> Result<Passed<'r>, GatherError<'r>>
     requires { J.names ≡ opening }
     ensures whole { IfOk result (λ p. IsWhole p.found.desks.items p.found.batches.items p.found.lent.items
         p.found.freed.items p.found.parts.items opening.entry.chunks) }
@@ -91,7 +91,7 @@ pub fn pass_on<'r, N: Rng, R: Wait>(
     opening: Opening<'r, LinkInbox<'r>, TakeSeat<'r>, SendSeat<'r>>,
     random: &mut N,
     count: u32,
-) -> Result<Passed<'r>, GatherError>
+) -> Result<Passed<'r>, GatherError<'r>>
     ensures whole { IfOk result (λ p. IsWhole p.found.desks.items p.found.batches.items p.found.lent.items
         p.found.freed.items p.found.parts.items opening.entry.chunks) }
     ensures desks { IfOk result (λ p. IsEachDesk opening.entry.count p.found.desks.items) }

@@ -109,7 +109,7 @@ fn unheard<'r, J: Naming, R: Wait>(
     opening: Opening<'r, LinkInbox<'r>, TakeSeat<'r>, SendSeat<'r>>,
     slots: usize,
     frees: Frees,
-) -> Result<Found<'r>, GatherError>
+) -> Result<Found<'r>, GatherError<'r>>
     requires { J.names ≡ opening }
     ensures whole { IfOk result (λ f. IsWhole f.desks.items f.batches.items f.lent.items f.freed.items
         f.parts.items opening.entry.chunks) }
@@ -135,7 +135,7 @@ pub fn free_unheard<'r, R: Wait>(
     opening: Opening<'r, LinkInbox<'r>, TakeSeat<'r>, SendSeat<'r>>,
     slots: usize,
     frees: Frees,
-) -> Result<Found<'r>, GatherError>
+) -> Result<Found<'r>, GatherError<'r>>
     ensures whole { IfOk result (λ f. IsWhole f.desks.items f.batches.items f.lent.items f.freed.items
         f.parts.items opening.entry.chunks) }
     ensures desks { IfOk result (λ f. IsEachDesk opening.entry.count f.desks.items) }

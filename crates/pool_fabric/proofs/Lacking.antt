@@ -1,5 +1,5 @@
 -- Which desk's station is not among some.
-use Rattle.std.proofs.Common.{◌≡◌, ◌≢◌, ℕ, ◌<◌, List, [], ◌∷◌, ◌++◌, IsPermutation, Some, get_or, refl, sym, ap, ◌∙◌, subst}
+use Rattle.std.proofs.Common.{◌≡◌, ◌≢◌, ℕ, ◌<◌, List, [], ◌∷◌, ◌++◌, IsPermutation, Some, get_or, refl, sym, ap, ◌∙◌, subst, append_assoc}
 use Rattle.std.specs.Prelude.{slice_get, Result, Ok, Err, IsErr, IsErrAnd, IfErr}
 use Rattle.std.specs.List.{swap_remove}
 use Rattle.std.proofs.lemmas.Option.{get_or_from_slice_get, slice_get_within}
@@ -9,6 +9,7 @@ use Rattle.pool_fabric.specs.Stations.{StationState}
 use Rattle.pool_fabric.specs.declared.error.GatherError.{GatherError}
 use Rattle.pool_fabric.specs.declared.error.GatherError.TheVariants.{NoMemory, Missing}
 use Rattle.pool_fabric.specs.Faults.{LacksNumber, IsGatherFault}
+use Rattle.pool_fabric.proofs.AllOf.{same_all}
 
 -- the station at a place was taken out
 pub taken_out : (old new : List StationState) (at number : ℕ) (here s : StationState) → slice_get old at ≡ Some here → here.desk.number ≡ number
@@ -23,10 +24,16 @@ pub lacks_before : (a : ℕ) (old new : List StationState) (s : StationState) �
 lacks_before a old new s p other lacks = All-permutation (λ (x : StationState). x.desk.number ≢ a) (s ∷ new) old (IsPermutation-sym old (s ∷ new) p)
     (All-cons (λ (x : StationState). x.desk.number ≢ a) s new other lacks)
 
--- what is missing of all is missing of some of them
-pub lacks_of : (k n : ℕ) (all some : List StationState) (e : GatherError) → k ≡ n → ((a : ℕ) → LacksNumber a all → LacksNumber a some) → IsGatherFault k all e → IsGatherFault n some e
-lacks_of k n all some NoMemory same within f = tt
-lacks_of k n all some Missing same within f = record { number = f.number; below = subst (λ m. f.number < m) same f.below; lacks = within f.number f.lacks }
+-- what is missing of all is missing of the first of them
+pub lacks_of : (k n : ℕ) (all some others : List StationState) (e : GatherError) → k ≡ n → all ≡ some ++ others → ((a : ℕ) → LacksNumber a all → LacksNumber a some)
+    → IsGatherFault k all e → IsGatherFault n some e
+lacks_of k n all some others NoMemory same parts within f = tt
+lacks_of k n all some others (Missing x) same parts within f = record {
+  below = subst (λ m. x.missing < m) same f.below;
+  lacks = within x.missing f.lacks;
+  others = others ++ f.others;
+  found = same_all _ _ _ _ _ _ _ _ (ap (λ l. l ++ f.others) parts ∙ append_assoc some others f.others) refl refl refl f.found;
+}
 
 -- a station went from the shelf to the others
 pub lacks_moved : (a : ℕ) (stations shelf : List StationState) (s t : StationState) → t.desk.number ≡ s.desk.number

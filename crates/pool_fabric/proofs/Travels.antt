@@ -4,15 +4,15 @@ use denote.Ref.{NamedLft}
 use denote.Struct.Struct.{Struct}
 use denote.Struct.Declared.{Declared, row, shape, fields}
 use denote.Param.Send.{IsSend, IsSync, AllSend, AllSync, sendable, struct_send, struct_sync, recorded_send, recorded_sync, view_send}
-use Rattle.std.proofs.Crossing.{crosses, Vec-send, Vec-sync}
+use Rattle.std.proofs.Crossing.{crosses, Box-send, Vec-send, Vec-sync}
 use Rattle.std.proofs.option.Option.TheSendSync.{the_send as option_send}
 use Rattle.atomic_blocks.proofs.web.Seat.TheSendSync.{the_send as pass_send}
 use Rattle.atomic_blocks.proofs.web.Web.TheSendSync.{the_sync as line_sync}
 use Rattle.region_cut.proofs.part.Part.TheSendSync.{the_send as part_send}
 use Rattle.slot_chain.specs.contracts.buf.Buf as Buf
-use Rattle.digit_route.proofs.Travels.{buf_send, batch_send, cache_send}
-use Rattle.pool_desk.proofs.Travels.{homes_send, desk_send}
-use Rattle.pool_desk.specs.contracts.idle.IdleDesk as IdleDesk
+use Rattle.digit_route.proofs.Travels.{buf_send, batch_send}
+use Rattle.pool_desk.proofs.Travels.{desk_send}
+use Rattle.pool_desk.specs.contracts.desk.Desk as Desk
 use Rattle.slot_audit.specs.contracts.drawn.Drawn as Drawn
 use Rattle.batch_inbox.specs.declared.mail.Mailbox as Mailbox
 use Rattle.batch_inbox.specs.declared.mail.Receiver as Receiver
@@ -61,19 +61,16 @@ page_send = search (sendable, crosses, pass_send) depth 40 fits 6000
 notes_send : (a : NamedLft) → IsSend (Notes.the_row (Buf.the_row a))
 notes_send a = notes_of (Buf.the_row a) (buf_send a)
 
-idle_send : (a : NamedLft) → IsSend (IdleDesk.the_row a)
-idle_send a = search (sendable, crosses, homes_send, cache_send) depth 40 fits 6000
-
 -- stations whose seats cross
 module _ (a : NamedLft) (T S J : RattleType) (t : Receiver.Ghosts T.Denot) (s : Sender.Ghosts S.Denot) (j : Naming.Ghosts J.Denot) (x : IsSend T) (y : IsSend S) where
   in_held : AllSend (fields (InHeld.the_type a T S J t s j))
-  in_held = (desk_send a, (x, (Vec-send S y, (page_send, (notes_send a, (notes_send a, (named_send J, tt)))))))
+  in_held = (Box-send (Desk.the_row a) (desk_send a), (x, (Vec-send S y, (page_send, (notes_send a, (notes_send a, (named_send J, tt)))))))
 
   pub held_send : IsSend (HeldStation.the_row a T S J t s j)
   held_send = view_send _ _ _ _ _ (send_fields (InHeld.the_type a T S J t s j) in_held)
 
   in_station : AllSend (fields (InStation.the_type a T S J t s j))
-  in_station = (idle_send a, (x, (Vec-send S y, (page_send, (notes_send a, (notes_send a, (named_send J, tt)))))))
+  in_station = (Box-send (Desk.the_row a) (desk_send a), (x, (Vec-send S y, (page_send, (notes_send a, (notes_send a, (named_send J, tt)))))))
 
   pub station_send : IsSend (Station.the_row a T S J t s j)
   station_send = view_send _ _ _ _ _ (send_fields (InStation.the_type a T S J t s j) in_station)

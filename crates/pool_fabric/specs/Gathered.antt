@@ -66,6 +66,15 @@ pub record AddsStation (t : StationState) (old new : GatheredState) : Type 0 whe
   pub lent : new.lent ≡ old.lent ++ t.lent
   pub freed : new.freed ≡ old.freed ++ t.freed
 
+-- to what was gathered, these stations' desks are added, what they lent and what was freed to them, however each is weighed
+pub record AddsEach (stations : List StationState) (old : GatheredState) (desks : List DeskState) (lent freed : List Buffer)
+    : Type 0 where
+  pub every_desk : (h : DeskState → ℕ) → weigh h desks ≡ weigh h old.desks + weigh (λ (s : StationState). h s.desk) stations
+  pub all_lent : (h : Buffer → ℕ)
+      → weigh h lent ≡ weigh h old.lent + weigh (λ (s : StationState). weigh h s.lent) stations
+  pub all_freed : (h : Buffer → ℕ)
+      → weigh h freed ≡ weigh h old.freed + weigh (λ (s : StationState). weigh h s.freed) stations
+
 -- an inbox was ended
 pub record Closes (old new : GatheredState) : Type 0 where
   pub columns : new.columns + 1 ≡ old.columns

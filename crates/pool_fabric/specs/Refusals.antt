@@ -5,4 +5,4 @@ use Rattle.pool_fabric.specs.declared.error.GatherError.TheVariants.{NoMemory, M
 
 abbrev pub gather_number : GatherError → ℕ
 gather_number NoMemory = 1
-gather_number Missing = 2
+gather_number (Missing f) = 2

@@ -15,21 +15,13 @@ use crate::shelf::Shelf;
 use crate::station::Station;
 use crate::store::Store;
 use batch_inbox::{Mail, Mailbox, Receiver, Sender};
-use digit_route::{Batch, Refused};
-use pool_desk::{Desk, DeskPosting, IdleDesk};
+use digit_route::{Batch, Posting, Refused};
+use pool_desk::Desk;
+use std::fmt;
 use std::sync::{Mutex, Wait};
-use std::{fmt, mem};
 
 /// How many batches a worker takes at a time.
 pub const MOST_TAKEN: u32 = 64;
-
-// Takes a desk out of its place, where an empty one of its number stands for a moment.
-fn taken_out<'r>(place: &mut Desk<'r>) -> Desk<'r>
-    ensures { result ≡ place.old }
-{
-    let empty = IdleDesk::new(place.number(), place.digits(), 0);
-    mem::replace(place, empty.adopt(0))
-}
 
 /// The inboxes, that of each desk at its number, beside the shelf and the stock.
 #[derive(Drop)]
@@ -155,29 +147,26 @@ impl<'r, T: Receiver, S: Sender, M: Mail<'r, TakeSeat = T, SendSeat = S>, J: Nam
     fn post_rounds<R: Wait>(
         &self,
         rt: &R,
-        posting: &mut DeskPosting<'r>,
+        posting: &mut Posting<'r>,
         seats: &mut [S],
     ) -> Refused<'r>
-        requires digits { posting.old.posting.digits ≡ J.names.digits }
-        requires seats { AreSeatsBy J.names posting.old.posting.number
+        requires digits { posting.old.digits ≡ J.names.digits }
+        requires seats { AreSeatsBy J.names posting.old.number
             (map (seat_of S.inbox S.number S.sent S.resting) seats.old) }
         ensures same { posting.new ≡ record posting.old {
-          posting =
-              record posting.old.posting {
-                round = posting.new.posting.round;
-                moves = posting.new.posting.moves;
-                items = posting.new.posting.items;
-              };
+          round = posting.new.round;
+          moves = posting.new.moves;
+          items = posting.new.items;
         } }
-        ensures emptied { posting.new.posting.items ≡ [] }
+        ensures emptied { posting.new.items ≡ [] }
         ensures refused { result ≡ record {
-          number = posting.old.posting.number;
-          digits = posting.old.posting.digits;
+          number = posting.old.number;
+          digits = posting.old.digits;
           items = result.items;
         } }
-        ensures seats { AreSeatsBy J.names posting.old.posting.number
+        ensures seats { AreSeatsBy J.names posting.old.number
             (map (seat_of S.inbox S.number S.sent S.resting) seats.new) }
-        ensures posts { let seat = seat_of S.inbox S.number S.sent S.resting in let p = posting.old.posting in
+        ensures posts { let seat = seat_of S.inbox S.number S.sent S.resting in let p = posting.old in
             Posts p.digits p.number p.items (map seat seats.old) [] result.items (map seat seats.new) }
     {
         let mut refused = Refused::new(posting.number(), posting.digits());
@@ -185,6 +174,80 @@ impl<'r, T: Receiver, S: Sender, M: Mail<'r, TakeSeat = T, SendSeat = S>, J: Nam
             self.post_or_keep(rt, seats, batch, &mut refused);
         }
         refused
+    }
+
+    // Posts all of a desk's cache, which is taken out of the desk, and hands back what was refused. By
+    // itself, since what it has on its stack would else be cleared at every post.
+    #[cold]
+    #[inline(never)]
+    fn post_taken_out<R: Wait>(&self, rt: &R, desk: &mut Desk<'r>, seats: &mut [S]) -> Refused<'r>
+        requires digits { desk.old.digits ≡ J.names.digits }
+        requires seats { AreSeatsBy J.names desk.old.number
+            (map (seat_of S.inbox S.number S.sent S.resting) seats.old) }
+        ensures same { desk.new ≡ record desk.old { cached = [] } }
+        ensures refused { result
+            ≡ record { number = desk.old.number; digits = desk.old.digits; items = result.items } }
+        ensures seats { AreSeatsBy J.names desk.old.number
+            (map (seat_of S.inbox S.number S.sent S.resting) seats.new) }
+        ensures posts { let seat = seat_of S.inbox S.number S.sent S.resting in
+            Posts desk.old.digits desk.old.number desk.old.cached (map seat seats.old)
+            [] result.items (map seat seats.new) }
+    {
+        let mut posting = desk.take_posting();
+        self.post_rounds(rt, &mut posting, seats)
+    }
+
+    // Posts what is left behind the first round, where anything is, and hands back what was refused.
+    #[inline(always)]
+    fn post_later_rounds<R: Wait>(
+        &self,
+        rt: &R,
+        desk: &mut Desk<'r>,
+        seats: &mut [S],
+    ) -> Refused<'r>
+        requires digits { desk.old.digits ≡ J.names.digits }
+        requires seats { AreSeatsBy J.names desk.old.number
+            (map (seat_of S.inbox S.number S.sent S.resting) seats.old) }
+        requires later { All (λ (x : Buffer). 0 < common desk.old.digits x.owner desk.old.number) desk.old.cached }
+        ensures same { desk.new ≡ record desk.old { cached = [] } }
+        ensures refused { result
+            ≡ record { number = desk.old.number; digits = desk.old.digits; items = result.items } }
+        ensures seats { AreSeatsBy J.names desk.old.number
+            (map (seat_of S.inbox S.number S.sent S.resting) seats.new) }
+        ensures posts { let seat = seat_of S.inbox S.number S.sent S.resting in
+            Posts desk.old.digits desk.old.number desk.old.cached (map seat seats.old)
+            [] result.items (map seat seats.new) }
+    {
+        if desk.is_posted() {
+            return Refused::new(desk.number(), desk.digits());
+        }
+        self.post_taken_out(rt, desk, seats)
+    }
+
+    /// Posts all of a desk's cache, as [`Fabric::post_all`] does, and says whether no batch was refused.
+    pub(crate) fn post_in_place<R: Wait>(
+        &self,
+        rt: &R,
+        desk: &mut Desk<'r>,
+        seats: &mut [S],
+    ) -> bool
+        requires digits { desk.old.digits ≡ J.names.digits }
+        requires seats { AreSeatsBy J.names desk.old.number
+            (map (seat_of S.inbox S.number S.sent S.resting) seats.old) }
+        ensures same { desk.new ≡ record desk.old { cached = desk.new.cached } }
+        ensures seats { AreSeatsBy J.names desk.old.number
+            (map (seat_of S.inbox S.number S.sent S.resting) seats.new) }
+        ensures posts { let seat = seat_of S.inbox S.number S.sent S.resting in
+            Posts desk.old.digits desk.old.number desk.old.cached (map seat seats.old)
+            [] desk.new.cached (map seat seats.new) }
+        ensures all { IsTrue result → desk.new.cached ≡ [] }
+    {
+        let first = self.post_first_round(rt, desk, seats);
+        let later = self.post_later_rounds(rt, desk, seats);
+        let all = first.is_empty() && later.is_empty();
+        desk.take_back(first);
+        desk.take_back(later);
+        all
     }
 
     /// Posts all of a desk's cache, round by round. A batch that its inbox refuses, or whose address has
@@ -208,91 +271,12 @@ impl<'r, T: Receiver, S: Sender, M: Mail<'r, TakeSeat = T, SendSeat = S>, J: Nam
             (λ d. Posts d.digits d.number desk.entry.cached (map seat seats.old) [] d.cached (map seat seats.new)) }
         ensures all { IfOk result (λ d. d.cached ≡ []) }
     {
-        let mut posting = desk.posting();
-        let refused = self.post_rounds(rt, &mut posting, seats);
-        let mut desk = posting.end();
-        if refused.is_empty() {
-            return Ok(desk);
+        let mut desk = desk;
+        if self.post_in_place(rt, &mut desk, seats) {
+            Ok(desk)
+        } else {
+            Err(desk)
         }
-        desk.take_back(refused);
-        Err(desk)
-    }
-
-    // Posts all of a desk's cache, which is moved out of its place for that time. Says whether no batch
-    // was refused. By itself, since what it has on its stack would else be cleared at every post.
-    #[cold]
-    #[inline(never)]
-    fn post_moved<R: Wait>(&self, rt: &R, desk: &mut Desk<'r>, seats: &mut [S]) -> bool
-        requires digits { desk.old.digits ≡ J.names.digits }
-        requires seats { AreSeatsBy J.names desk.old.number
-            (map (seat_of S.inbox S.number S.sent S.resting) seats.old) }
-        ensures same { desk.new ≡ record desk.old { cached = desk.new.cached } }
-        ensures seats { AreSeatsBy J.names desk.old.number
-            (map (seat_of S.inbox S.number S.sent S.resting) seats.new) }
-        ensures posts { let seat = seat_of S.inbox S.number S.sent S.resting in
-            Posts desk.old.digits desk.old.number desk.old.cached (map seat seats.old)
-            [] desk.new.cached (map seat seats.new) }
-        ensures all { IsTrue result → desk.new.cached ≡ [] }
-    {
-        let moved = taken_out(desk);
-        match self.post_all(rt, moved, seats) {
-            Ok(posted) => {
-                *desk = posted;
-                true
-            }
-            Err(posted) => {
-                *desk = posted;
-                false
-            }
-        }
-    }
-
-    // Posts what is left behind the first round, where anything is. Says whether no batch was refused.
-    #[inline(always)]
-    fn post_later_rounds<R: Wait>(&self, rt: &R, desk: &mut Desk<'r>, seats: &mut [S]) -> bool
-        requires digits { desk.old.digits ≡ J.names.digits }
-        requires seats { AreSeatsBy J.names desk.old.number
-            (map (seat_of S.inbox S.number S.sent S.resting) seats.old) }
-        requires later { All (λ (x : Buffer). 0 < common desk.old.digits x.owner desk.old.number) desk.old.cached }
-        ensures same { desk.new ≡ record desk.old { cached = desk.new.cached } }
-        ensures seats { AreSeatsBy J.names desk.old.number
-            (map (seat_of S.inbox S.number S.sent S.resting) seats.new) }
-        ensures posts { let seat = seat_of S.inbox S.number S.sent S.resting in
-            Posts desk.old.digits desk.old.number desk.old.cached (map seat seats.old)
-            [] desk.new.cached (map seat seats.new) }
-        ensures all { IsTrue result → desk.new.cached ≡ [] }
-    {
-        if desk.is_posted() {
-            return true;
-        }
-        self.post_moved(rt, desk, seats)
-    }
-
-    /// Posts all of a desk's cache, as [`Fabric::post_all`] does, and says whether no batch was refused.
-    /// The desk is moved only where buffers are left whose owners share a digit with it: a desk is some
-    /// kilobytes, and it is posted often.
-    pub(crate) fn post_in_place<R: Wait>(
-        &self,
-        rt: &R,
-        desk: &mut Desk<'r>,
-        seats: &mut [S],
-    ) -> bool
-        requires digits { desk.old.digits ≡ J.names.digits }
-        requires seats { AreSeatsBy J.names desk.old.number
-            (map (seat_of S.inbox S.number S.sent S.resting) seats.old) }
-        ensures same { desk.new ≡ record desk.old { cached = desk.new.cached } }
-        ensures seats { AreSeatsBy J.names desk.old.number
-            (map (seat_of S.inbox S.number S.sent S.resting) seats.new) }
-        ensures posts { let seat = seat_of S.inbox S.number S.sent S.resting in
-            Posts desk.old.digits desk.old.number desk.old.cached (map seat seats.old)
-            [] desk.new.cached (map seat seats.new) }
-        ensures all { IsTrue result → desk.new.cached ≡ [] }
-    {
-        let refused = self.post_first_round(rt, desk, seats);
-        let rest = self.post_later_rounds(rt, desk, seats);
-        let first = refused.is_empty();
-        desk.take_back(refused);
-        first && rest
     }
 
     /// Takes batches from the desk's inbox and handles each, until it is given none, but not more

@@ -14,6 +14,7 @@ use crate::error::GatherError;
 use crate::fabric::Fabric;
 use crate::gathered::Gathered;
 use crate::held::HeldStation;
+use crate::in_part::in_part;
 use crate::ledger::{Ledger, Page};
 use crate::naming::Naming;
 use crate::notes::Notes;
@@ -70,7 +71,7 @@ fn out_of<'r, T: Receiver, S: Sender, J: Naming>(
     number: usize,
 ) -> Option<HeldStation<'r, T, S, J>>
     ensures { MatchOption result
-        (LacksNumber number stations.old.items)
+        (LacksNumber number stations.old.items × (stations.new.items ≡ stations.old.items))
         (λ s. (s.desk.number ≡ number) × IsPermutation stations.old.items (s ∷ stations.new.items)) }
 {
     let at = place_of(stations.as_slice(), number)?;
@@ -85,7 +86,7 @@ fn add_all<'r, T: Receiver, S: Sender, J: Naming, R: Wait>(
     stations: Vec<HeldStation<'r, T, S, J>>,
     columns: usize,
     page: Page,
-) -> Result<Gathered<'r, T, S, J>, GatherError>
+) -> Result<Gathered<'r, T, S, J>, GatherError<'r>>
     requires ledger { ledger.now ≡ J.names.ledger }
     requires columns { columns ≡ J.names.count }
     requires page { (page.key ≡ J.names.ledger) × (page.got ≡ []) × (0 < page.parts)
@@ -100,7 +101,10 @@ fn add_all<'r, T: Receiver, S: Sender, J: Naming, R: Wait>(
     let mut gathered = Gathered::new(alloc, columns, page);
     for number in 0..columns {
         let Some(station) = out_of(&mut stations, number) else {
-            return Err(GatherError::Missing);
+            let Ok(found) = in_part(number, gathered, stations) else {
+                return Err(GatherError::NoMemory);
+            };
+            return Err(GatherError::Missing(found));
         };
         let Ok(more) = gathered.add(ledger, station) else {
             return Err(GatherError::NoMemory);
@@ -209,8 +213,9 @@ fn all_of<'r, T: Receiver, S: Sender, J: Naming>(
 /// drew, each for its class. Of the stations that are handed in, all is found as it was: their desks,
 /// what they lent and what was freed to them, each buffer with its bytes.
 ///
-/// A want of memory is told as [`GatherError::NoMemory`], a desk whose station did not come back as
-/// [`GatherError::Missing`].
+/// A want of memory is told as [`GatherError::NoMemory`]. A desk whose station did not come back is told
+/// as [`GatherError::Missing`] by its number, the least one where there are several, with all that the
+/// others have.
 pub fn gather<
     'r,
     T: Receiver,
@@ -223,7 +228,7 @@ pub fn gather<
     alloc: Global,
     fabric: Fabric<'r, M, T, S, J>,
     held: Vec<HeldStation<'r, T, S, J>>,
-) -> Result<Found<'r>, GatherError>
+) -> Result<Found<'r>, GatherError<'r>>
     ensures whole { IfOk result (λ f.
         IsWhole f.desks.items f.batches.items f.lent.items f.freed.items f.parts.items J.names.chunks) }
     ensures desks { IfOk result (λ f. IsEachDesk J.names.count f.desks.items) }

@@ -123,7 +123,7 @@ impl<'r, T: Receiver, S: Sender, J: Naming> Gathered<'r, T, S, J> {
             freed: more_freed,
             of: _,
         } = station;
-        desks.push(desk)?;
+        desks.push(Box::into_inner(desk))?;
         takes.push(take)?;
         rows.push(Row::new(seats))?;
         ledger.join(&mut page, theirs);

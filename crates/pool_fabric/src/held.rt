@@ -22,7 +22,8 @@ use std::marker::Model;
 #[must_use]
 #[derive(Drop)]
 pub struct HeldStation<'r, T: Receiver, S: Sender, J: Naming> {
-    pub(crate) desk: Desk<'r>,
+    // In a box, as in a `Station`.
+    pub(crate) desk: Box<Desk<'r>>,
     pub(crate) take: T,
     pub(crate) seats: Vec<S>,
     pub(crate) page: Page,
@@ -39,7 +40,7 @@ impl<'r, T: Receiver, S: Sender, J: Naming> Model for HeldStation<'r, T, S, J> {
     ghost Value = { StationState };
 
     ghost view = { λ s. record {
-      desk = s.desk;
+      desk = s.desk.value;
       take = record { inbox = T.inbox s.take; senders = T.senders s.take; taken = T.taken s.take };
       seats = map (seat_of S.inbox S.number S.sent S.resting) s.seats.items;
       page = s.page;
@@ -48,7 +49,7 @@ impl<'r, T: Receiver, S: Sender, J: Naming> Model for HeldStation<'r, T, S, J> {
     } };
 
     ghost invariant = { λ s. IsStation J.names (record {
-      desk = s.desk;
+      desk = s.desk.value;
       take = record { inbox = T.inbox s.take; senders = T.senders s.take; taken = T.taken s.take };
       seats = map (seat_of S.inbox S.number S.sent S.resting) s.seats.items;
       page = s.page;
@@ -140,8 +141,11 @@ impl<'r, T: Receiver, S: Sender, J: Naming> HeldStation<'r, T, S, J> {
             (λ t. (s.desk.cached ≡ []) × (t ≡ record s { desk = record s.desk { worker = 0 } }))
             (λ t. (s.desk.cached ≢ []) × (t ≡ s)) }
     {
+        if !self.desk.is_settled() {
+            return Err(self);
+        }
         let HeldStation {
-            desk,
+            mut desk,
             take,
             seats,
             page,
@@ -149,26 +153,16 @@ impl<'r, T: Receiver, S: Sender, J: Naming> HeldStation<'r, T, S, J> {
             freed,
             of,
         } = self;
-        match desk.retire() {
-            Ok(desk) => Ok(Station {
-                desk,
-                take,
-                seats,
-                page,
-                lent,
-                freed,
-                of,
-            }),
-            Err(desk) => Err(HeldStation {
-                desk,
-                take,
-                seats,
-                page,
-                lent,
-                freed,
-                of,
-            }),
-        }
+        desk.pass_to(0);
+        Ok(Station {
+            desk,
+            take,
+            seats,
+            page,
+            lent,
+            freed,
+            of,
+        })
     }
 }
 

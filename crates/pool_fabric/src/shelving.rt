@@ -97,7 +97,7 @@ fn shelved<'r, T: Receiver, S: Sender, J: Naming>(
         columns = others;
         let desk = IdleDesk::new(number as u16, digits, limit);
         let page = ledger.split(book);
-        let station = Station::new(desk, take, seats, page);
+        let station = Station::new(alloc, desk, take, seats, page)?;
         shelf.push(station);
     }
     Ok(shelf)

@@ -1,5 +1,5 @@
 //! A desk that nobody holds, with its seats.
-ghost use Rattle.std.specs.Prelude.{◌≡◌, [], length, map};
+ghost use Rattle.std.specs.Prelude.{◌≡◌, [], length, map, IfOk};
 ghost use Rattle.pool_fabric.specs.Names.{box_at};
 ghost use Rattle.pool_fabric.specs.Seats.{seat_of, AreSeatsBy, NoneSent};
 ghost use Rattle.pool_fabric.specs.Stations.{resting};
@@ -10,8 +10,9 @@ use crate::named::Named;
 use crate::naming::Naming;
 use crate::notes::Notes;
 use batch_inbox::{Receiver, Sender};
-use pool_desk::IdleDesk;
-use slot_chain::Buf;
+use pool_desk::{Desk, IdleDesk};
+use slot_chain::{Buf, NoMemory};
+use std::alloc::Global;
 use std::fmt;
 use std::marker::Model;
 
@@ -24,7 +25,8 @@ use std::marker::Model;
 #[must_use]
 #[derive(Drop)]
 pub struct Station<'r, T: Receiver, S: Sender, J: Naming> {
-    pub(crate) desk: IdleDesk<'r>,
+    // It has no worker, and lies in a box, so that a station is moved cheaply: a desk is some kilobytes.
+    pub(crate) desk: Box<Desk<'r>>,
     pub(crate) take: T,
     pub(crate) seats: Vec<S>,
     pub(crate) page: Page,
@@ -36,12 +38,13 @@ pub struct Station<'r, T: Receiver, S: Sender, J: Naming> {
 impl<'r, T: Receiver, S: Sender, J: Naming> Model for Station<'r, T, S, J> {
     ghost use Rattle.std.specs.Prelude.{map};
     ghost use Rattle.pool_fabric.specs.Seats.{seat_of};
-    ghost use Rattle.pool_fabric.specs.Stations.{StationState, IsStation, resting};
+    ghost use Rattle.std.specs.Prelude.{◌≡◌, []};
+    ghost use Rattle.pool_fabric.specs.Stations.{StationState, IsStation};
 
     ghost Value = { StationState };
 
     ghost view = { λ s. record {
-      desk = resting s.desk;
+      desk = s.desk.value;
       take = record { inbox = T.inbox s.take; senders = T.senders s.take; taken = T.taken s.take };
       seats = map (seat_of S.inbox S.number S.sent S.resting) s.seats.items;
       page = s.page;
@@ -49,8 +52,8 @@ impl<'r, T: Receiver, S: Sender, J: Naming> Model for Station<'r, T, S, J> {
       freed = s.freed.items;
     } };
 
-    ghost invariant = { λ s. IsStation J.names (record {
-      desk = resting s.desk;
+    ghost invariant = { λ s. (s.desk.value.cached ≡ []) × IsStation J.names (record {
+      desk = s.desk.value;
       take = record { inbox = T.inbox s.take; senders = T.senders s.take; taken = T.taken s.take };
       seats = map (seat_of S.inbox S.number S.sent S.resting) s.seats.items;
       page = s.page;
@@ -60,8 +63,15 @@ impl<'r, T: Receiver, S: Sender, J: Naming> Model for Station<'r, T, S, J> {
 }
 
 impl<'r, T: Receiver, S: Sender, J: Naming> Station<'r, T, S, J> {
-    /// A station at which nothing was drawn, sent, taken, lent or freed yet.
-    pub fn new(desk: IdleDesk<'r>, take: T, seats: Vec<S>, page: Page) -> Station<'r, T, S, J>
+    /// A station at which nothing was drawn, sent, taken, lent or freed yet. It takes memory, for the
+    /// desk.
+    pub fn new(
+        alloc: Global,
+        desk: IdleDesk<'r>,
+        take: T,
+        seats: Vec<S>,
+        page: Page,
+    ) -> Result<Station<'r, T, S, J>, NoMemory>
         requires desk { (desk.home ≡ []) × (desk.drawn ≡ []) }
         requires profile { (desk.digits ≡ J.names.digits) × (desk.limit ≡ J.names.limit) }
         requires take { (T.inbox take ≡ box_at J.names desk.number) × (T.senders take ≡ J.names.count)
@@ -70,10 +80,11 @@ impl<'r, T: Receiver, S: Sender, J: Naming> Station<'r, T, S, J> {
             × (length seats.items ≡ J.names.count)
             × NoneSent (map (seat_of S.inbox S.number S.sent S.resting) seats.items) }
         requires page { page ≡ record { key = J.names.ledger; parts = 1; gave = []; got = [] } }
-        ensures desk { result.desk ≡ resting desk.entry }
-        ensures notes { (result.lent ≡ []) × (result.freed ≡ []) }
+        ensures desk { IfOk result (λ s. s.desk ≡ resting desk.entry) }
+        ensures notes { IfOk result (λ s. (s.lent ≡ []) × (s.freed ≡ [])) }
     {
-        Station {
+        let desk = Box::new(alloc, desk.adopt(0))?;
+        Ok(Station {
             desk,
             take,
             seats,
@@ -81,22 +92,23 @@ impl<'r, T: Receiver, S: Sender, J: Naming> Station<'r, T, S, J> {
             lent: Notes::new(),
             freed: Notes::new(),
             of: Named::new(),
-        }
+        })
     }
 
-    /// The desk's number.
+    /// The desk's number. Nothing is in its cache.
     pub fn number(&self) -> u16
-        ensures { result ≡ self.now.desk.number }
+        ensures value { result ≡ self.now.desk.number }
+        ensures idle { self.now.desk.cached ≡ [] }
     {
         self.desk.number()
     }
 
-    /// The station in the hands of a worker.
+    /// The station in the hands of a worker. It takes no memory.
     pub fn adopt(self, worker: u32) -> HeldStation<'r, T, S, J>
         ensures { let s = self.entry in result ≡ record s { desk = record s.desk { worker = worker } } }
     {
         let Station {
-            desk,
+            mut desk,
             take,
             seats,
             page,
@@ -104,8 +116,9 @@ impl<'r, T: Receiver, S: Sender, J: Naming> Station<'r, T, S, J> {
             freed,
             of,
         } = self;
+        desk.pass_to(worker);
         HeldStation {
-            desk: desk.adopt(worker),
+            desk,
             take,
             seats,
             page,

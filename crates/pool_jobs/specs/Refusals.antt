@@ -4,6 +4,8 @@ use Rattle.pool_jobs.specs.declared.error.PoolError.{PoolError}
 use Rattle.pool_jobs.specs.declared.error.PoolError.TheVariants.{TooLarge, UsedUp, NoMemory}
 use Rattle.pool_jobs.specs.declared.error.JobError.{JobError}
 use Rattle.pool_jobs.specs.declared.error.JobError.TheVariants as Job
+use Rattle.pool_fabric.specs.declared.error.GatherError.{GatherError}
+use Rattle.pool_fabric.specs.declared.error.GatherError.TheVariants as Gather
 
 abbrev pub shortage_number : PoolError → ℕ
 shortage_number TooLarge = 1
@@ -13,3 +15,8 @@ shortage_number NoMemory = 3
 abbrev pub job_number : JobError → ℕ
 job_number Job.NoMemory = 1
 job_number Job.NoThread = 2
+
+-- why there is no tally where not all was gathered
+abbrev pub job_error_of : GatherError → JobError
+job_error_of Gather.NoMemory = Job.NoMemory
+job_error_of (Gather.Missing f) = Job.NoThread

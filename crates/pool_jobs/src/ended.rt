@@ -3,7 +3,8 @@ ghost use Rattle.std.specs.Prelude.{◌≡◌, ◌-◌, List, ◌++◌, IfOk, If
 ghost use Rattle.pool_fabric.specs.Stations.{StationState};
 ghost use Rattle.pool_fabric.specs.Whole.{IsWhole, IsAllOf, IsEachDesk, AreNoted};
 ghost use Rattle.pool_fabric.specs.Audited.{Audited};
-ghost use Rattle.pool_jobs.specs.Ends.{slots_found, IsEndFault};
+ghost use Rattle.pool_fabric.specs.Faults.{IsGatherFault};
+ghost use Rattle.pool_jobs.specs.Ends.{slots_found};
 
 use crate::back::Back;
 use crate::error::JobError;
@@ -38,7 +39,7 @@ pub struct Finished<'r, A: Drop> {
 /// in every inbox.
 ///
 /// Whatever the schedule was, nothing is lost and nothing is there twice. Where a station is missing
-/// the answer is [`JobError::NoThread`]. After an error all is given up.
+/// the answer is [`GatherError::Missing`], with the number of its desk and all that the others have.
 pub fn settle<
     'r,
     T: Receiver,
@@ -52,7 +53,7 @@ pub fn settle<
     fabric: Fabric<'r, M, T, S, J>,
     held: Vec<HeldStation<'r, T, S, J>>,
     counts: BufferCounts,
-) -> Result<Ended<'r>, JobError>
+) -> Result<Ended<'r>, GatherError<'r>>
     ensures whole { IfOk result (λ e. IsWhole e.found.desks.items e.found.batches.items e.found.lent.items
         e.found.freed.items e.found.parts.items J.names.chunks) }
     ensures desks { IfOk result (λ e. IsEachDesk J.names.count e.found.desks.items) }
@@ -62,17 +63,12 @@ pub fn settle<
     ensures audit { IfOk result (λ e. Audited (slots_found e.found.desks.items e.found.batches.items)
         e.found.drawn e.tally.audit) }
     ensures counts { IfOk result (λ e. e.tally.counts ≡ counts) }
-    ensures missing { IfErr result (IsEndFault J.names.count held.entry.items) }
+    ensures missing { IfErr result (IsGatherFault J.names.count held.entry.items) }
 {
-    match gather(rt, alloc, fabric, held) {
-        Ok(found) => {
-            let audit = account(alloc, &[], &found.desks, &found.batches, &found.drawn);
-            let tally = Tally { counts, audit };
-            Ok(Ended { tally, found })
-        }
-        Err(GatherError::NoMemory) => Err(JobError::NoMemory),
-        Err(GatherError::Missing) => Err(JobError::NoThread),
-    }
+    let found = gather(rt, alloc, fabric, held)?;
+    let audit = account(alloc, &[], &found.desks, &found.batches, &found.drawn);
+    let tally = Tally { counts, audit };
+    Ok(Ended { tally, found })
 }
 
 /// Gathers all that there is when all tasks have ended, as [`settle`] does. What was allocated and not

@@ -1,7 +1,8 @@
 //! Why there is no buffer, and why there is no tally.
 ghost use Rattle.std.specs.Prelude.{◌≡◌};
-ghost use Rattle.pool_jobs.specs.Refusals.{shortage_number, job_number};
+ghost use Rattle.pool_jobs.specs.Refusals.{shortage_number, job_number, job_error_of};
 
+use pool_fabric::GatherError;
 use slot_chain::NoMemory;
 use std::alloc::{AllocError, AllocFailed};
 use thiserror::Error;
@@ -52,6 +53,17 @@ impl JobError {
         match self {
             JobError::NoMemory => 1,
             JobError::NoThread => 2,
+        }
+    }
+}
+
+impl<'r> From<GatherError<'r>> for JobError {
+    fn from(refused: GatherError<'r>) -> JobError
+        ensures { result ≡ job_error_of refused.entry }
+    {
+        match refused {
+            GatherError::NoMemory => JobError::NoMemory,
+            GatherError::Missing(_) => JobError::NoThread,
         }
     }
 }

@@ -69,7 +69,7 @@ where
     let fabric = Fabric::open(alloc, opening)?;
     let rounds = Rounds::new(alloc, &fabric, gate, workload, plan, workers);
     let Back { held, counts } = all_rounds::<G, N, J, R>(rt, alloc, rounds)?;
-    settle(rt, alloc, fabric, held, counts)
+    Ok(settle(rt, alloc, fabric, held, counts)?)
 }
 
 /// Runs a workload with a worker for each desk of the opening, in threads, and accounts for all that

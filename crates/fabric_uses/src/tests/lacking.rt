@@ -1,4 +1,4 @@
-//! A station that is dropped is missing at the end.
+//! A station that is dropped is missing at the end, and the other desks are found.
 
 ghost use Rattle.std.specs.Prelude.{◌≤◌};
 
@@ -9,8 +9,8 @@ use region_cut::{CHUNK, cut};
 use std::sync::Wait;
 use std::test::Fail;
 
-// Whether a station is told as missing, at so many desks.
-fn is_missing<R: AllocGlobal + Wait>(rt: &R, desks: u16) -> Result<bool, Fail>
+// Whether the desk of this number is told as missing, and the others are found, at so many desks.
+fn is_missing<R: AllocGlobal + Wait>(rt: &R, desks: u16, missing: u16) -> Result<bool, Fail>
     requires { (1 ≤ desks) × (desks ≤ 64) }
 {
     let alloc = rt.alloc();
@@ -18,16 +18,21 @@ fn is_missing<R: AllocGlobal + Wait>(rt: &R, desks: u16) -> Result<bool, Fail>
     let parts = cut(alloc, region.as_mut_slice())?;
     let digits = Digits::new(2).ok_or("two bits")?;
     let opening = Opening::new(alloc, parts, desks, digits, 4_096)?;
-    match without_one(rt, alloc, opening) {
-        Err(GatherError::Missing) => Ok(true),
+    match without_one(rt, alloc, opening, missing) {
+        Err(GatherError::Missing(found)) => {
+            let others = usize::from(desks) - 1;
+            Ok(found.missing == usize::from(missing) && found.desks.len() == others)
+        }
         _ => Ok(false),
     }
 }
 
 #[test]
 fn a_dropped_station_is_missing(rt: HostRuntime) -> Result<(), Fail> {
-    assert!(rt; is_missing(&rt, 1)?);
-    assert!(rt; is_missing(&rt, 2)?);
-    assert!(rt; is_missing(&rt, 64)?);
+    assert!(rt; is_missing(&rt, 1, 0)?);
+    assert!(rt; is_missing(&rt, 2, 1)?);
+    assert!(rt; is_missing(&rt, 64, 17)?);
+    // one that there isn't is not missing
+    assert!(rt; !is_missing(&rt, 64, 64)?);
     Ok(())
 }

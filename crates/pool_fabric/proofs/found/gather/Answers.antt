@@ -44,7 +44,7 @@ pub returns-in_err-gathered-clause-missing : goal.returns-in_err-gathered-clause
 returns-in_err-gathered-clause-missing g c =
     let count = sym (length-mapped g.M.Mailbox.id c.args.fabric.inboxes.items) ∙ c.args.fabric.boxes.count in
     passed_on (IsGatherFault g.J.Naming.names.count c.args.held.items) c.from_residual.result c.in_err-gathered.field-0.0 c.from_residual.ensures
-    (lacks_of _ _ c.in-Ok.stations.items c.args.held.items _ (c.len.ensures ∙ c.args.fabric.inboxes.ok.0 ∙ count) (λ a l. (c.in-Ok.ensures.numbers a l).1) c.in_err-gathered.ensures.fault)
+    (lacks_of _ _ c.in-Ok.stations.items c.args.held.items c.in-Ok.ensures.held.0 _ (c.len.ensures ∙ c.args.fabric.inboxes.ok.0 ∙ count) c.in-Ok.ensures.held.1 (λ a l. (c.in-Ok.ensures.numbers a l).1) c.in_err-gathered.ensures.fault)
 
 pub returns-clause-stations : goal.returns-clause-stations
 returns-clause-stations g c =

@@ -9,8 +9,8 @@ use Rattle.pool_fabric.proofs.Columns.{map-snoc}
 use Rattle.pool_fabric.proofs.Opens.{take_popped}
 use Rattle.pool_fabric.proofs.shelving.shelved.Goals as goal
 
-pub new-station-requires-clause-take : goal.new-station-requires-clause-take
-new-station-requires-clause-take g c =
+pub new-requires-in-Some-clause-take : goal.new-requires-in-Some-clause-take
+new-requires-in-Some-clause-take g c =
     let taking = taking_of g.T.Receiver.inbox g.T.Receiver.senders g.T.Receiver.taken in
     let rest = c.pop.new.self in
     let popped = ap (map taking) c.in-Some.ensures.items ∙ map-snoc taking rest.items c.in-Some.take in
@@ -29,7 +29,7 @@ loop-take-preserved g c =
     let left = c.split-page.ensures.left in
     let parts = ap (λ (p : PageState). p.parts) left in
     let put = ap length c.push.ensures in
-    let put_one = length-append c.loop-take.shelf (c.new-station.result ∷ []) in
+    let put_one = length-append c.loop-take.shelf (c.in_ok-station.station ∷ []) in
     let takes = ap length c.in-Some.ensures.items in
     let takes_one = length-append rest.items (c.in-Some.take ∷ []) in
     let on_shelf = i.shelf in

@@ -1,47 +1,51 @@
 use Rattle.std.proofs.Common.{◌≡◌, [], ◌++◌, List, length, map, ap, sym, ◌∙◌, subst, IsPermutation}
 use Rattle.std.proofs.lemmas.List.{nil_from_length}
-use Rattle.std.proofs.lemmas.List.Sorted.{IsPermutation-refl, IsPermutation-trans, IsPermutation-append_comm, length_permutation}
+use Rattle.std.proofs.lemmas.Bool.{false≢true}
+use Rattle.std.proofs.lemmas.List.Sorted.{IsPermutation-refl, IsPermutation-trans, IsPermutation-append_left, length_permutation}
 use Rattle.slot_chain.specs.Buffer.{Buffer}
 use Rattle.digit_route.specs.Digits.{Scheme}
 use Rattle.pool_desk.specs.Desks.{DeskState}
 use Rattle.pool_fabric.specs.Seats.{SeatState, seat_of}
 use Rattle.pool_fabric.specs.Posts.{Posts}
 use Rattle.pool_fabric.proofs.Posting.{posts_end, posts_then}
+use Rattle.pool_fabric.proofs.fabric.Fabric.post_in_place.Goals.{then-is_empty, else-is_empty}
 use Rattle.pool_fabric.proofs.fabric.Fabric.post_in_place.Goals as goal
 
--- the first round and the later ones, and then what was refused in the first goes back
-in_all : (d e : DeskState) (x y z : List Buffer) (ss ss' ss'' : List SeatState) → e.number ≡ d.number → e.digits ≡ d.digits
-    → Posts d.digits d.number d.cached ss e.cached x ss' → Posts e.digits e.number e.cached ss' [] y ss'' → IsPermutation (y ++ x) z
-    → Posts d.digits d.number d.cached ss [] z ss''
-in_all d e x y z ss ss' ss'' number digits first later back =
+-- the first round and the later ones, and then what was refused in each goes back
+in_all : (d e : DeskState) (l x y u v : List Buffer) (ss ss' ss'' : List SeatState) → e.number ≡ d.number → e.digits ≡ d.digits
+    → Posts d.digits d.number d.cached ss e.cached x ss' → Posts e.digits e.number e.cached ss' [] y ss''
+    → l ≡ [] → IsPermutation (l ++ x) u → IsPermutation (u ++ y) v
+    → Posts d.digits d.number d.cached ss [] v ss''
+in_all d e l x y u v ss ss' ss'' number digits first later none back again =
     let same : Posts d.digits d.number e.cached ss' [] y ss'' =
     subst (λ (s : Scheme). Posts s d.number e.cached ss' [] y ss'') digits (subst (λ n. Posts e.digits n e.cached ss' [] y ss'') number later) in
     let both = posts_then d.digits d.number d.cached e.cached [] x y ss ss' ss'' first same in
-    posts_end d.digits d.number d.cached [] [] (x ++ y) z ss ss'' both (IsPermutation-refl []) (IsPermutation-trans _ _ _ (IsPermutation-append_comm x y) back)
+    let x_back : IsPermutation x u = subst (λ k. IsPermutation (k ++ x) u) none back in
+    posts_end d.digits d.number d.cached [] [] (x ++ y) v ss ss'' both (IsPermutation-refl [])
+    (IsPermutation-trans _ _ _ (IsPermutation-append_left y x u x_back) again)
 
-pub returns-then-first-clause-posts : goal.returns-then-first-clause-posts
-returns-then-first-clause-posts g c =
+pub returns-clause-posts : goal.returns-clause-posts
+returns-clause-posts g c =
     let as_seat = seat_of g.S.Sender.inbox g.S.Sender.number g.S.Sender.sent g.S.Sender.resting in
-    let f = c.post_first_round-refused in
-    let l = c.post_later_rounds-rest in
-    in_all c.args.desk.now f.new.desk f.result.items l.new.desk.cached c.take_back.new.self.cached
+    let f = c.post_first_round-first in
+    let l = c.post_later_rounds-later in
+    in_all c.args.desk.now f.new.desk l.new.desk.cached f.result.items l.result.items c.take_back.new.self.cached c.take_back-2.new.self.cached
     (map as_seat c.args.seats.now) (map as_seat f.new.seats) (map as_seat l.new.seats)
-    (ap (λ (d : DeskState). d.number) f.ensures.same) (ap (λ (d : DeskState). d.digits) f.ensures.same) f.ensures.posts l.ensures.posts c.take_back.ensures.items
+    (ap (λ (d : DeskState). d.number) f.ensures.same) (ap (λ (d : DeskState). d.digits) f.ensures.same) f.ensures.posts l.ensures.posts
+    (ap (λ (d : DeskState). d.cached) l.ensures.same) c.take_back.ensures.items c.take_back-2.ensures.items
 
-pub returns-else-first-clause-posts : goal.returns-else-first-clause-posts
-returns-else-first-clause-posts g c =
-    let as_seat = seat_of g.S.Sender.inbox g.S.Sender.number g.S.Sender.sent g.S.Sender.resting in
-    let f = c.post_first_round-refused in
-    let l = c.post_later_rounds-rest in
-    in_all c.args.desk.now f.new.desk f.result.items l.new.desk.cached c.take_back.new.self.cached
-    (map as_seat c.args.seats.now) (map as_seat f.new.seats) (map as_seat l.new.seats)
-    (ap (λ (d : DeskState). d.number) f.ensures.same) (ap (λ (d : DeskState). d.digits) f.ensures.same) f.ensures.posts l.ensures.posts c.take_back.ensures.items
+nothing : (u x v y l : List Buffer) → l ≡ [] → x ≡ [] → y ≡ [] → IsPermutation (l ++ x) u → IsPermutation (u ++ y) v → v ≡ []
+nothing u x v y l a b d p q =
+    let e : l ++ x ≡ [] = ap (λ k. k ++ x) a ∙ b in
+    let f : u ≡ [] = nil_from_length u (length_permutation (l ++ x) u p ∙ ap length e) in
+    let h : u ++ y ≡ [] = ap (λ k. k ++ y) f ∙ d in
+    nil_from_length v (length_permutation (u ++ y) v q ∙ ap length h)
 
-pub returns-then-first-clause-all : goal.returns-then-first-clause-all
-returns-then-first-clause-all g c = λ t.
-    let x = c.post_first_round-refused.result.items in
-    let y = c.post_later_rounds-rest.new.desk.cached in
-    let first : x ≡ [] = c.is_empty-first.ensures.0 c.if-first.true in
-    let later : y ≡ [] = c.post_later_rounds-rest.ensures.all t in
-    let none : y ++ x ≡ [] = ap (λ l. l ++ x) later ∙ first in
-    nil_from_length c.take_back.new.self.cached (length_permutation (y ++ x) c.take_back.new.self.cached c.take_back.ensures.items ∙ ap length none)
+pub returns-clause-all : goal.returns-clause-all
+returns-clause-all g c = λ t. elim c.if-is_empty.branch [
+    then-is_empty w ↦
+    nothing c.take_back.new.self.cached c.post_first_round-first.result.items c.take_back-2.new.self.cached c.post_later_rounds-later.result.items
+    c.post_later_rounds-later.new.desk.cached (ap (λ (d : DeskState). d.cached) c.post_later_rounds-later.ensures.same) (c.is_empty.ensures.0 w.if-is_empty.true)
+    (w.is_empty-all.ensures.0 (sym w.all-is ∙ t)) c.take_back.ensures.items c.take_back-2.ensures.items
+    | else-is_empty w ↦ absurd (false≢true (sym (w.all-is ∙ w.if-is_empty.false) ∙ t))
+  ]

@@ -2,8 +2,7 @@ use Rattle.std.proofs.Common.{◌≡◌, ◌∷◌, ◌++◌, List, map, refl, s
 use Rattle.slot_chain.specs.Buffer.{Buffer}
 use Rattle.digit_route.specs.Digits.{Scheme}
 use Rattle.digit_route.specs.Route.{GivesBucket}
-use Rattle.digit_route.specs.States.{RefusedState}
-use Rattle.pool_desk.specs.Desks.{DeskPostingState}
+use Rattle.digit_route.specs.States.{PostingState, RefusedState}
 use Rattle.pool_fabric.specs.Seats.{seat_of}
 use Rattle.pool_fabric.specs.Posts.{Posts}
 use Rattle.pool_fabric.proofs.Posting.{posts_none, posts_more, seats_kept, batch_smaller}
@@ -13,7 +12,7 @@ pub loop-batch-init : goal.loop-batch-init
 loop-batch-init g c =
     let as_seat = seat_of g.S.Sender.inbox g.S.Sender.number g.S.Sender.sent g.S.Sender.resting in
     let ss = map as_seat c.args.seats.now in
-    let d = c.args.posting.now.posting in
+    let d = c.args.posting.now in
     let e = c.new-refused.ensures in
     record {
       same = refl;
@@ -31,29 +30,29 @@ loop-batch-smaller g c =
     let v = c.in-Some.ensures.value in
     let at = v.routed.owned in
     let l = at.2 in
-    batch_smaller c.loop-batch.posting.posting.items c.in-Some.batch.items c.next_batch.new.self.posting.items v.taken.together (omega arith)
+    batch_smaller c.loop-batch.posting.items c.in-Some.batch.items c.next_batch.new.self.items v.taken.together (omega arith)
 
 pub loop-batch-preserved : goal.loop-batch-preserved
 loop-batch-preserved g c =
     let i = c.loop-batch.invariant in
     let as_seat = seat_of g.S.Sender.inbox g.S.Sender.number g.S.Sender.sent g.S.Sender.resting in
     let b = c.in-Some.batch in
-    let d = c.args.posting.now.posting in
-    let new = c.next_batch.new.self.posting in
+    let d = c.args.posting.now in
+    let new = c.next_batch.new.self in
     let goes = c.post_or_keep.ensures.goes in
     let ss = map as_seat c.loop-batch.seats in
     let after = map as_seat c.post_or_keep.new.seats in
     let x = c.loop-batch.refused.items in
     let y = c.post_or_keep.new.refused.items in
-    let number : c.loop-batch.posting.posting.number ≡ d.number = ap (λ (p : DeskPostingState). p.posting.number) i.same in
-    let digits : c.loop-batch.posting.posting.digits ≡ d.digits = ap (λ (p : DeskPostingState). p.posting.digits) i.same in
-    let gives : GivesBucket d.digits d.number c.loop-batch.posting.posting.items b new.items =
-    subst (λ (s : Scheme). GivesBucket s d.number c.loop-batch.posting.posting.items b new.items) digits
-    (subst (λ a. GivesBucket c.loop-batch.posting.posting.digits a c.loop-batch.posting.posting.items b new.items) number c.in-Some.ensures.value) in
+    let number : c.loop-batch.posting.number ≡ d.number = ap (λ (p : PostingState). p.number) i.same in
+    let digits : c.loop-batch.posting.digits ≡ d.digits = ap (λ (p : PostingState). p.digits) i.same in
+    let gives : GivesBucket d.digits d.number c.loop-batch.posting.items b new.items =
+    subst (λ (s : Scheme). GivesBucket s d.number c.loop-batch.posting.items b new.items) digits
+    (subst (λ a. GivesBucket c.loop-batch.posting.digits a c.loop-batch.posting.items b new.items) number c.in-Some.ensures.value) in
     record {
       same = c.in-Some.ensures.same
-          ∙ ap (λ (p : DeskPostingState). record p { posting = record p.posting { round = new.round; moves = new.moves; items = new.items } }) i.same;
+          ∙ ap (λ (p : PostingState). record p { round = new.round; moves = new.moves; items = new.items }) i.same;
       refused = c.post_or_keep.ensures.same ∙ ap (λ (r : RefusedState). record r { items = y }) i.refused;
       seats = seats_kept g.J.Naming.names d.number b ss after x y i.seats goes;
-      posts = posts_more d.digits d.number d.items c.loop-batch.posting.posting.items new.items x y (map as_seat c.args.seats.now) ss after b i.posts gives goes;
+      posts = posts_more d.digits d.number d.items c.loop-batch.posting.items new.items x y (map as_seat c.args.seats.now) ss after b i.posts gives goes;
     }

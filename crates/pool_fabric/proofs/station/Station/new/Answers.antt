@@ -8,7 +8,8 @@ use Rattle.pool_fabric.proofs.station.Station.new.Goals as goal
 pub invariant_of-result : goal.invariant_of-result
 invariant_of-result g c =
     let as_seat = seat_of g.S.Sender.inbox g.S.Sender.number g.S.Sender.sent g.S.Sender.resting in
-    fresh_keeps _ _
+    let is = c.in_ok-desk.ensures.ok ∙ c.adopt.ensures in
+    rw is (refl, fresh_keeps _ _
     (record {
       home = c.requires.desk.0;
       cached = refl;
@@ -16,8 +17,8 @@ invariant_of-result g c =
       taken = c.requires.take.2;
       seats = c.requires.seats.2;
       got = ap (λ (p : PageState). p.got) c.requires.page;
-      lent = c.new.ensures;
-      freed = c.new-2.ensures;
+      lent = c.new-2.ensures;
+      freed = c.new-3.ensures;
     })
     (record {
       digits = c.requires.profile.0;
@@ -29,4 +30,4 @@ invariant_of-result g c =
       page = ap (λ (p : PageState). p.key) c.requires.page;
       part = ap (λ (p : PageState). p.parts) c.requires.page;
       none_given = ap (λ (p : PageState). p.gave) c.requires.page;
-    })
+    }))
