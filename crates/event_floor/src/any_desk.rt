@@ -48,13 +48,33 @@ pub(crate) fn hold<'r>(any: &mut AnyDesk<'r>, digits: Digits, worker: u32)
     requires { 0 < 2 ^ digits.bits }
     ensures { any.new ≡ in_hands_of worker any.old }
 {
-    // the desk moves by value, and an empty one keeps its place for that time
+    let desk = taken_out(any, digits);
+    put_back(any, adopted(desk, worker));
+}
+
+// A desk moves by value, and is some kilobytes. So that no function has many of them on its stack, each move is
+// a function's of its own.
+
+/// Takes the desk out of its place, in which an empty one stands for that time.
+#[inline(never)]
+fn taken_out<'r>(any: &mut AnyDesk<'r>, digits: Digits) -> AnyDesk<'r>
+    requires { 0 < 2 ^ digits.bits }
+    ensures { result ≡ any.old }
+{
     let empty = IdleDesk::new(0, digits, 0);
-    let desk = mem::replace(any, AnyDesk::Idle(empty));
-    drop(mem::replace(any, adopted(desk, worker)));
+    mem::replace(any, AnyDesk::Idle(empty))
+}
+
+/// Puts the desk back into its place.
+#[inline(never)]
+fn put_back<'r>(any: &mut AnyDesk<'r>, desk: AnyDesk<'r>)
+    ensures { any.new ≡ desk.entry }
+{
+    drop(mem::replace(any, desk));
 }
 
 /// The desk in the hands of the worker. A held one stays as it is.
+#[inline(never)]
 fn adopted<'r>(any: AnyDesk<'r>, worker: u32) -> AnyDesk<'r>
     ensures { result ≡ in_hands_of worker any.entry }
 {
@@ -69,14 +89,13 @@ pub(crate) fn release<'r>(any: &mut AnyDesk<'r>, digits: Digits) -> bool
     requires { 0 < 2 ^ digits.bits }
     ensures { Releases any.old result any.new }
 {
-    let empty = IdleDesk::new(0, digits, 0);
-    let desk = mem::replace(any, AnyDesk::Idle(empty));
-    let (released, desk) = released(desk);
-    drop(mem::replace(any, desk));
+    let (released, desk) = released(taken_out(any, digits));
+    put_back(any, desk);
     released
 }
 
 /// Whether the desk is released, and the desk then.
+#[inline(never)]
 fn released<'r>(any: AnyDesk<'r>) -> (bool, AnyDesk<'r>)
     ensures { Releases any.entry result.0 result.1 }
 {

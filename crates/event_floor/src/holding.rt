@@ -9,6 +9,7 @@ use crate::lists::Lists;
 use crate::{Refusal, Reply};
 
 impl<'r> Lists<'r> {
+    #[inline(never)]
     pub(crate) fn adopt(&mut self, a: u32, worker: u32) -> Result<Reply, Refusal>
         ensures does { IfOk result (λ reply. Does self.old (Adopt a worker) reply self.new) }
         ensures refuses { IfErr result (λ refusal. Refuses self.old (Adopt a worker) refusal) }
@@ -26,6 +27,7 @@ impl<'r> Lists<'r> {
         Ok(Reply::Done)
     }
 
+    #[inline(never)]
     pub(crate) fn retire(&mut self, a: u32) -> Result<Reply, Refusal>
         ensures does { IfOk result (λ reply. Does self.old (Retire a) reply self.new) }
         ensures refuses { IfErr result (λ refusal. Refuses self.old (Retire a) refusal) }
