@@ -1,5 +1,5 @@
 -- What workers left, and what they counted together.
-use Rattle.std.specs.Prelude.{◌+◌, List, Option, Some, None, sum_by, filter_map}
+use Rattle.std.specs.Prelude.{ℕ, ◌+◌, ◌<◌, ◌≤◌, List, Option, Some, None, length, slice_index_or, sum_by, filter_map}
 use Rattle.slot_chain.specs.Counts.{capped}
 use Rattle.pool_fabric.specs.Stations.{StationState}
 use Rattle.pool_jobs.specs.declared.counting.Done.{Done}
@@ -20,6 +20,11 @@ counts_of (Some d) = d.counts
 
 abbrev pub stations_of : {T S J : Type 0} → List (Option (Done T S J)) → List StationState
 stations_of lefts = filter_map station_of lefts
+
+-- the station at this place has the least number of a desk
+abbrev pub IsLeastAt : List StationState → ℕ → Type 0
+IsLeastAt stations at = (k : ℕ) (d : StationState) → k < length stations
+    → (slice_index_or stations at d).desk.number ≤ (slice_index_or stations k d).desk.number
 
 -- two counts added up, none beyond the greatest u64
 abbrev pub both : BufferCounts → BufferCounts → BufferCounts

@@ -1,6 +1,8 @@
 //! What came back of several workers.
-ghost use Rattle.std.specs.Prelude.{◌≡◌, ◌<◌, [], ◌∷◌, ◌++◌, length, IsPermutation, MatchOption, IfOk, OnOk, OnErr};
-ghost use Rattle.pool_jobs.specs.Counted.{both, counted_by, counts_of, none_counted, stations_of};
+ghost use Rattle.std.specs.Prelude.{◌≡◌, ◌<◌, ◌≤◌, [], ◌∷◌, ◌++◌, length, All, IsPermutation, MatchOption, IfSome, IfOk};
+ghost use Rattle.std.specs.Prelude.{OnOk, OnErr};
+ghost use Rattle.pool_fabric.specs.Stations.{StationState};
+ghost use Rattle.pool_jobs.specs.Counted.{IsLeastAt, both, counted_by, counts_of, none_counted, stations_of};
 
 use crate::counting::Done;
 use crate::tally::BufferCounts;
@@ -62,6 +64,8 @@ impl<'r, T: Receiver, S: Sender, J: Naming> Back<'r, T, S, J> {
         ensures held { MatchOption result
             ((self.old.held.items ≡ []) × (self.new.held.items ≡ []))
             (λ s. IsPermutation self.old.held.items (s ∷ self.new.held.items)) }
+        ensures least { IfSome result (λ s.
+            All (λ (o : StationState). s.desk.number ≤ o.desk.number) self.old.held.items) }
     {
         if self.held.is_empty() {
             return None;
@@ -76,7 +80,8 @@ fn place_of_least<'r, T: Receiver, S: Sender, J: Naming>(
     stations: &[HeldStation<'r, T, S, J>],
 ) -> usize
     requires { 0 < length stations.now }
-    ensures { result < length stations.now }
+    ensures within { result < length stations.now }
+    ensures least { IsLeastAt stations.now result }
 {
     let mut least = 0;
     for at in 1..stations.len() {
