@@ -323,6 +323,26 @@ def memory():
     tell("no limit leads out of the table", not strange, strange[:3])
 
 
+def memory_of_threads():
+    """Whatever the limit, a workload is done, or ends for want of memory or of a thread, and no signal ends it."""
+    words = ["work", "ring", "--threads", "4", "--count", "200"]
+    whole = ran(words)
+    row("0: work, to be run in little memory", whole, 0, None, b"")
+    counts = {whole: 0, (1, b"", b"poolctl: no memory\n"): 0, (1, b"", b"poolctl: no thread\n"): 0}
+    strange, limit = [], 1 << 20
+    while limit < 128 << 20 and counts[whole] < 3:
+        got = ran(words, memory=limit)
+        if got in counts:
+            counts[got] += 1
+        elif any(counts.values()):
+            strange.append((limit, got[0], got[1][-60:], got[2][-60:]))
+        limit += 8 << 10
+    for (status, _, err), count in counts.items():
+        words_of = err.decode().strip() or "done"
+        tell(f"{status}: work: {words_of}, at {count} limits of the memory", count > 0, list(counts.values()))
+    tell("no limit leads a workload out of the table", not strange, (len(strange), strange[:3]))
+
+
 def stacks():
     """From some size of the stack on, the program does what it does in any other."""
     ring = ["work", "ring", "--threads", "4", "--count", "200"]
@@ -347,6 +367,7 @@ def main():
     streams()
     failing()
     memory()
+    memory_of_threads()
     stacks()
     print(f"{len(failed)} rows of the table failed")
     sys.exit(1 if failed else 0)
