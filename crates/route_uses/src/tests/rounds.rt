@@ -6,7 +6,7 @@ use std::alloc::Global;
 use std::process::Abort;
 
 // A batch that has to come: its round, its address and how many buffers it has.
-type Want = (u32, u16, u64);
+pub(crate) type Want = (u32, u16, u64);
 
 fn wanted(address: u16, want: &[Want]) -> Option<Want> {
     for row in want {
@@ -44,7 +44,7 @@ fn check_posting(rt: &impl Abort, posting: &mut Posting<'_>, want: &[Want]) {
 }
 
 // Posts all, in so many moves.
-fn check_all(rt: &impl Abort, mut posting: Posting<'_>, want: &[Want], moves: u64) {
+pub(crate) fn check_all(rt: &impl Abort, mut posting: Posting<'_>, want: &[Want], moves: u64) {
     same(rt, "the first round", u64::from(posting.round()), 0);
     same(rt, "the moves at first", posting.moves(), 0);
     check_posting(rt, &mut posting, want);
@@ -104,7 +104,7 @@ fn six_bits(rt: HostRuntime) {
 }
 
 // Lets the first two batches go, and puts the third back.
-fn put_third_back<'r>(rt: &impl Abort, mut posting: Posting<'r>) -> Cache<'r> {
+pub(crate) fn put_third_back<'r>(rt: &impl Abort, mut posting: Posting<'r>) -> Cache<'r> {
     drop(posting.next_batch());
     drop(posting.next_batch());
     let batch = posting.next_batch().expect(rt, "the batch to 32");
@@ -112,7 +112,7 @@ fn put_third_back<'r>(rt: &impl Abort, mut posting: Posting<'r>) -> Cache<'r> {
 }
 
 // What is left of four buffers are the two of 32.
-fn check_left(rt: &impl Abort, mut cache: Cache<'_>) {
+pub(crate) fn check_left(rt: &impl Abort, mut cache: Cache<'_>) {
     same(rt, "buffers left", cache.len(), 2);
     same(rt, "bytes left", cache.bytes(), 32);
     drop(take(rt, &mut cache, 32, 2));
@@ -135,9 +135,7 @@ fn is_put_back(rt: HostRuntime) {
 
 // Of three batches the first is refused, and the others go. Its buffers are in the cache again, and nothing
 // else is: the next batch is the same.
-fn set_aside(rt: &impl Abort, alloc: Global) -> Result<(), NoMemory> {
-    let mut region = Vec::from_elem(alloc, 0u8, 4096)?;
-    let cache = filled_in(rt, alloc, &mut region, 0, 1, &[32, 32, 1, 2])?;
+pub(crate) fn set_first_aside(rt: &impl Abort, cache: Cache<'_>) {
     let mut posting = cache.posting();
     let first = posting.next_batch().expect(rt, "a batch");
     let (address, len) = (first.address(), first.len());
@@ -150,7 +148,6 @@ fn set_aside(rt: &impl Abort, alloc: Global) -> Result<(), NoMemory> {
     assert!(rt; cache.is_empty());
     cache.take_back(refused);
     check_again(rt, cache, address, len);
-    Ok(())
 }
 
 // The cache has one batch alone, with this address and so many buffers.
@@ -164,6 +161,15 @@ fn check_again(rt: &impl Abort, mut cache: Cache<'_>, address: u16, len: u64) {
     );
     same(rt, "the buffers", again.len(), len);
     assert!(rt; cache.is_empty());
+}
+
+fn set_aside(rt: &impl Abort, alloc: Global) -> Result<(), NoMemory> {
+    let mut region = Vec::from_elem(alloc, 0u8, 4096)?;
+    set_first_aside(
+        rt,
+        filled_in(rt, alloc, &mut region, 0, 1, &[32, 32, 1, 2])?,
+    );
+    Ok(())
 }
 
 #[test]

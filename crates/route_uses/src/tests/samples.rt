@@ -2,6 +2,7 @@
 ghost use Rattle.std.specs.Prelude.{◌≡◌, ◌<◌, []};
 
 use crate::filling::fill;
+use crate::offering::offer;
 use digit_route::{Batch, Cache, Digits};
 use region_cut::{Bump, Class, Part, cut};
 use slot_chain::NoMemory;
@@ -77,4 +78,36 @@ pub(crate) fn take<'r>(rt: &impl Abort, cache: &mut Cache<'r>, t: u16, count: u6
     let batch = cache.take_bucket_for(t).expect(rt, "a batch");
     same_at(rt, "the batch for", t, batch.len(), count);
     batch
+}
+
+/// Puts each buffer of a batch of so many into the cache, one by one.
+pub(crate) fn put_each<'r>(rt: &impl Abort, cache: &mut Cache<'r>, batch: Batch<'r>, count: u64) {
+    let mut magazine = batch.into_magazine();
+    for _ in 0..count {
+        let buf = magazine.pop().expect(rt, "a buffer");
+        assert!(rt; offer(cache, buf).is_none());
+    }
+    assert!(rt; magazine.is_empty());
+}
+
+/// The next batch of the cache, which has so many buffers, all of 1.
+pub(crate) fn next_of_1<'r>(rt: &impl Abort, cache: &mut Cache<'r>, count: u64) -> Batch<'r> {
+    let batch = cache.next_batch().expect(rt, "the batch to 1");
+    assert!(rt; batch.address() == 1);
+    same(rt, "its buffers", batch.len(), count);
+    batch
+}
+
+/// A cache of the desk 0 with 40 buffers of 1. Where memory is given, some of them stand in an array, and
+/// the others are linked.
+pub(crate) fn turned<'r>(
+    rt: &impl Abort,
+    alloc: Global,
+    region: &'r mut [u8],
+) -> Result<Cache<'r>, NoMemory> {
+    let mut cache = filled_in(rt, alloc, region, 0, 2, &[1; 40])?;
+    let batch = next_of_1(rt, &mut cache, 40);
+    cache.make_room(alloc);
+    put_each(rt, &mut cache, batch, 40);
+    Ok(cache)
 }
