@@ -150,7 +150,7 @@ fn parcels_go_home_by_way_of_nearer_desks(rt: HostRuntime) {
 }
 
 // Two buffers of each owner are freed at 0, as three parcels.
-fn leave_three<'r>(
+pub(super) fn leave_three<'r>(
     rt: &impl Abort,
     alloc: Global,
     zero: &mut Desk<'r>,
@@ -164,7 +164,7 @@ fn leave_three<'r>(
 }
 
 // Three batches are posted, each in a round of its own: four buffers to each owner.
-fn post<'r>(
+pub(super) fn post<'r>(
     rt: &impl Abort,
     zero: Desk<'r>,
     one: &mut Desk<'r>,

@@ -48,7 +48,7 @@ fn is_unsettled<'r>(rt: &impl Abort, desk: Desk<'r>) -> Desk<'r> {
     desk.retire().err().expect(rt, "its cache is not empty")
 }
 
-fn goes_to_another_worker(rt: &impl Abort, idle: IdleDesk<'_>, home: u64) {
+pub(super) fn goes_to_another_worker(rt: &impl Abort, idle: IdleDesk<'_>, home: u64) {
     assert!(rt; idle.limit() == 4096 && idle.digits().count() == 3);
     let desk = idle.adopt(5);
     assert!(rt; desk.worker() == 5);
@@ -56,7 +56,7 @@ fn goes_to_another_worker(rt: &impl Abort, idle: IdleDesk<'_>, home: u64) {
 }
 
 // Its one batch comes back to it.
-fn comes_back(rt: &impl Abort, desk: &mut Desk<'_>) {
+pub(super) fn comes_back(rt: &impl Abort, desk: &mut Desk<'_>) {
     let batch = desk.next_batch().expect(rt, "one goes to 1");
     assert!(rt; desk.next_batch().is_none());
     desk.refused(batch);
@@ -64,7 +64,7 @@ fn comes_back(rt: &impl Abort, desk: &mut Desk<'_>) {
 }
 
 // A batch is taken back and goes home, and another buffer is cached.
-fn takes_back<'r>(
+pub(super) fn takes_back<'r>(
     rt: &impl Abort,
     alloc: Global,
     zero: &mut Desk<'r>,
@@ -79,7 +79,7 @@ fn takes_back<'r>(
 }
 
 // The cache is posted, in rounds.
-fn rounds<'r>(rt: &impl Abort, zero: Desk<'r>, one: &mut Desk<'r>) -> Desk<'r> {
+pub(super) fn rounds<'r>(rt: &impl Abort, zero: Desk<'r>, one: &mut Desk<'r>) -> Desk<'r> {
     let zero = is_unsettled(rt, zero);
     let zero = is_given_back(rt, zero);
     is_posted(rt, zero, one)
