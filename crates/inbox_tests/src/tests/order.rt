@@ -10,7 +10,7 @@ use std::process::Abort;
 use std::sync::Wait;
 
 // Posts batches with the marks from 0 on.
-fn post_some<'r, R: Abort + Wait>(
+pub(crate) fn post_some<'r, R: Abort + Wait>(
     rt: &R,
     alloc: Global,
     inbox: &Inbox<'r>,
@@ -34,7 +34,7 @@ pub(crate) fn leaves<'r, R: Abort + Wait>(rt: &R, rest: &mut Rest<'r>, number: u
 }
 
 // The inbox of one sender is ended, with its seat put back.
-fn drained<'r, R: Abort + Wait>(
+pub(crate) fn drained<'r, R: Abort + Wait>(
     rt: &R,
     inbox: Inbox<'r>,
     take: TakeSeat<'r>,
