@@ -5,8 +5,10 @@
 //! changes nothing, and works when it is made again.
 mod deep;
 mod dropped;
+mod given_back;
 mod half;
 mod held;
+mod no_memory;
 mod nodes;
 mod order;
 mod threads;
