@@ -1,7 +1,10 @@
 //! Tests of a fabric: posts that are refused, and desks and stations that are missing.
 
+mod given_back;
 mod lacking;
 mod leaving;
 mod memory;
+mod no_memory;
+mod opened;
 mod refused;
 mod told;
