@@ -79,11 +79,11 @@ fn by_a_full_desk(rt: HostRuntime) {
     set(alloc, Mark::GivenBack);
 }
 
-// A batch of it is on its way.
-fn begun<'r>(rt: &impl Abort, full: Desk<'r>, other: &mut Desk<'r>) -> DeskPosting<'r> {
+// What goes to the owner was taken out, and dropped.
+fn begun<'r>(rt: &impl Abort, full: Desk<'r>, owner: &Desk<'_>) -> DeskPosting<'r> {
     let mut posting = full.posting();
     let batch = posting.next_batch().expect(rt, "the batch to 1");
-    assert!(rt; batch.address() == other.number() && batch.len() == 24);
+    assert!(rt; batch.address() == owner.number() && batch.len() == 24);
     posting
 }
 
@@ -95,7 +95,7 @@ fn drops_posting<'r>(rt: &impl Abort, alloc: Global, mut parts: Vec<Part<'r>>) {
     claim(rt, &mut four, &mut parts, class(6));
     leave(rt, alloc, &mut four, &mut full, 4);
     counts_are(rt, &full, 36, 28);
-    drop(begun(rt, full, &mut owner));
+    drop(begun(rt, full, &owner));
 }
 
 #[test]
