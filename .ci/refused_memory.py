@@ -31,10 +31,10 @@ import built_tests
 TOP = pathlib.Path(__file__).resolve().parent.parent
 SECONDS = 60
 WRITTEN_FOR_IT = {
-    "fabric_uses": "memory::",
-    "inbox_tests": "deep::,dropped::,order::,users::",
+    "fabric_uses": "given_back::,memory::",
+    "inbox_tests": "deep::,dropped::,given_back::,order::,users::",
     "jobs_uses": "refused::,words::",
-    "link_tests": "deep::,dropped::,half::,nodes::,order::,users::",
+    "link_tests": "deep::,dropped::,given_back::,half::,no_memory::,nodes::,order::,users::",
     "trace_uses": "growing,each_slot_once,the_least_fault_is_named,the_number_is_not_enough",
 }
 NOT_WRITTEN_FOR_IT = {"work_tests"}
