@@ -226,6 +226,36 @@ fn what_is_posted_takes_none(rt: HostRuntime) {
     posts(&rt, alloc, parts(&rt, alloc, &mut region));
 }
 
+// While its one batch is under way the desk has another worker. Then the batch is refused.
+fn pass_on(rt: &impl Abort, zero: &mut Desk<'_>) {
+    let mut posting = zero.take_posting();
+    let batch = posting.next_batch().expect(rt, "one goes to 1");
+    assert!(rt; posting.next_batch().is_none());
+    zero.pass_to(5);
+    assert!(rt; zero.is_settled() && zero.worker() == 5);
+    let mut refused = Refused::new(batch.sender(), batch.digits());
+    refused.add(batch);
+    zero.take_back(refused);
+    assert!(rt; !zero.is_settled());
+    counts_are(rt, zero, 0, 1);
+}
+
+fn passes_on<'r>(rt: &impl Abort, alloc: Global, mut parts: Vec<Part<'r>>) {
+    let mut one = desk(rt, 1);
+    let mut zero = desk(rt, 0);
+    takes_back(rt, alloc, &mut zero, &mut one, &mut parts);
+    set(alloc, Mark::TakesNone);
+    pass_on(rt, &mut zero);
+    set(alloc, Mark::MayTake);
+}
+
+#[test]
+fn what_is_passed_on_takes_none(rt: HostRuntime) {
+    let alloc = rt.alloc();
+    let mut region = region(&rt, alloc, 1);
+    passes_on(&rt, alloc, parts(&rt, alloc, &mut region));
+}
+
 // Three batches, each in a round of its own.
 fn later_rounds<'r>(rt: &impl Abort, alloc: Global, mut parts: Vec<Part<'r>>) {
     let mut one = desk(rt, 1);
