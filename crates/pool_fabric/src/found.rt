@@ -216,6 +216,7 @@ fn all_of<'r, T: Receiver, S: Sender, J: Naming>(
 /// A want of memory is told as [`GatherError::NoMemory`]. A desk whose station did not come back is told
 /// as [`GatherError::Missing`] by its number, the least one where there are several, with all that the
 /// others have.
+#[inline(never)]
 pub fn gather<
     'r,
     T: Receiver,

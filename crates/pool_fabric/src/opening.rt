@@ -61,6 +61,7 @@ impl<'r, T: Receiver, S: Sender, M: NewMail<T, S>> Opening<'r, M, T, S> {
     ///
     /// Numbers of desks are read as `digits` says, and `limit` is that of each desk's cache, in
     /// bytes. After a want of memory all is given up.
+    #[inline(never)]
     pub fn new(
         alloc: Global,
         parts: Vec<Part<'r>>,

@@ -108,6 +108,7 @@ impl<'r, M: Mailbox, T: Receiver, S: Sender, J: Naming> Fabric<'r, M, T, S, J> {
     /// stock. `J` is to have the names of the opening, and nothing else is owed.
     ///
     /// After a want of memory all is given up.
+    #[inline(never)]
     pub fn open(
         alloc: Global,
         opening: Opening<'r, M, T, S>,

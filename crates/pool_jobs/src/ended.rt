@@ -40,6 +40,7 @@ pub struct Finished<'r, A: Drop> {
 ///
 /// Whatever the schedule was, nothing is lost and nothing is there twice. Where a station is missing
 /// the answer is [`GatherError::Missing`], with the number of its desk and all that the others have.
+#[inline(never)]
 pub fn settle<
     'r,
     T: Receiver,

@@ -44,6 +44,7 @@ where
 }
 
 // The same at a fabric that `J` names, and its end.
+#[inline(never)]
 fn worked<'r, G, N, J, R>(
     rt: &R,
     alloc: Global,
