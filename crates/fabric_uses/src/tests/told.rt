@@ -22,7 +22,13 @@ fn gather_errors_have_numbers_and_texts(rt: HostRuntime) -> Result<(), Fail> {
     });
     assert_eq!(rt; GatherError::NoMemory.number(), 1);
     assert_eq!(rt; missing.number(), 2);
-    assert_eq!(rt; text_of(alloc, &GatherError::NoMemory)?.as_str(), "no memory");
-    assert_eq!(rt; text_of(alloc, &missing)?.as_str(), "the station of desk 17 is missing");
+    assert_eq!(rt;
+        text_of(alloc, &GatherError::NoMemory)?.as_str(),
+        "no memory"
+    );
+    assert_eq!(rt;
+        text_of(alloc, &missing)?.as_str(),
+        "the station of desk 17 is missing"
+    );
     Ok(())
 }
