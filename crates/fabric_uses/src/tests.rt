@@ -1,6 +1,7 @@
 //! Tests of a fabric: posts that are refused, and desks and stations that are missing.
 
 mod given_back;
+mod going_on;
 mod lacking;
 mod leaving;
 mod memory;
