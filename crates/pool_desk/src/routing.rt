@@ -118,11 +118,7 @@ impl<'r> Desk<'r> {
         } }
     {
         let _known = self.cache.number();
-        let empty = Cache::new(
-            self.cache.number(),
-            self.cache.digits(),
-            self.cache.limit(),
-        );
+        let empty = Cache::new(self.cache.number(), self.cache.digits(), self.cache.limit());
         mem::replace(&mut self.cache, empty).posting()
     }
 

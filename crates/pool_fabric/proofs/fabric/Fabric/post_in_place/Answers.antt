@@ -43,9 +43,9 @@ nothing u x v y l a b d p q =
 
 pub returns-clause-all : goal.returns-clause-all
 returns-clause-all g c = λ t. elim c.if-is_empty.branch [
-    then-is_empty w ↦
-    nothing c.take_back.new.self.cached c.post_first_round-first.result.items c.take_back-2.new.self.cached c.post_later_rounds-later.result.items
-    c.post_later_rounds-later.new.desk.cached (ap (λ (d : DeskState). d.cached) c.post_later_rounds-later.ensures.same) (c.is_empty.ensures.0 w.if-is_empty.true)
-    (w.is_empty-all.ensures.0 (sym w.all-is ∙ t)) c.take_back.ensures.items c.take_back-2.ensures.items
-    | else-is_empty w ↦ absurd (false≢true (sym (w.all-is ∙ w.if-is_empty.false) ∙ t))
-  ]
+  | then-is_empty w ↦
+      nothing c.take_back.new.self.cached c.post_first_round-first.result.items c.take_back-2.new.self.cached c.post_later_rounds-later.result.items
+      c.post_later_rounds-later.new.desk.cached (ap (λ (d : DeskState). d.cached) c.post_later_rounds-later.ensures.same) (c.is_empty.ensures.0 w.if-is_empty.true)
+      (w.is_empty-all.ensures.0 (sym w.all-is ∙ t)) c.take_back.ensures.items c.take_back-2.ensures.items
+  | else-is_empty w ↦ absurd (false≢true (sym (w.all-is ∙ w.if-is_empty.false) ∙ t))
+]

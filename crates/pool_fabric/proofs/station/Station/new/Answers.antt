@@ -9,25 +9,28 @@ pub invariant_of-result : goal.invariant_of-result
 invariant_of-result g c =
     let as_seat = seat_of g.S.Sender.inbox g.S.Sender.number g.S.Sender.sent g.S.Sender.resting in
     let is = c.in_ok-desk.ensures.ok ∙ c.adopt.ensures in
-    rw is (refl, fresh_keeps _ _
-    (record {
-      home = c.requires.desk.0;
-      cached = refl;
-      drawn = c.requires.desk.1;
-      taken = c.requires.take.2;
-      seats = c.requires.seats.2;
-      got = ap (λ (p : PageState). p.got) c.requires.page;
-      lent = c.new-2.ensures;
-      freed = c.new-3.ensures;
-    })
-    (record {
-      digits = c.requires.profile.0;
-      limit = c.requires.profile.1;
-      take = c.requires.take.0;
-      senders = c.requires.take.1;
-      seats = c.requires.seats.0;
-      number = length-mapped as_seat c.args.seats.items ∙ c.requires.seats.1;
-      page = ap (λ (p : PageState). p.key) c.requires.page;
-      part = ap (λ (p : PageState). p.parts) c.requires.page;
-      none_given = ap (λ (p : PageState). p.gave) c.requires.page;
-    }))
+    rw is (
+      refl,
+      fresh_keeps _ _
+          (record {
+            home = c.requires.desk.0;
+            cached = refl;
+            drawn = c.requires.desk.1;
+            taken = c.requires.take.2;
+            seats = c.requires.seats.2;
+            got = ap (λ (p : PageState). p.got) c.requires.page;
+            lent = c.new-2.ensures;
+            freed = c.new-3.ensures;
+          })
+          (record {
+            digits = c.requires.profile.0;
+            limit = c.requires.profile.1;
+            take = c.requires.take.0;
+            senders = c.requires.take.1;
+            seats = c.requires.seats.0;
+            number = length-mapped as_seat c.args.seats.items ∙ c.requires.seats.1;
+            page = ap (λ (p : PageState). p.key) c.requires.page;
+            part = ap (λ (p : PageState). p.parts) c.requires.page;
+            none_given = ap (λ (p : PageState). p.gave) c.requires.page;
+          }),
+    )
