@@ -3,14 +3,16 @@ ghost use Rattle.std.specs.Prelude.{◌≡◌};
 ghost use Rattle.pool_fabric.specs.Refusals.{gather_number};
 
 use crate::in_part::FoundInPart;
-use std::fmt;
+use thiserror::Error;
 
 /// Why not all was gathered.
-#[derive(Debug, Drop)]
+#[derive(Debug, Drop, Error)]
 pub enum GatherError<'r> {
     /// Memory was refused. What was handed in is then given up.
+    #[error("no memory")]
     NoMemory,
     /// The station of a desk didn't come back. This is what the others have.
+    #[error("the station of desk {} is missing", .0.missing)]
     Missing(FoundInPart<'r>),
 }
 
@@ -22,17 +24,6 @@ impl GatherError<'_> {
         match self {
             GatherError::NoMemory => 1,
             GatherError::Missing(_) => 2,
-        }
-    }
-}
-
-impl fmt::Display for GatherError<'_> {
-    fn fmt<W: fmt::Write>(&self, f: &mut fmt::Formatter<W>) -> fmt::Result {
-        match self {
-            GatherError::NoMemory => write!(f, "no memory"),
-            GatherError::Missing(found) => {
-                write!(f, "the station of desk {} is missing", found.missing)
-            }
         }
     }
 }
