@@ -18,6 +18,8 @@ mod pair;
 #[cfg(test)]
 mod passing;
 #[cfg(test)]
+mod taking_up;
+#[cfg(test)]
 mod tests;
 #[cfg(test)]
 mod unheard;
@@ -40,6 +42,8 @@ pub use over_counting::work_counting;
 pub use over_counting_link::work_counting_linked;
 #[cfg(test)]
 pub use passing::{Passed, pass_on};
+#[cfg(test)]
+pub use taking_up::{Answers, TakenUp, take_up_desk};
 #[cfg(test)]
 pub use unheard::{Frees, free_unheard};
 #[cfg(test)]

@@ -7,6 +7,7 @@ mod bursts;
 mod counted;
 mod passing;
 mod refused;
+mod taking_up;
 mod unheard;
 mod words;
 
