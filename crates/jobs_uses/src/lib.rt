@@ -10,6 +10,8 @@ mod bursts;
 #[cfg(test)]
 mod fixed;
 #[cfg(test)]
+mod handing;
+#[cfg(test)]
 mod over_counting;
 #[cfg(test)]
 mod over_counting_link;
@@ -36,6 +38,8 @@ pub use alone::work_alone;
 pub use bursts::pass_in_bursts;
 #[cfg(test)]
 pub use fixed::Fixed;
+#[cfg(test)]
+pub use handing::{Handed, hand_parcels};
 #[cfg(test)]
 pub use over_counting::work_counting;
 #[cfg(test)]

@@ -5,6 +5,7 @@ mod again;
 mod alone;
 mod bursts;
 mod counted;
+mod handing;
 mod passing;
 mod refused;
 mod taking_up;
