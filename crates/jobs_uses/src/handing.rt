@@ -229,17 +229,27 @@ fn taken_in<'r, J: Naming>(
     packed: Left<'r, J>,
     freed: Left<'r, J>,
 ) -> Result<BothLeft<'r, J>, AllocError> {
+    let Left {
+        station: first,
+        counts,
+        marks,
+    } = packed;
+    let Left {
+        station: second,
+        counts: more,
+        marks: others,
+    } = freed;
     let mut held = Vec::new(alloc);
-    if let Some(station) = packed.station {
+    if let Some(station) = first {
         held.push(station)?;
     }
-    if let Some(station) = freed.station {
+    if let Some(station) = second {
         held.push(station)?;
     }
     Ok(BothLeft {
         held,
-        counts: packed.counts.plus(freed.counts),
-        marks: packed.marks.saturating_add(freed.marks),
+        counts: counts.plus(more),
+        marks: marks.saturating_add(others),
     })
 }
 
