@@ -6,6 +6,6 @@ mod lacking;
 mod leaving;
 mod memory;
 mod no_memory;
-mod opened;
 mod refused;
 mod told;
+mod two_stations;

@@ -3,7 +3,9 @@
 //! buffers would meet all of them.
 ghost use Rattle.std.specs.Prelude.{◌≡◌};
 
-use crate::tests::opened::{Held, Made, Opened, Over, fill, made, opened, region, retired};
+use crate::tests::two_stations::{
+    Held, Opened, Over, TwoStations, fill, open_two, opening_of_two, region, retired,
+};
 use memory_marks::{Mark, set};
 use pool_fabric::{Found, Naming, gather};
 use slot_chain::NoMemory;
@@ -93,10 +95,10 @@ fn find<'r, J: Naming, R: Abort + Wait>(
 fn drop_last<'r, J: Naming, R: Abort + Wait>(
     rt: &R,
     alloc: Global,
-    opened: Opened<'r, J>,
+    opened: TwoStations<'r, J>,
     last: Last,
 ) -> bool {
-    let Opened {
+    let TwoStations {
         fabric,
         mut first,
         mut second,
@@ -117,19 +119,19 @@ fn drop_last<'r, J: Naming, R: Abort + Wait>(
 fn drops_at<'r, J: Naming, R: Abort + Wait>(
     rt: &R,
     alloc: Global,
-    opening: Made<'r>,
+    opening: Opened<'r>,
     last: Last,
 ) -> bool
     requires { J.names ≡ opening }
 {
-    match opened::<J, R>(rt, alloc, opening) {
+    match open_two::<J, R>(rt, alloc, opening) {
         None => false,
         Some(opened) => drop_last(rt, alloc, opened, last),
     }
 }
 
 fn drops<'r, R: Abort + Wait>(rt: &R, alloc: Global, region: &'r mut [u8], last: Last) -> bool {
-    match made(alloc, region) {
+    match opening_of_two(alloc, region) {
         None => false,
         Some(opening) => drops_at::<Brand, R>(rt, alloc, opening, last),
     }

@@ -3,7 +3,9 @@
 ghost use Rattle.std.specs.Prelude.{◌≡◌};
 
 use crate::lend;
-use crate::tests::opened::{Held, Idle, Made, Opened, Over, fill, made, opened, region, retired};
+use crate::tests::two_stations::{
+    Held, Idle, Opened, Over, TwoStations, fill, open_two, opening_of_two, region, retired,
+};
 use batch_inbox::{SendSeat, TakeSeat};
 use memory_marks::{Mark, set};
 use pool_desk::Freed;
@@ -175,10 +177,10 @@ fn is_shelved<'r, J: Naming, R: Abort + Wait>(
 fn play_on<'r, J: Naming, R: Abort + Wait>(
     rt: &R,
     alloc: Global,
-    opened: Opened<'r, J>,
+    opened: TwoStations<'r, J>,
     play: Play,
 ) -> bool {
-    let Opened {
+    let TwoStations {
         fabric,
         first,
         second,
@@ -195,12 +197,12 @@ fn play_on<'r, J: Naming, R: Abort + Wait>(
 fn play_at<'r, J: Naming, R: Abort + Wait>(
     rt: &R,
     alloc: Global,
-    opening: Made<'r>,
+    opening: Opened<'r>,
     play: Play,
 ) -> bool
     requires { J.names ≡ opening }
 {
-    match opened::<J, R>(rt, alloc, opening) {
+    match open_two::<J, R>(rt, alloc, opening) {
         None => false,
         Some(opened) => play_on(rt, alloc, opened, play),
     }
@@ -211,7 +213,7 @@ fn plays<R: Abort + Wait>(rt: &R, alloc: Global, play: Play) -> bool {
     let Ok(mut region) = region(alloc) else {
         return false;
     };
-    match made(alloc, &mut region) {
+    match opening_of_two(alloc, &mut region) {
         None => false,
         Some(opening) => play_at::<Brand, R>(rt, alloc, opening, play),
     }

@@ -11,7 +11,7 @@ use std::alloc::Global;
 use std::process::Abort;
 use std::sync::Wait;
 
-pub(crate) type Made<'r> = Opening<'r, Inbox<'r>, TakeSeat<'r>, SendSeat<'r>>;
+pub(crate) type Opened<'r> = Opening<'r, Inbox<'r>, TakeSeat<'r>, SendSeat<'r>>;
 
 pub(crate) type Over<'r, J> = Fabric<'r, Inbox<'r>, TakeSeat<'r>, SendSeat<'r>, J>;
 
@@ -26,26 +26,26 @@ pub(crate) fn region(alloc: Global) -> Result<Vec<u8>, NoMemory> {
 }
 
 /// What a fabric of two desks over a region is made of.
-pub(crate) fn made<'r>(alloc: Global, region: &'r mut [u8]) -> Option<Made<'r>> {
+pub(crate) fn opening_of_two<'r>(alloc: Global, region: &'r mut [u8]) -> Option<Opened<'r>> {
     let parts = cut(alloc, region).ok()?;
     let digits = Digits::new(6)?;
-    Made::<'r>::new(alloc, parts, 2, digits, 4_096).ok()
+    Opened::<'r>::new(alloc, parts, 2, digits, 4_096).ok()
 }
 
 /// A fabric, and its two stations in the hands of workers.
 #[derive(Drop)]
-pub(crate) struct Opened<'r, J: Naming> {
+pub(crate) struct TwoStations<'r, J: Naming> {
     pub(crate) fabric: Over<'r, J>,
     pub(crate) first: Held<'r, J>,
     pub(crate) second: Held<'r, J>,
 }
 
 /// The fabric that `J` names.
-pub(crate) fn opened<'r, J: Naming, R: Wait>(
+pub(crate) fn open_two<'r, J: Naming, R: Wait>(
     rt: &R,
     alloc: Global,
-    opening: Made<'r>,
-) -> Option<Opened<'r, J>>
+    opening: Opened<'r>,
+) -> Option<TwoStations<'r, J>>
     requires { J.names ≡ opening }
 {
     let Ok(fabric) = Over::<'r, J>::open(alloc, opening) else {
@@ -53,7 +53,7 @@ pub(crate) fn opened<'r, J: Naming, R: Wait>(
     };
     let first = fabric.station(rt)?;
     let second = fabric.station(rt)?;
-    Some(Opened {
+    Some(TwoStations {
         fabric,
         first: first.adopt(0),
         second: second.adopt(1),
