@@ -1,76 +1,10 @@
--- An inbox that counts its posts is shared. Who packs parcels, who frees them, and what both leave go from thread to thread.
+-- An inbox that counts its posts is shared.
 use denote.RattleType.{RattleType}
-use denote.Ref.{NamedLft}
-use denote.Struct.Declared.{fields, shape}
-use denote.Param.Send.{IsSend, IsSync, AllSend, sendable, struct_send, view_send}
-use Rattle.std.specs.contracts.alloc.Global as Heap
-use Rattle.std.specs.contracts.impls.GlobalAllocator.TheImpl.{ghosts}
-use Rattle.std.proofs.Crossing.{crosses, frees, send, sync}
-use Rattle.slot_chain.specs.contracts.parcel.Parcel as Packed
-use Rattle.digit_route.proofs.Travels.{buf_send}
-use Rattle.batch_inbox.specs.declared.mail.Mailbox as Mailbox
-use Rattle.batch_inbox.specs.declared.mail.Receiver as Receiver
-use Rattle.batch_inbox.specs.declared.mail.Sender as Sender
-use Rattle.pool_fabric.specs.declared.naming.Naming as Naming
-use Rattle.pool_fabric.proofs.Travels.{fabric_sync, held_send, send_fields, sync_fields, inbox_sync, take_send, seat_send}
-use Rattle.pool_jobs.specs.contracts.allocator.Entrance as Entrance
-use Rattle.pool_jobs.specs.contracts.gate.NoGate as NoGate
-use Rattle.pool_jobs.specs.contracts.parcel.Parcel as Parcel
-use Rattle.pool_jobs.specs.contracts.parcel.Parcel.TheInside as InParcel
-use Rattle.crossbeam_channel.proofs.channel.Sender.TheSendSync.{the_send as to_send}
-use Rattle.crossbeam_channel.proofs.channel.Receiver.TheSendSync.{the_send as from_send}
+use denote.Param.Send.{IsSync, sendable}
+use Rattle.std.proofs.Crossing.{crosses}
+use Rattle.pool_fabric.proofs.Travels.{sync_fields}
 use Rattle.inbox_uses.specs.contracts.counting.Counting as Counting
-use Rattle.jobs_uses.specs.contracts.handing.Packing as Packing
-use Rattle.jobs_uses.specs.contracts.handing.Freeing as Freeing
-use Rattle.jobs_uses.specs.contracts.handing.Left as Left
 
 -- where the inbox inside is
 pub counting_sync : (M : RattleType) → IsSync M → IsSync (Counting.the_row M)
 counting_sync M i = sync_fields (Counting.the_type M) (i, (search (sendable, crosses) depth 40 fits 6000, tt))
-
--- a parcel crosses, since buffers do
-packed_send : (r : NamedLft) → IsSend (Packed.the_row r)
-packed_send r = search (sendable, crosses, buf_send) depth 40 fits 6000
-
-parcel_send : (r : NamedLft) (J : RattleType) (j : Naming.Ghosts J.Denot) → IsSend (Parcel.the_row r J j)
-parcel_send r X j = view_send _ _ _ _ _ (send_fields (InParcel.the_type r X j) (packed_send r, (search (sendable, crosses) depth 40 fits 6000, tt)))
-
--- who is about to take up a station crosses where the inboxes and the gate are shared, and its seats cross
-module _ (a r : NamedLft) (M T S G J : RattleType) (m : Mailbox.Ghosts M.Denot) (t : Receiver.Ghosts T.Denot) (s : Sender.Ghosts S.Denot) (j : Naming.Ghosts J.Denot)
-    (i : IsSync M) (z : IsSync G) (x : IsSend T) (y : IsSend S) where
-  in_entrance : AllSend (fields (Entrance.the_type a r M T S G J m t s j))
-  in_entrance = (
-    search (sendable, crosses, fabric_sync r M T S J m t s j i x y) depth 40 fits 6000,
-    (search (sendable, crosses, z) depth 40 fits 6000, (search (sendable, crosses) depth 40 fits 6000, (search (sendable, crosses) depth 40 fits 6000, tt))),
-  )
-
-module _ (a r : NamedLft) (J : RattleType) (j : Naming.Ghosts J.Denot) where
-  in_packing : AllSend (fields (Packing.the_type a r J j))
-  in_packing = (
-    struct_send (shape (Entrance.the_type a r _ _ _ NoGate.the_row J _ _ _ j))
-        (in_entrance a r _ _ _ NoGate.the_row J _ _ _ j (inbox_sync r) (search (sendable, crosses) depth 40 fits 6000) (take_send r) (seat_send r)),
-    (to_send (Parcel.the_row r J j) Heap.the_row ghosts (parcel_send r J j) send sync frees, (search (sendable, crosses) depth 40 fits 6000, tt)),
-  )
-
-  pub packing_send : IsSend (Packing.the_row a r J j)
-  packing_send = send_fields (Packing.the_type a r J j) in_packing
-
-  in_freeing : AllSend (fields (Freeing.the_type a r J j))
-  in_freeing = (
-    struct_send (shape (Entrance.the_type a r _ _ _ NoGate.the_row J _ _ _ j))
-        (in_entrance a r _ _ _ NoGate.the_row J _ _ _ j (inbox_sync r) (search (sendable, crosses) depth 40 fits 6000) (take_send r) (seat_send r)),
-    (from_send (Parcel.the_row r J j) Heap.the_row ghosts (parcel_send r J j) send sync frees, tt),
-  )
-
-  pub freeing_send : IsSend (Freeing.the_row a r J j)
-  freeing_send = send_fields (Freeing.the_type a r J j) in_freeing
-
-module _ (r : NamedLft) (J : RattleType) (j : Naming.Ghosts J.Denot) where
-  in_left : AllSend (fields (Left.the_type r J j))
-  in_left = (
-    search (sendable, crosses, held_send, take_send, seat_send) depth 40 fits 6000,
-    (search (sendable, crosses) depth 40 fits 6000, (search (sendable, crosses) depth 40 fits 6000, tt)),
-  )
-
-  pub left_send : IsSend (Left.the_row r J j)
-  left_send = send_fields (Left.the_type r J j) in_left
