@@ -93,8 +93,8 @@ HELP = {
     "replay --help": ["Usage: poolctl replay [OPTIONS]", "      --audit  Audit the pool at the end"],
 }
 
-# The stacks, in bytes, from which on `replay` and `work` do what they are to do. 64 KB and 96 KB are the aim.
-REPLAY_STACK, WORK_STACK, MOST_STACK = 128 << 10, 256 << 10, 512 << 10
+# The stacks, in bytes, from which on `replay` and `work` do what they are to do. 64 KB is the aim for `replay`.
+REPLAY_STACK, WORK_STACK, MOST_STACK = 96 << 10, 80 << 10, 512 << 10
 
 # Reads of standard input fail from the call FAIL_READ on, writes to standard output from FAIL_WRITE on, both with the
 # error FAIL_WITH; with FAIL_ONCE that call alone fails. The file CALLED gets a letter for each such call.
@@ -324,22 +324,28 @@ def memory():
 
 
 def memory_of_threads():
-    """Whatever the limit, a workload is done, or ends for want of memory or of a thread, and no signal ends it."""
+    """Whatever the limit, a workload is done, or ends for want of memory or of a thread, and no signal ends it. Where
+    there is memory for the threads and none for buffers, its report tells so."""
     words = ["work", "ring", "--threads", "4", "--count", "200"]
     whole = ran(words)
     row("0: work, to be run in little memory", whole, 0, None, b"")
-    counts = {whole: 0, (1, b"", b"poolctl: no memory\n"): 0, (1, b"", b"poolctl: no thread\n"): 0}
+    counts = {"0: work: done": 0, "1: work: no memory": 0, "1: work: no thread": 0, "1: work: audit no memory": 0}
     strange, limit = [], 1 << 20
-    while limit < 128 << 20 and counts[whole] < 3:
+    while limit < 128 << 20 and counts["0: work: done"] < 3:
         got = ran(words, memory=limit)
-        if got in counts:
-            counts[got] += 1
-        elif any(counts.values()):
+        if got == whole:
+            counts["0: work: done"] += 1
+        elif got == (1, b"", b"poolctl: no memory\n"):
+            counts["1: work: no memory"] += 1
+        elif got == (1, b"", b"poolctl: no thread\n"):
+            counts["1: work: no thread"] += 1
+        elif got[0] == 1 and got[1].endswith(b"\naudit no memory\n") and not got[2]:
+            counts["1: work: audit no memory"] += 1
+        elif any(counts.values()) and not (got[0] == 0 and got[1].endswith(b"\naudit yes\n") and not got[2]):
             strange.append((limit, got[0], got[1][-60:], got[2][-60:]))
         limit += 8 << 10
-    for (status, _, err), count in counts.items():
-        words_of = err.decode().strip() or "done"
-        tell(f"{status}: work: {words_of}, at {count} limits of the memory", count > 0, list(counts.values()))
+    for name, count in counts.items():
+        tell(f"{name}, at {count} limits of the memory", count > 0, counts)
     tell("no limit leads a workload out of the table", not strange, (len(strange), strange[:3]))
 
 
