@@ -28,8 +28,9 @@ fn without_one_at<'r, J: Naming, R: Wait>(
         let Some(station) = fabric.station(rt) else {
             break;
         };
+        // those behind it stay on the shelf
         if station.number() == missing {
-            continue;
+            break;
         }
         if held.push(station.adopt(0)).is_err() {
             return Err(GatherError::NoMemory);

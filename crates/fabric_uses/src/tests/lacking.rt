@@ -1,4 +1,5 @@
-//! A station that is dropped is missing at the end, and the other desks are found.
+//! A station that is dropped is missing at the end. The other desks are found: those whose stations are
+//! handed in, and those on the shelf, of which no clause speaks.
 
 ghost use Rattle.std.specs.Prelude.{◌≤◌};
 
