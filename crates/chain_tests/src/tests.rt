@@ -5,6 +5,7 @@ ghost use Rattle.std.specs.Prelude.{◌<◌};
 ghost use Rattle.slot_chain.specs.Buffer.{owner_limit};
 
 mod bytes;
+mod filling;
 mod given_back;
 mod giving;
 mod long;

@@ -165,7 +165,7 @@ impl<'r> Cache<'r> {
         ensures same { self.new ≡ record self.old { items = self.new.items } }
         ensures items { IsPermutation (self.old.items ++ item.entry ∷ []) self.new.items }
     {
-        let size = item.len() as u64;
+        let size = item.capacity() as u64;
         self.row.push(item);
         self.bytes = self.bytes.saturating_add(size);
     }
@@ -247,8 +247,10 @@ impl<'r> Cache<'r> {
     }
 
     /// Makes room for the pointers to what will be put here, as much as the batches had or wanted that
-    /// were taken out. What has no room is linked, which costs more where another thread takes it. For
-    /// desks of one thread it gains nothing. Where memory is refused, there is less room.
+    /// [`Cache::next_batch`] or a posting took out. Behind [`Cache::take_for`] and
+    /// [`Cache::take_bucket_for`] it makes none, since those may leave buffers in the bucket's place. What
+    /// has no room is linked, which costs more where another thread takes it. For desks of one thread it
+    /// gains nothing. Where memory is refused, there is less room.
     pub fn make_room(&mut self, alloc: Global)
         ensures { self.new ≡ self.old }
     {

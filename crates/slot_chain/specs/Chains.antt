@@ -7,7 +7,14 @@ use Rattle.slot_chain.specs.Buffer.{Buffer, IsBuffer}
 
 -- the buffer of a node
 abbrev pub buffer_of : Node → Buffer
-buffer_of n = record { slot = n.slot; class = n.class; owner = n.owner; forwards = n.forwards; bytes = n.lease.bytes }
+buffer_of n = record {
+  slot = n.slot;
+  class = n.class;
+  owner = n.owner;
+  forwards = n.forwards;
+  filled = n.filled;
+  bytes = n.lease.bytes;
+}
 
 -- the buffers of a chain, which are none where it was moved out
 abbrev pub held : Option (List Buffer) → List Buffer

@@ -1,5 +1,5 @@
 -- What a contract sees of a parcel.
-use Rattle.std.specs.Prelude.{◌≡◌, ◌≢◌, ℕ, ◌<◌, ◌≤◌, ◌⊎◌, List, [], ◌∷◌, ◌++◌, length}
+use Rattle.std.specs.Prelude.{◌≡◌, ◌≢◌, ℕ, ◌<◌, ◌≤◌, ◌⊎◌, List, [], ◌∷◌, ◌++◌, length, Some, slice_get, slice_set}
 use Rattle.slot_chain.specs.Buffer.{Buffer}
 
 -- buffers of one allocator, and for how many there is a place
@@ -21,3 +21,11 @@ Packs old b new =
 -- why a buffer doesn't come into it: it is another allocator's, or there is no place
 abbrev pub KeepsOut : ParcelState → Buffer → Type 0
 KeepsOut p b = (b.owner ≢ p.owner) ⊎ (p.places ≤ length p.items)
+
+-- the buffer at place i became another, which `edits` tells, and the others are as before
+pub record EditsAt (i : ℕ) (edits : Buffer → Buffer → Type 0) (old new : ParcelState) : Type 0 where
+  pub before : Buffer
+  pub after : Buffer
+  pub there : slice_get old.items i ≡ Some before
+  pub edited : edits before after
+  pub same : new ≡ record old { items = slice_set old.items i after }

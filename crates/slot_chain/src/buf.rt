@@ -17,9 +17,13 @@ use std::{fmt, slice};
 /// Nobody else can reach the slice while the buffer lives. A buffer may be dropped: its slot is
 /// then lost until the region's borrow ends.
 ///
-/// Contracts see it as a `Buffer`. Two buffers are the same where slot, class, owner, `forwards`
-/// and the bytes now agree, and the name under which the bytes are known that will be there when
-/// the region's borrow ends.
+/// Its user fills it from the front ([`Buf::extend_from_slice`], `write!`, [`Buf::read_from`]), and it
+/// knows how much of it is filled ([`Buf::len`], [`Buf::data`]), wherever it goes. Where it is made or
+/// given out, nothing is filled.
+///
+/// Contracts see it as a `Buffer`. Two buffers are the same where slot, class, owner, `forwards`, how
+/// much is filled and the bytes now agree, and the name under which the bytes are known that will be
+/// there when the region's borrow ends.
 #[must_use]
 #[derive(Drop)]
 pub struct Buf<'r> {
@@ -91,13 +95,6 @@ impl<'r> Buf<'r> {
         ensures size { length result.now ≡ size_of self.now.class }
     {
         self.node.lease.bytes()
-    }
-
-    /// How many bytes the slot has: the size of its class, which is never 0.
-    pub fn len(&self) -> usize
-        ensures { result ≡ size_of self.now.class }
-    {
-        self.bytes().len()
     }
 
     // The place and the length of the bytes.

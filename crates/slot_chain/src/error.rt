@@ -1,4 +1,4 @@
-//! The one refusal of this crate.
+//! The refusals of this crate.
 use std::alloc::{AllocError, AllocFailed};
 use thiserror::Error;
 
@@ -6,6 +6,11 @@ use thiserror::Error;
 #[derive(Clone, Copy, Debug, PartialEq, Eq, Drop, Error)]
 #[error("no memory")]
 pub struct NoMemory;
+
+/// A buffer has no room for as many bytes as were to be appended. Nothing of it was changed.
+#[derive(Clone, Copy, Debug, PartialEq, Eq, Drop, Error)]
+#[error("the buffer is full")]
+pub struct Full;
 
 impl From<AllocError> for NoMemory {
     fn from(_refused: AllocError) -> NoMemory {

@@ -1,7 +1,8 @@
 //! Buffers, and the chains that they are kept in.
 //!
 //! A [`Buf`] is one slot of a region, with the slice that lies there and what the pool knows of it:
-//! its slot, its size class, the allocator that owns it, and how often it was passed on. A
+//! its slot, its size class, the allocator that owns it, how often it was passed on, and how much of it
+//! its user has filled. A
 //! [`Chain`] is a list of buffers. As in snmalloc (ISMM 2019) a list is linked through places that
 //! its objects already have, so that a buffer is freed, cached and sent without taking memory. Here
 //! the link is no part of the slot: it stands in a box of its own, a [`Room`], which is made before
@@ -15,6 +16,7 @@ mod below;
 mod buf;
 mod chain;
 mod error;
+mod filling;
 mod into_iter;
 mod lease;
 mod link;
@@ -26,7 +28,7 @@ mod walk;
 
 pub use buf::Buf;
 pub use chain::Chain;
-pub use error::NoMemory;
+pub use error::{Full, NoMemory};
 pub use into_iter::IntoIter;
 pub use magazine::Magazine;
 pub use parcel::Parcel;

@@ -22,9 +22,12 @@ pub(crate) struct Node<'r> {
     // between the two lines, wherever a box lies: a core that reads a line fetches the next one as well.
     pub(crate) apart: [u64; 12],
     pub(crate) below: Below<'r>,
+    // How many bytes its user has filled. It lies beside the link, in the line that its owner writes, and
+    // not in the one that each thread reads.
+    pub(crate) filled: u32,
     // Nothing reads it. With it a box takes 192 bytes from the C library, whole lines, so that no box
     // begins where the link of another lies.
-    pub(crate) behind: [u64; 5],
+    pub(crate) behind: [u32; 9],
     // by which the box goes back. It takes no bytes
     pub(crate) alloc: Global,
 }
@@ -57,6 +60,7 @@ impl<'r> Node<'r> {
             lease,
             apart: _,
             below,
+            filled: _,
             behind: _,
             alloc: _,
         } = self;

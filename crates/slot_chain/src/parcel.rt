@@ -1,11 +1,13 @@
 //! Buffers of one allocator that are handed over and freed as a whole.
-ghost use Rattle.std.specs.Prelude.{◌≡◌, ◌+◌, ◌≤◌, ◌↔◌, [], ◌∷◌, ◌++◌, length, map, All, IsTrue, MatchOption};
-ghost use Rattle.std.specs.Prelude.{MatchResult, IfOk};
+ghost use Rattle.std.specs.Prelude.{◌≡◌, ◌+◌, ◌<◌, ◌≤◌, ◌↔◌, [], ◌∷◌, ◌++◌, length, map, All, IsTrue, MatchOption};
+ghost use Rattle.std.specs.Prelude.{MatchResult, IfOk, Some, slice_get};
 ghost use Rattle.std.specs.Prelude.{vec_capacity};
 ghost use Rattle.region_cut.specs.Classes.{size_of};
 ghost use Rattle.slot_chain.specs.Buffer.{ended_of};
 ghost use Rattle.slot_chain.specs.Counts.{capped, sizes};
-ghost use Rattle.slot_chain.specs.Parcels.{IsPacked, KeepsOut, Packs};
+ghost use Rattle.slot_chain.specs.Filling.{holding};
+ghost use Rattle.slot_chain.specs.Parcels.{EditsAt, IsPacked, KeepsOut, Packs};
+ghost use Rattle.std.specs.Fn.{FnOnceReturnsAtMut};
 
 use crate::buf::Buf;
 use crate::error::NoMemory;
@@ -145,7 +147,7 @@ impl<'r> Parcel<'r> {
         }
         let mut buf = buf;
         buf.set_forwards(0);
-        self.bytes = self.bytes.saturating_add(buf.len() as u64);
+        self.bytes = self.bytes.saturating_add(buf.capacity() as u64);
         self.buffers.push_reserved(buf);
         Ok(())
     }
@@ -160,6 +162,26 @@ impl<'r> Parcel<'r> {
         let buf = self.buffers.pop()?;
         self.bytes = bytes_left(self.bytes, buf.class(), self.buffers.as_slice());
         Some(buf)
+    }
+
+    /// Lends all bytes of the buffer at place `at` to a closure, which may write them. How much of it is
+    /// filled stays as it is; [`Parcel::set_len_at`] says it.
+    pub fn edit_at<T, F: FnOnce(&mut [u8]) -> T>(&mut self, at: usize, edit: F) -> T
+        requires place { at < length self.old.items }
+        requires callable { F.IsAlwaysCallable edit }
+        ensures { (bytes : _) × EditsAt at (λ b b'. FnOnceReturnsAtMut F.FnOnce edit b.bytes.now result bytes
+            × (b' ≡ holding b bytes b.filled)) self.old self.new }
+    {
+        self.buffers[at].edit(edit)
+    }
+
+    /// Says how many bytes of the buffer at place `at` count as filled, from the front: at most as many as
+    /// it has. No byte is written.
+    pub fn set_len_at(&mut self, at: usize, len: usize)
+        requires { (b : _) × (slice_get self.old.items at ≡ Some b) × (len ≤ size_of b.class) }
+        ensures { EditsAt at (λ b b'. b' ≡ record b { filled = len }) self.old self.new }
+    {
+        self.buffers[at].set_len(len);
     }
 
     /// Lets all buffers go: it is then known what each ends as. Takes a walk over them.
@@ -212,11 +234,6 @@ fn sum_of(buffers: &[Buf<'_>]) -> u64
 // The buffers are not printed.
 impl fmt::Debug for Parcel<'_> {
     fn fmt<W: fmt::Write>(&self, f: &mut fmt::Formatter<W>) -> fmt::Result {
-        write!(
-            f,
-            "Parcel({} buffers of {})",
-            self.buffers.len(),
-            self.owner
-        )
+        write!(f, "Parcel({} buffers of {})", self.len(), self.owner)
     }
 }

@@ -44,7 +44,8 @@ impl<'r> Room<'r> {
             lease: Lease::new(Default::default()),
             apart: [0; 12],
             below: Below::new(),
-            behind: [0; 5],
+            filled: 0,
+            behind: [0; 9],
             alloc,
         };
         Ok(Room {
@@ -64,6 +65,7 @@ impl<'r> Room<'r> {
         ensures class { result.class ≡ class }
         ensures owner { result.owner ≡ owner }
         ensures forwards { result.forwards ≡ 0 }
+        ensures filled { result.filled ≡ 0 }
         ensures bytes { result.bytes ≡ slice_of piece.entry }
     {
         let Room { mut node } = self;
@@ -72,6 +74,7 @@ impl<'r> Room<'r> {
         node.class = class;
         node.owner = owner;
         node.forwards = 0;
+        node.filled = 0;
         node.lease = Lease::new(bytes);
         Buf { node }
     }

@@ -16,7 +16,7 @@ fn turn(rt: &impl Abort, alloc: Global) -> Result<(), NoMemory> {
     let mut index = 0u64;
     for buf in turned {
         same(rt, "the index", u64::from(buf.slot().index), index);
-        same(rt, "the bytes", buf.len() as u64, 512);
+        same(rt, "the bytes", buf.capacity() as u64, 512);
         index = index.wrapping_add(1);
     }
     same(rt, "all of them", index, 8);

@@ -116,7 +116,7 @@ fn put_one<'r>(rt: &impl Abort, parcel: &mut Parcel<'r>, chain: &mut Chain<'r>, 
 // A buffer of this size comes out, and then so many bytes are in it.
 fn take_one(rt: &impl Abort, parcel: &mut Parcel<'_>, size: u64, bytes: u64) {
     let buf = parcel.pop().expect(rt, "a buffer");
-    same(rt, "the size", buf.len() as u64, size);
+    same(rt, "the size", buf.capacity() as u64, size);
     same(rt, "the hops", u64::from(buf.forwards()), 0);
     same(rt, "the bytes behind a pop", parcel.bytes_total(), bytes);
 }

@@ -7,7 +7,7 @@ use Rattle.digit_route.proofs.cache.Cache.put.Goals as goal
 
 pub invariant_of-self : goal.invariant_of-self
 invariant_of-self c =
-    let size : c.len-size.result ≡ buffer_size c.args.item = c.len-size.ensures in (
+    let size : c.capacity-size.result ≡ buffer_size c.args.item = c.capacity-size.ensures in (
       ap (λ (r : Row). r.round) c.push.ensures.same ∙ c.self.invariant.0,
       c.self.invariant.1,
       counted_one c.self.inside.row.items c.push.new.self.items c.args.item _ _ _ c.self.invariant.2 size c.push.ensures.items c.saturating_add-self-inside.ensures,
