@@ -13,6 +13,7 @@ use Rattle.region_cut.specs.declared.part.Bump.{Bump}
 use Rattle.region_cut.specs.Bumps.{left_of, part_of, HoldsPart, GivesNext}
 use Rattle.region_cut.specs.Classes.{slots_of, size_of}
 use Rattle.slot_chain.specs.Buffer.{Buffer}
+use Rattle.slot_chain.specs.Filling.{emptied}
 use Rattle.pool_desk.specs.declared.error.DeskError.{DeskError}
 use Rattle.pool_desk.specs.NextSlots.{GivesNextSlot}
 use Rattle.pool_desk.specs.Homes.{HomeState, IsRefused, AtHome, IsAtHome, unused_from, unused_of, IsUnused, GivesOne, Draws, taken_next}
@@ -102,13 +103,20 @@ kept_pop bs b us = IsPermutation-sym _ _ (kept_push bs b us)
 pub All-end : {X : Type 0} (P : X → Type 0) (xs : List X) (x : X) → All P (xs ++ x ∷ []) → P x
 All-end P xs x h = All-contains P (xs ++ x ∷ []) x h (Contains-push xs x)
 
--- a buffer that came home is given out
-pub gives_kept : (owner class : ℕ) (list rest : List Buffer) (b : Buffer) (us : List AtHome) (drawn : List Carved)
-    → All (λ (b : Buffer). (b.owner ≡ owner) × (b.class ≡ class)) list → list ≡ rest ++ b ∷ []
-    → GivesOne owner class (map {A = Buffer} {B = AtHome} (λ x. Kept x) list ++ us) b (map {A = Buffer} {B = AtHome} (λ x. Kept x) rest ++ us) drawn drawn
-gives_kept owner class list rest b us drawn all is =
+-- a buffer that came home is given out as x
+pub gives_kept : (owner class : ℕ) (list rest : List Buffer) (b x : Buffer) (us : List AtHome) (drawn : List Carved)
+    → All (λ (b : Buffer). (b.owner ≡ owner) × (b.class ≡ class)) list → list ≡ rest ++ b ∷ [] → x ≡ emptied b
+    → GivesOne owner class (map {A = Buffer} {B = AtHome} (λ x. Kept x) list ++ us) x (map {A = Buffer} {B = AtHome} (λ x. Kept x) rest ++ us) drawn drawn
+gives_kept owner class list rest b x us drawn all is e =
     let one = All-end (λ (b : Buffer). (b.owner ≡ owner) × (b.class ≡ class)) rest b (rw is at all) in
-    record { owner_is = one.0; class_is = one.1; from = Kept b; gives = refl; others = rw is (kept_pop rest b us); names = refl }
+    record {
+      owner_is = ap (λ (z : Buffer). z.owner) e ∙ one.0;
+      class_is = ap (λ (z : Buffer). z.class) e ∙ one.1;
+      from = Kept b;
+      gives = e;
+      others = rw is (kept_pop rest b us);
+      names = refl;
+    }
 
 -- the chunk of a cursor that gave a slot
 pub carved_next : (b b' : Bump) (p : Piece) → GivesNext b b' p → carved_of b' ≡ taken_next (carved_of b) p.bytes.ghost_name b'.front.rest.now
@@ -116,13 +124,13 @@ carved_next b b' p g = rw (g.same_chunk, g.same_class, g.same_part, g.joined_the
 
 -- a slot is given out that never was
 pub gives_fresh : (owner : ℕ) (class : ℕ) (x : Buffer) (b b' : Bump) (p : Piece) (drawn : List Carved) → GivesNext b b' p → b.class ≡ class
-    → x.owner ≡ owner → x.class ≡ class → x.slot ≡ p.slot → x.forwards ≡ 0 → x.bytes ≡ p.bytes
+    → x.owner ≡ owner → x.class ≡ class → x.slot ≡ p.slot → x.forwards ≡ 0 → x.filled ≡ 0 → x.bytes ≡ p.bytes
     → GivesOne owner class (unused_of b) x (unused_of b') (carved_of b ∷ drawn) (carved_of b' ∷ drawn)
-gives_fresh owner class x b b' p drawn g c o k s f m = record {
+gives_fresh owner class x b b' p drawn g c o k s f n m = record {
   owner_is = o;
   class_is = k;
   from = Fresh (record { slot = p.slot; class = b.class; part = part_of b; bytes = p.bytes.now });
-  gives = (s, k ∙ sym c, f, ap (λ (z : MutBor (List ℕ)). z.now) m);
+  gives = (s, k ∙ sym c, f, n, ap (λ (z : MutBor (List ℕ)). z.now) m);
   others = rw (unused_next b b' p g) (IsPermutation-refl _);
   names = record {
     from = carved_of b;

@@ -11,6 +11,7 @@ use Rattle.region_cut.specs.Bumps.{left_of, part_of}
 use Rattle.region_cut.specs.Carved.{Carved, carved_of}
 use Rattle.region_cut.specs.Classes.{size_of}
 use Rattle.slot_chain.specs.Buffer.{Buffer}
+use Rattle.slot_chain.specs.Filling.{emptied}
 
 -- a slot that was never handed out: the name of its chunk's part, and its bytes
 pub record Unused : Type 0 where
@@ -94,10 +95,11 @@ pub record Draws (part : Part) (class : ℕ) (old new : List Carved) : Type 0 wh
   pub uncut : IsUncut part class drawn
   pub added : IsPermutation (drawn ∷ old) new
 
--- the buffer b is what this slot at home becomes where it is given out
+-- the buffer b is what this slot at home becomes where it is given out: nothing of it is filled
 abbrev pub GivenAs : AtHome → Buffer → Type 0
-GivenAs (Kept a) b = b ≡ a
-GivenAs (Fresh u) b = (b.slot ≡ u.slot) × (b.class ≡ u.class) × (b.forwards ≡ 0) × (b.bytes.now ≡ u.bytes)
+GivenAs (Kept a) b = b ≡ emptied a
+GivenAs (Fresh u) b =
+    (b.slot ≡ u.slot) × (b.class ≡ u.class) × (b.forwards ≡ 0) × (b.filled ≡ 0) × (b.bytes.now ≡ u.bytes)
 
 -- the chunk with one more slot taken, of this name, and what is then left of it
 abbrev pub taken_next : Carved → GName → List ℕ → Carved

@@ -13,7 +13,7 @@ use Rattle.pool_desk.specs.declared.freed.Freed.TheVariants.{Home, Cached, Due}
 use Rattle.pool_desk.specs.declared.counts.Counts.{Counts}
 use Rattle.pool_desk.specs.Homes.{AtHome, class_at, unused_from, Draws, GivesOne, IsUnused}
 use Rattle.pool_desk.specs.Homes.AtHome.{Kept}
-use Rattle.pool_desk.specs.HomesState.{HasClass, LacksClass}
+use Rattle.pool_desk.specs.HomesState.{HasClass, LacksClass, IsWanting}
 use Rattle.pool_desk.specs.Desks.{DeskState, profile_at}
 
 -- no slot of the class was at home, and now each slot of the part's chunk is, over its bytes; the chunk comes to
@@ -45,6 +45,13 @@ Allocs old n (Ok b) new =
     IsLeastFor (profile_at old) n b.class × GivesOne old.number b.class old.home b new.home old.drawn new.drawn
     × (new ≡ record old { home = new.home; drawn = new.drawn })
 Allocs old n (Err e) new = AllocFault old n e × (new ≡ old)
+
+-- a slot at home of the class c is given out, and all else of the desk stays; or none is, and the desk stays
+abbrev pub AllocsClass : DeskState → ℕ → Result Buffer DeskError → DeskState → Type 0
+AllocsClass old c (Ok b) new =
+    GivesOne old.number c old.home b new.home old.drawn new.drawn
+    × (new ≡ record old { home = new.home; drawn = new.drawn })
+AllocsClass old c (Err e) new = IsWanting c old.home e × (new ≡ old)
 
 -- the buffer as it is freed: its count of forwards is 0, and all else is the same
 abbrev pub freed : Buffer → Buffer

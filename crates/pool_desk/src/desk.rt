@@ -13,7 +13,7 @@ ghost use Rattle.pool_desk.specs.HomesState.{HasClass};
 ghost use Rattle.pool_desk.specs.Desks.{profile_at};
 ghost use Rattle.pool_desk.specs.Homes.{IsOwn, kept_in};
 ghost use Rattle.pool_desk.specs.Slots.{slots_in};
-ghost use Rattle.pool_desk.specs.Steps.{Claims, NotNeededFor, Allocs, Frees, FreesAll, Handles, CountsOf};
+ghost use Rattle.pool_desk.specs.Steps.{Claims, NotNeededFor, Allocs, AllocsClass, Frees, FreesAll, Handles, CountsOf};
 ghost use Rattle.pool_desk.specs.Handling.{Adds, IsPassed, GoesHome, GoesOn};
 
 use crate::homes::Homes;
@@ -151,8 +151,8 @@ impl<'r> Desk<'r> {
 
     /// Gives out a slot at home of the least class that holds `size` bytes: the one that came
     /// home last, else the next that was never handed out. Only the latter takes memory, for the
-    /// box of the buffer, which is made first; so a refusal changes nothing. No byte of a slot is
-    /// written. Takes constant time.
+    /// box of the buffer, which is made first; so a refusal changes nothing. Nothing of the buffer is
+    /// filled, and no byte of a slot is written. Takes constant time.
     #[inline(always)]
     pub fn alloc(&mut self, alloc: Global, size: usize) -> Result<Buf<'r>, DeskError>
         ensures { Allocs self.old size result self.new }
@@ -160,6 +160,16 @@ impl<'r> Desk<'r> {
         let Some(class) = self.cache.digits().profile().class_for(size) else {
             return Err(DeskError::TooLarge);
         };
+        self.alloc_class(alloc, class)
+    }
+
+    /// Gives out a slot at home of this class, as [`Desk::alloc`] does of the class that a size has: for
+    /// whoever knows the class already.
+    #[inline(always)]
+    pub fn alloc_class(&mut self, alloc: Global, class: Class) -> Result<Buf<'r>, DeskError>
+        requires { class < classes_of (profile_at self.old) }
+        ensures { AllocsClass self.old class result self.new }
+    {
         self.homes.alloc(alloc, class)
     }
 

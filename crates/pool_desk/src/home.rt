@@ -106,14 +106,15 @@ impl<'r> Home<'r> {
         }
     }
 
-    /// Gives out a slot.
+    /// Gives out a slot, of which nothing is filled.
     pub(crate) fn alloc(&mut self, alloc: Global) -> Result<Buf<'r>, DeskError>
         ensures same { self.new ≡ record self.old { slots = self.new.slots; drawn = self.new.drawn } }
         ensures value { MatchResult result
             (λ b. GivesOne self.old.owner self.old.class self.old.slots b self.new.slots self.old.drawn self.new.drawn)
             (λ e. IsRefused self.old.class self.old.slots e × (self.new ≡ self.old)) }
     {
-        if let Some(buf) = self.list.pop() {
+        if let Some(mut buf) = self.list.pop() {
+            buf.clear();
             return Ok(buf);
         }
         let Some(bump) = &mut self.bump else {
