@@ -39,7 +39,7 @@ fn judge(drawn: &Drawn, found: &[Slot], tallied: &[u8]) -> Result<(), Fault>
 /// [`Fault::NoMemory`] only where that table was refused.
 ///
 /// ```
-/// let mut drawn = Drawn::new();
+/// let mut drawn = Drawn::new(alloc)?;
 /// drawn.note(0, class);
 /// let found = [Slot { chunk: 0, index: 1 }, Slot { chunk: 0, index: 0 }];
 /// match audit(alloc, &found, &drawn) {

@@ -1,17 +1,19 @@
 //! Which chunks are drawn.
-ghost use Rattle.std.specs.Prelude.{◌≡◌, ◌≢◌, ◌<◌, ℕ, Some, None, length};
+ghost use Rattle.std.specs.Prelude.{◌≡◌, ◌≢◌, ◌<◌, ℕ, Some, None, IfOk, length};
 ghost use Rattle.region_cut.specs.Limits.{chunk_limit};
 ghost use Rattle.slot_audit.specs.Audit.{class_noted, slot_count_in};
 ghost use Rattle.slot_audit.specs.Tallies.{FitsTable};
 
 use region_cut::{Class, MAX_CHUNKS};
+use std::alloc::{AllocError, Global};
 use std::marker::Model;
 
 /// Which chunks of a region are drawn, and for which class each of them is. Contracts see it as the
-/// list of the chunks' classes, by the chunk's number.
+/// list of the chunks' classes, by the chunk's number. It is a box of 2,048 bytes, so that it moves as
+/// one pointer.
 #[derive(Debug, Drop)]
 pub struct Drawn {
-    classes: [Option<Class>; MAX_CHUNKS],
+    classes: Box<[Option<Class>; MAX_CHUNKS]>,
 }
 
 impl Model for Drawn {
@@ -20,9 +22,9 @@ impl Model for Drawn {
 
     ghost Value = { List (Option ℕ) };
 
-    ghost view = { λ d. d.classes };
+    ghost view = { λ d. d.classes.value };
 
-    ghost invariant = { λ d. FitsTable d.classes };
+    ghost invariant = { λ d. FitsTable d.classes.value };
 }
 
 /// So many chunks, none of them drawn.
@@ -34,11 +36,13 @@ fn undrawn<const N: usize>() -> [Option<Class>; N]
 }
 
 impl Drawn {
-    /// No chunk is drawn.
-    pub fn new() -> Drawn
-        ensures { (k : ℕ) → class_noted result k ≡ None }
+    /// No chunk is drawn. [`AllocError`] is answered only where the allocator refused the box.
+    pub fn new(alloc: Global) -> Result<Drawn, AllocError>
+        ensures { IfOk result (λ drawn. (k : ℕ) → class_noted drawn k ≡ None) }
     {
-        Drawn { classes: undrawn() }
+        Ok(Drawn {
+            classes: Box::new(alloc, undrawn())?,
+        })
     }
 
     /// The chunk is drawn for the class.
@@ -66,7 +70,7 @@ impl Drawn {
         ensures value { result ≡ chunk_limit }
         ensures fits { FitsTable self.now }
     {
-        let classes = &self.classes;
+        let classes = &*self.classes;
         classes.len()
     }
 

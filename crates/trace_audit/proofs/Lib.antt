@@ -15,3 +15,4 @@ mod Goings
 mod Runs
 mod Replays
 mod OnceOnFloors
+mod Telling

@@ -8,19 +8,19 @@ use event_floor::Floor;
 use region_cut::{MAX_CHUNKS, Slot};
 use slot_audit::{Drawn, Fault, audit};
 use slot_chain::NoMemory;
-use std::alloc::Global;
+use std::alloc::{AllocError, Global};
 
 /// Which chunks of the floor are drawn.
-fn drawn_on(floor: &Floor<'_>) -> Drawn
-    ensures { TellsDrawn floor.now result }
+fn drawn_on(alloc: Global, floor: &Floor<'_>) -> Result<Drawn, AllocError>
+    ensures { IfOk result (TellsDrawn floor.now) }
 {
-    let mut drawn = Drawn::new();
+    let mut drawn = Drawn::new(alloc)?;
     for chunk in 0..MAX_CHUNKS as u16 {
         if let Some(class) = floor.class_of(u32::from(chunk)) {
             drawn.note(chunk, class);
         }
     }
-    drawn
+    Ok(drawn)
 }
 
 /// The slots with a desk: at home, in its cache and in its inbox.
@@ -54,7 +54,9 @@ pub(crate) fn audit_floor(alloc: Global, floor: &Floor<'_>) -> Result<(), Fault>
     ensures ok { IfOk result (λ _. HasEachOnce floor.now) }
     ensures err { IfErr result (λ fault. IsFaultOn floor.now fault) }
 {
-    let drawn = drawn_on(floor);
+    let Ok(drawn) = drawn_on(alloc, floor) else {
+        return Err(Fault::NoMemory);
+    };
     match slots_on(alloc, floor) {
         Ok(found) => audit(alloc, found.as_slice(), &drawn),
         Err(_) => Err(Fault::NoMemory),

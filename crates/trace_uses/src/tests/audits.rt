@@ -7,13 +7,10 @@ use std::test::Fail;
 use trace_audit::{Drawn, Failed, Fault, ReplayError, audit, write_audit};
 
 /// Chunk 0 is drawn for the class of 512 bytes, 8 slots, and no other.
-fn one_chunk(rt: &impl Abort) -> Drawn {
-    let mut drawn = Drawn::new();
-    let Some(class) = Class::new(15) else {
-        panic!(rt; "there is a class 15")
-    };
-    drawn.note(0, class);
-    drawn
+fn one_chunk(alloc: Global) -> Result<Drawn, Fail> {
+    let mut drawn = Drawn::new(alloc)?;
+    drawn.note(0, Class::new(15).ok_or("a class of 512 bytes")?);
+    Ok(drawn)
 }
 
 fn slot(chunk: u16, index: u16) -> Slot {
@@ -37,7 +34,7 @@ fn answers(
 }
 
 #[test]
-fn each_slot_once(rt: HostRuntime) {
+fn each_slot_once(rt: HostRuntime) -> Result<(), Fail> {
     let found = [
         slot(0, 3),
         slot(0, 0),
@@ -48,13 +45,14 @@ fn each_slot_once(rt: HostRuntime) {
         slot(0, 5),
         slot(0, 4),
     ];
-    answers(&rt, &found, &one_chunk(&rt), Ok(()));
-    answers(&rt, &[], &Drawn::new(), Ok(()));
+    answers(&rt, &found, &one_chunk(rt.alloc())?, Ok(()));
+    answers(&rt, &[], &Drawn::new(rt.alloc())?, Ok(()));
+    Ok(())
 }
 
 #[test]
-fn the_least_fault_is_named(rt: HostRuntime) {
-    let drawn = one_chunk(&rt);
+fn the_least_fault_is_named(rt: HostRuntime) -> Result<(), Fail> {
+    let drawn = one_chunk(rt.alloc())?;
     let but_one = [
         slot(0, 1),
         slot(0, 2),
@@ -70,11 +68,12 @@ fn the_least_fault_is_named(rt: HostRuntime) {
     answers(&rt, &doubled, &drawn, Err(Fault::Doubled(slot(0, 0))));
     let strange = [slot(0, 0), slot(0, 0), slot(1, 0), slot(0, 8)];
     answers(&rt, &strange, &drawn, Err(Fault::Stranger(slot(0, 8))));
+    Ok(())
 }
 
 /// As many slots as there should be, of which one is there twice.
 #[test]
-fn the_number_is_not_enough(rt: HostRuntime) {
+fn the_number_is_not_enough(rt: HostRuntime) -> Result<(), Fail> {
     let found = [
         slot(0, 7),
         slot(0, 6),
@@ -88,9 +87,10 @@ fn the_number_is_not_enough(rt: HostRuntime) {
     answers(
         &rt,
         &found,
-        &one_chunk(&rt),
+        &one_chunk(rt.alloc())?,
         Err(Fault::Doubled(slot(0, 0))),
     );
+    Ok(())
 }
 
 /// Of the worked table: each class, and how many slots a chunk of it has.
@@ -99,14 +99,14 @@ const SLOTS: [u16; 20] = [
 ];
 
 /// Chunk `1000 + class` is drawn for each class.
-fn all_classes() -> Drawn {
-    let mut drawn = Drawn::new();
+fn all_classes(alloc: Global) -> Result<Drawn, Fail> {
+    let mut drawn = Drawn::new(alloc)?;
     for number in 0..20u16 {
         if let Some(class) = Class::new(u32::from(number)) {
             drawn.note(number + 1000, class);
         }
     }
-    drawn
+    Ok(drawn)
 }
 
 fn push_slots(found: &mut Vec<Slot>, chunk: u16, count: u16) -> Result<(), Fail> {
@@ -127,7 +127,7 @@ fn all_slots(alloc: Global) -> Result<Vec<Slot>, Fail> {
 
 #[test]
 fn a_chunk_of_each_class(rt: HostRuntime) -> Result<(), Fail> {
-    let drawn = all_classes();
+    let drawn = all_classes(rt.alloc())?;
     let mut found = all_slots(rt.alloc())?;
     answers(&rt, found.as_slice(), &drawn, Ok(()));
     found.push(slot(1019, 4))?;
@@ -141,12 +141,12 @@ fn a_chunk_of_each_class(rt: HostRuntime) -> Result<(), Fail> {
 }
 
 /// All chunks of the largest region are drawn, each for the class with the most slots.
-fn all_chunks() -> Drawn {
-    let mut drawn = Drawn::new();
+fn all_chunks(alloc: Global) -> Result<Drawn, Fail> {
+    let mut drawn = Drawn::new(alloc)?;
     for chunk in 0..1024u16 {
         drawn.note(chunk, Class::FIRST);
     }
-    drawn
+    Ok(drawn)
 }
 
 /// The 262,144 slots of those chunks.
@@ -161,7 +161,7 @@ fn slots_of_all_chunks(alloc: Global) -> Result<Vec<Slot>, Fail> {
 /// As many slots as a region may have.
 #[test]
 fn a_whole_region(rt: HostRuntime) -> Result<(), Fail> {
-    let drawn = all_chunks();
+    let drawn = all_chunks(rt.alloc())?;
     let mut found = slots_of_all_chunks(rt.alloc())?;
     assert!(rt; found.len() == 262_144);
     assert!(rt; audit(rt.alloc(), found.as_slice(), &drawn) == Ok(()));
