@@ -20,9 +20,8 @@ use Rattle.pool_desk.specs.Desks.{DeskState}
 use Rattle.pool_desk.specs.Steps.{Claims, Allocs, Frees, Caches, Handles, freed, passed_on, own, others}
 use Rattle.pool_desk.specs.declared.freed.Freed.{Freed}
 use Rattle.pool_desk.specs.declared.freed.Freed.TheVariants.{Home, Cached, Due}
-use Rattle.event_floor.specs.declared.any_desk.AnyDesk.{AnyDesk}
-use Rattle.event_floor.specs.declared.any_desk.AnyDesk.TheVariants.{Idle, Held}
-use Rattle.event_floor.specs.Desks.{IsNumbered, HasPlace, in_hands_of, Releases}
+use Rattle.event_floor.specs.Desks.AnyDeskState.{Idle, Held}
+use Rattle.event_floor.specs.Desks.{AnyDeskState, IsNumbered, HasPlace, Releases}
 use Rattle.event_floor.specs.Floors.{FitsFloor, IsDeskOf}
 
 -- a test holds of each number below n
@@ -182,11 +181,7 @@ handle_keeps digits limit n chunks a d d' bs h k s = record {
       (passed_known n chunks (others d.number bs) (All-filter (λ (b : Buffer). not (b.owner == d.number)) (FitsFloor n chunks) bs k)) h.known);
 }
 
-pub adopt_keeps : (digits : Scheme) (limit n chunks a worker : ℕ) (s : AnyDesk) → IsDeskOf digits limit n chunks a s → IsDeskOf digits limit n chunks a (in_hands_of worker s)
-adopt_keeps digits limit n chunks a worker (Idle d) h = record { numbered = h.numbered; placed = h.placed; known = All-nil (FitsFloor n chunks) }
-adopt_keeps digits limit n chunks a worker (Held d) h = h
-
-pub release_keeps : (digits : Scheme) (limit n chunks a : ℕ) (s s' : AnyDesk) (done : Bool) → IsDeskOf digits limit n chunks a s → Releases s done s'
+pub release_keeps : (digits : Scheme) (limit n chunks a : ℕ) (s s' : AnyDeskState) (done : Bool) → IsDeskOf digits limit n chunks a s → Releases s done s'
     → IsDeskOf digits limit n chunks a s'
 release_keeps digits limit n chunks a (Idle d) s' true h r = absurd r
 release_keeps digits limit n chunks a (Idle d) s' false h r = subst (λ z. IsDeskOf digits limit n chunks a z) (sym r) h

@@ -11,10 +11,9 @@ use Rattle.region_cut.specs.Classes.{bits_of, class_count, classes_of}
 use Rattle.slot_chain.specs.Buffer.{Buffer}
 use Rattle.digit_route.specs.Digits.{Scheme}
 use Rattle.digit_route.specs.Profiles.{profile_of}
-use Rattle.pool_desk.specs.Desks.{DeskState, profile_at}
-use Rattle.event_floor.specs.declared.any_desk.AnyDesk.{AnyDesk}
-use Rattle.event_floor.specs.declared.any_desk.AnyDesk.TheVariants.{Idle, Held}
-use Rattle.event_floor.specs.Desks.{new_desk, new_desks, HasPlace}
+use Rattle.pool_desk.specs.Desks.{DeskState}
+use Rattle.event_floor.specs.Desks.AnyDeskState.{Idle, Held}
+use Rattle.event_floor.specs.Desks.{AnyDeskState, new_desk, new_desks, HasPlace}
 use Rattle.event_floor.specs.Lent.{AreInPlace, lent_at, index_of}
 use Rattle.event_floor.specs.Inboxes.{QueuedState, inbox_at}
 use Rattle.event_floor.specs.Floors.{AreOwned, FitsFloor, IsDeskOf, IsQueuedAt, IsFloorOf, IsFloor, no_desk, last_number}
@@ -27,11 +26,11 @@ each_set P xs n a x d count l p each b m =
     (λ (other : _ × (b ≢ a)). rw (get_or-set_other xs a b x d other.1) (each b m)) (eqb_tells b a)
 
 -- where the number of desks is that of a list of them
-pub floor_settled : {n : ℕ} {digits : Scheme} {limit chunks : ℕ} {desks : List AnyDesk} {lent : List (Option Buffer)} {inboxes : List (List QueuedState)} {next : ℕ}
+pub floor_settled : {n : ℕ} {digits : Scheme} {limit chunks : ℕ} {desks : List AnyDeskState} {lent : List (Option Buffer)} {inboxes : List (List QueuedState)} {next : ℕ}
     → IsFloorOf n digits limit chunks desks lent inboxes next → IsFloor digits limit chunks desks lent inboxes next
 floor_settled {n} {digits} {limit} {chunks} {desks} {lent} {inboxes} {next} f = subst (λ m. IsFloorOf m digits limit chunks desks lent inboxes next) (sym f.count) f
 
-pub floor_desk : {n : ℕ} {digits : Scheme} {limit chunks : ℕ} {desks : List AnyDesk} {lent : List (Option Buffer)} {inboxes : List (List QueuedState)} {next : ℕ} (a : ℕ) (s : AnyDesk)
+pub floor_desk : {n : ℕ} {digits : Scheme} {limit chunks : ℕ} {desks : List AnyDeskState} {lent : List (Option Buffer)} {inboxes : List (List QueuedState)} {next : ℕ} (a : ℕ) (s : AnyDeskState)
     → IsFloorOf n digits limit chunks desks lent inboxes next → a < n → IsDeskOf digits limit n chunks a s
     → IsFloorOf n digits limit chunks (set desks a s) lent inboxes next
 floor_desk {n} {digits} {limit} {chunks} {desks} {lent} {inboxes} {next} a s f l h = record {
@@ -47,7 +46,7 @@ floor_desk {n} {digits} {limit} {chunks} {desks} {lent} {inboxes} {next} a s f l
   next_high = f.next_high;
 }
 
-pub floor_lent : {n : ℕ} {digits : Scheme} {limit chunks : ℕ} {desks : List AnyDesk} {lent : List (Option Buffer)} {inboxes : List (List QueuedState)} {next : ℕ} (lent' : List (Option Buffer))
+pub floor_lent : {n : ℕ} {digits : Scheme} {limit chunks : ℕ} {desks : List AnyDeskState} {lent : List (Option Buffer)} {inboxes : List (List QueuedState)} {next : ℕ} (lent' : List (Option Buffer))
     → IsFloorOf n digits limit chunks desks lent inboxes next → length lent' ≡ length lent → AreOwned n lent'
     → IsFloorOf n digits limit chunks desks lent' inboxes next
 floor_lent lent' f e own = record {
@@ -63,7 +62,7 @@ floor_lent lent' f e own = record {
   next_high = f.next_high;
 }
 
-pub floor_inbox : {n : ℕ} {digits : Scheme} {limit chunks : ℕ} {desks : List AnyDesk} {lent : List (Option Buffer)} {inboxes : List (List QueuedState)} {next : ℕ} (b : ℕ) (ps : List QueuedState)
+pub floor_inbox : {n : ℕ} {digits : Scheme} {limit chunks : ℕ} {desks : List AnyDeskState} {lent : List (Option Buffer)} {inboxes : List (List QueuedState)} {next : ℕ} (b : ℕ) (ps : List QueuedState)
     → IsFloorOf n digits limit chunks desks lent inboxes next → b < n → All (IsQueuedAt digits n chunks next b) ps
     → IsFloorOf n digits limit chunks desks lent (set inboxes b ps) next
 floor_inbox {n} {digits} {limit} {chunks} {desks} {lent} {inboxes} {next} b ps f l h = record {
@@ -89,7 +88,7 @@ later p h = record {
 }
 
 -- one more number was given
-pub floor_next : {n : ℕ} {digits : Scheme} {limit chunks : ℕ} {desks : List AnyDesk} {lent : List (Option Buffer)} {inboxes : List (List QueuedState)} {next : ℕ}
+pub floor_next : {n : ℕ} {digits : Scheme} {limit chunks : ℕ} {desks : List AnyDeskState} {lent : List (Option Buffer)} {inboxes : List (List QueuedState)} {next : ℕ}
     → IsFloorOf n digits limit chunks desks lent inboxes next → next ≤ last_number
     → IsFloorOf n digits limit chunks desks lent inboxes (next + 1)
 floor_next {n} {digits} {limit} {chunks} {desks} {lent} {inboxes} {next} f l = record {
@@ -140,30 +139,21 @@ pub chunk_within : (chunks chunk index n : ℕ) → 256 * chunk + index < n → 
 chunk_within chunks chunk index n l e = omega (arith, l, e)
 
 -- what is known of a desk that was read
-pub desk_read : (desks : List AnyDesk) (a : ℕ) (x : AnyDesk) (d : DeskState) → a < length desks → x ≡ get_or desks a x → x ≡ Held d → get_or desks a no_desk ≡ Held d
-desk_read desks a x d l read is = sym (get_or_read desks a x l read no_desk) ∙ is
+pub desk_read : (desks : List AnyDeskState) (a : ℕ) (x s : AnyDeskState) → a < length desks → x ≡ get_or desks a x → x ≡ s → get_or desks a no_desk ≡ s
+desk_read desks a x s l read is = sym (get_or_read desks a x l read no_desk) ∙ is
 
-pub desk_of_floor : {n : ℕ} {digits : Scheme} {limit chunks : ℕ} {desks : List AnyDesk} {lent : List (Option Buffer)} {inboxes : List (List QueuedState)} {next : ℕ} (a : ℕ) (x : AnyDesk)
+pub desk_of_floor : {n : ℕ} {digits : Scheme} {limit chunks : ℕ} {desks : List AnyDeskState} {lent : List (Option Buffer)} {inboxes : List (List QueuedState)} {next : ℕ} (a : ℕ) (x : AnyDeskState)
     → IsFloorOf n digits limit chunks desks lent inboxes next → a < n → x ≡ get_or desks a x → IsDeskOf digits limit n chunks a x
 desk_of_floor {n} {digits} {limit} {chunks} {desks} a x f l read =
     subst (λ z. IsDeskOf digits limit n chunks a z) (sym (get_or_read desks a x (let e = f.count in omega (arith, l, e)) read no_desk)) (f.each_desk a l)
 
-pub held_desk_of : {n : ℕ} {digits : Scheme} {limit chunks : ℕ} {desks : List AnyDesk} {lent : List (Option Buffer)} {inboxes : List (List QueuedState)} {next : ℕ} (a : ℕ) (d : DeskState)
+pub held_desk_of : {n : ℕ} {digits : Scheme} {limit chunks : ℕ} {desks : List AnyDeskState} {lent : List (Option Buffer)} {inboxes : List (List QueuedState)} {next : ℕ} (a : ℕ) (d : DeskState)
     → IsFloorOf n digits limit chunks desks lent inboxes next → a < n → get_or desks a no_desk ≡ Held d → IsDeskOf digits limit n chunks a (Held d)
 held_desk_of {n} {digits} {limit} {chunks} a d f l is = subst (λ z. IsDeskOf digits limit n chunks a z) is (f.each_desk a l)
 
 -- the same of an inbox
 pub inbox_read : (inboxes : List (List QueuedState)) (b : ℕ) (x : List QueuedState) → b < length inboxes → x ≡ get_or inboxes b x → inbox_at inboxes b ≡ x
 inbox_read inboxes b x l read = sym (get_or_read inboxes b x l read [])
-
--- the desk takes the buffers of all desks, and uses the classes that a claim may name
-pub takes_owner : {n : ℕ} {digits : Scheme} {limit chunks : ℕ} {desks : List AnyDesk} {lent : List (Option Buffer)} {inboxes : List (List QueuedState)} {next : ℕ} (a : ℕ) (d : DeskState) (owner : ℕ)
-    → IsFloorOf n digits limit chunks desks lent inboxes next → IsDeskOf digits limit n chunks a (Held d) → owner < n → owner < 2 ^ d.digits.bits
-takes_owner a d owner f s own = rw s.numbered.2 (let few = f.few in omega (arith, own, few))
-
-pub uses_class : {digits : Scheme} {limit n chunks a : ℕ} (d : DeskState) (class : ℕ) → IsDeskOf digits limit n chunks a (Held d)
-    → class < classes_of (profile_of digits.bits) → class < classes_of (profile_at d)
-uses_class d class s few = rw s.numbered.2 few
 
 -- no profile has more than 20 classes, nor numbers of more than 12 bits
 few_classes_of : (p : Profile) (class : ℕ) → class < classes_of p → class < class_count

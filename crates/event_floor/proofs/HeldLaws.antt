@@ -1,66 +1,49 @@
--- A desk that a request looks at, and puts back as it was.
-use Rattle.std.proofs.Common.{◌≡◌, ℕ, ◌<◌, ◌≤◌, List, length, get_or, set, sym, ap, ◌∙◌, subst, ⊎_elim}
-use Rattle.std.proofs.lemmas.List.{get_or_read, set-get_or, length-set}
-use Rattle.std.specs.Prelude.{Option, Result, Ok, Err, OnErr, IfErr, IsErrAnd, Bool, true, IsTrue, false}
-use Rattle.slot_chain.specs.Buffer.{Buffer}
-use Rattle.digit_route.specs.Digits.{Scheme}
+-- Desks that workers hold, and what a request that looked at one knows of it.
+use Rattle.std.proofs.Common.{◌≡◌, refl, ℕ, ◌<◌, List, length, get_or, ◌∙◌, subst}
+use Rattle.std.proofs.lemmas.List.{get_or_read}
+use Rattle.std.specs.Prelude.{Result, Ok, Err, OnErr, Bool, true, IsTrue, false}
 use Rattle.pool_desk.specs.Desks.{IdleState, DeskState}
-use Rattle.event_floor.specs.declared.any_desk.AnyDesk.{AnyDesk}
-use Rattle.event_floor.specs.declared.any_desk.AnyDesk.TheVariants.{Idle, Held}
-use Rattle.event_floor.specs.HeldDesks.{HoldsDesk, LacksHeld}
-use Rattle.event_floor.specs.Inboxes.{QueuedState}
-use Rattle.event_floor.specs.Steps.{MeetsIdle}
-use Rattle.pool_machine.specs.declared.refusal.Refusal.{Refusal}
-use Rattle.pool_machine.specs.declared.refusal.Refusal.TheVariants.{NoDesk, Idle as RefusedIdle}
-use Rattle.event_floor.specs.Floors.{FloorState, desk_count, no_desk, with_any_desk, IsFloor}
-use Rattle.event_floor.proofs.FloorLaws.{desk_read}
+use Rattle.event_floor.specs.Desks.{AnyDeskState, IsInHands, Works}
+use Rattle.event_floor.specs.Desks.AnyDeskState.{Idle, Held}
+use Rattle.event_floor.specs.HeldDesks.{HoldsDesk}
+use Rattle.event_floor.specs.Floors.{no_desk}
+
+pub held_here : (s : AnyDeskState) → IsInHands s → (d : DeskState) × (s ≡ Held d)
+held_here (Idle d) h = absurd h
+held_here (Held d) h = (d, refl)
+
+pub idle_here : (s : AnyDeskState) → (IsInHands s → ⊥) → (d : IdleState) × (s ≡ Idle d)
+idle_here (Idle d) h = (d, refl)
+idle_here (Held d) h = absurd (h tt)
+
+-- what the desk is once its worker did something to it
+pub worked : (does : DeskState → DeskState → Type 0) (s s' : AnyDeskState) (d : DeskState) → s ≡ Held d → Works does s s' → (d' : DeskState) × (s' ≡ Held d') × does d d'
+worked does s s' d is h = after s' (subst (λ z. Works does z s') is h)
+  where
+    after : (z : AnyDeskState) → Works does (Held d) z → (d' : DeskState) × (z ≡ Held d') × does d d'
+    after (Idle i) w = absurd w
+    after (Held d') w = (d', refl, w)
 
 -- a number that was compared with a length
 pub within : (a n m k : ℕ) → a < n → n ≡ m → m ≡ k → a < k
 within a n m k l e f = subst (λ z. a < z) (e ∙ f) l
 
 -- the desk of the number is there, and held
-abbrev pub HeldThere : List AnyDesk → ℕ → DeskState → Type 0
+abbrev pub HeldThere : List AnyDeskState → ℕ → DeskState → Type 0
 HeldThere desks a d = (a < length desks) × (get_or desks a no_desk ≡ Held d)
 
 -- what a request that found its desk held knows of it, by the slice that it looked at
-pub is_there : (desks seen : List AnyDesk) (a : ℕ) → seen ≡ desks → HoldsDesk seen a → a < length desks
+pub is_there : (desks seen : List AnyDeskState) (a : ℕ) → seen ≡ desks → HoldsDesk seen a → a < length desks
 is_there desks seen a same h = subst (λ z. a < length z) same h.0
 
-pub held_there : (desks seen : List AnyDesk) (a : ℕ) (x : AnyDesk) (d : DeskState) → seen ≡ desks → HoldsDesk seen a → x ≡ get_or desks a x → x ≡ Held d → HeldThere desks a d
-held_there desks seen a x d same h read is =
-    let there = is_there desks seen a same h in
-    (there, desk_read desks a x d there read is)
+pub held_there : (desks seen : List AnyDeskState) (a : ℕ) → seen ≡ desks → (h : HoldsDesk seen a) → HeldThere desks a h.1
+held_there desks seen a same h = subst (λ z. HeldThere z a h.1) same (h.0, h.2)
 
--- it is not idle
-pub not_idle : (desks seen : List AnyDesk) (a : ℕ) (x : AnyDesk) (i : IdleState) → seen ≡ desks → HoldsDesk seen a → x ≡ get_or desks a x → x ≡ Idle i → ⊥
-not_idle desks seen a x i same h read is =
-    let held = subst (λ z. HoldsDesk z a) same h in
-    let both : Idle i ≡ Held held.1 = sym is ∙ (get_or_read desks a x held.0 read no_desk ∙ held.2) in cc
-
--- why a request for a desk that isn't held is refused
-pub refused_at : (v w : FloorState) (seen : List AnyDesk) (a : ℕ) (r : Refusal) (P : FloorState → Refusal → Type 0) → v ≡ w → seen ≡ v.desks → LacksHeld seen a r
-    → (desk_count v ≤ a → P v NoDesk) → (MeetsIdle v a → P v RefusedIdle) → P w r
-refused_at v w seen a r P same is h none idle =
-    subst (λ (z : FloorState). P z r) same (⊎_elim (λ (l : (length v.desks ≤ a) × (r ≡ NoDesk)). subst (P v) (sym l.1) (none l.0))
-    (λ (l : (d : IdleState) × (a < length v.desks) × (get_or v.desks a no_desk ≡ Idle d) × (r ≡ RefusedIdle)). subst (P v) (sym l.3) (idle (l.0, (l.1, l.2))))
-    (subst (λ z. LacksHeld z a r) is h))
-
--- the desk is put back as it was read
-pub put_back : (desks : List AnyDesk) (a : ℕ) (x y : AnyDesk) → x ≡ get_or desks a x → x ≡ y → set desks a y ≡ desks
-put_back desks a x y read is = ap (set desks a) (sym is ∙ read) ∙ set-get_or desks a x
-
-pub floor_kept : {digits : Scheme} {limit chunks : ℕ} {desks : List AnyDesk} {lent : List (Option Buffer)} {inboxes : List (List QueuedState)} {next : ℕ} (a : ℕ) (x y : AnyDesk)
-    → IsFloor digits limit chunks desks lent inboxes next → x ≡ get_or desks a x → x ≡ y → IsFloor digits limit chunks (set desks a y) lent inboxes next
-floor_kept {digits} {limit} {chunks} {desks} {lent} {inboxes} {next} a x y f read is =
-    subst (λ (z : List AnyDesk). IsFloor digits limit chunks z lent inboxes next) (sym (put_back desks a x y read is)) f
-
-pub view_kept : (v w : FloorState) (a : ℕ) (x y : AnyDesk) → v ≡ w → x ≡ get_or v.desks a x → x ≡ y → with_any_desk v a y ≡ w
-view_kept v w a x y same read is = ap (λ (z : List AnyDesk). record v { desks = z }) (put_back v.desks a x y read is) ∙ same
-
--- the desks stay as many
-pub count_kept : (v w : FloorState) (a : ℕ) (y : AnyDesk) → v ≡ w → desk_count (with_any_desk v a y) ≡ desk_count w
-count_kept v w a y same = length-set v.desks a y ∙ ap (λ (z : FloorState). desk_count z) same
+-- and where it is read, it is that desk
+pub held_read : (desks seen : List AnyDeskState) (a : ℕ) (x : AnyDeskState) → seen ≡ desks → (h : HoldsDesk seen a) → x ≡ get_or desks a x → x ≡ Held h.1
+held_read desks seen a x same h read =
+    let held = held_there desks seen a same h in
+    get_or_read desks a x held.0 read no_desk ∙ held.1
 
 -- a test that failed
 pub not_so : {P : Type 0} (test : Bool) → (P → IsTrue test) → test ≡ false → P → ⊥
@@ -70,8 +53,3 @@ not_so test means failed p = let t : test ≡ true = means p in cc
 pub on_err : {T E : Type 0} {P : Type 0} (r : Result T E) → P → OnErr r P
 on_err (Ok x) p = tt
 on_err (Err e) p = p
-
--- what holds of an error that `?` hands on
-pub if_err : {T E : Type 0} (r : Result T E) (e : E) (P : E → Type 0) → IsErrAnd r (λ z. z ≡ e) → P e → IfErr r P
-if_err (Ok x) e P is p = tt
-if_err (Err z) e P is p = subst P (sym is) p

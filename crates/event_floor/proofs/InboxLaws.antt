@@ -4,7 +4,7 @@ use Rattle.std.proofs.lemmas.List.Elements.{All-append, All-cons, All-nil}
 use Rattle.digit_route.specs.Digits.{Scheme}
 use Rattle.digit_route.specs.States.{BatchState}
 use Rattle.pool_desk.specs.Desks.{DeskState}
-use Rattle.event_floor.specs.declared.any_desk.AnyDesk.TheVariants.{Held}
+use Rattle.event_floor.specs.Desks.AnyDeskState.{Held}
 use Rattle.event_floor.specs.Inboxes.{QueuedState, SendsInto, LeavesFront, sent_as}
 use Rattle.event_floor.specs.Floors.{FitsFloor, IsDeskOf, IsQueuedAt}
 use Rattle.event_floor.proofs.DeskLaws.{batch_known, head_of, tail_of}

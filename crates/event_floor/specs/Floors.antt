@@ -10,9 +10,8 @@ use Rattle.digit_route.specs.Digits.{Scheme}
 use Rattle.digit_route.specs.Profiles.{profile_of}
 use Rattle.pool_desk.specs.Desks.{IdleState, DeskState}
 use Rattle.pool_machine.specs.declared.chunk.DrawnChunk.{DrawnChunk}
-use Rattle.event_floor.specs.declared.any_desk.AnyDesk.{AnyDesk}
-use Rattle.event_floor.specs.declared.any_desk.AnyDesk.TheVariants.{Idle, Held}
-use Rattle.event_floor.specs.Desks.{new_desks, new_desk, home_of, cached_of, IsNumbered, HasPlace}
+use Rattle.event_floor.specs.Desks.AnyDeskState.{Idle, Held}
+use Rattle.event_floor.specs.Desks.{AnyDeskState, new_desks, new_desk, home_of, cached_of, IsNumbered, HasPlace}
 use Rattle.event_floor.specs.Lent.{chunk_places}
 use Rattle.event_floor.specs.Inboxes.{QueuedState, inbox_at}
 
@@ -26,7 +25,7 @@ pub record FloorState : Type 0 where
   pub parts : List GName
   pub drawn : List DrawnChunk
   pub undrawn : List (List ℕ)
-  pub desks : List AnyDesk
+  pub desks : List AnyDeskState
   pub lent : List (Option Buffer)
   pub inboxes : List (List QueuedState)
   pub next : ℕ
@@ -43,11 +42,11 @@ profile_seen v = profile_of v.digits.bits
 abbrev pub no_digits : Scheme
 no_digits = record { width = 0; bits = 0 }
 
-abbrev pub no_desk : AnyDesk
+abbrev pub no_desk : AnyDeskState
 no_desk = Idle (new_desk no_digits 0 0)
 
 -- the desk of a number
-abbrev pub desk_at : FloorState → ℕ → AnyDesk
+abbrev pub desk_at : FloorState → ℕ → AnyDeskState
 desk_at v a = slice_index_or v.desks a no_desk
 
 -- the desk a is idle; it is held, and is d
@@ -58,7 +57,7 @@ abbrev pub IsHeld : FloorState → ℕ → DeskState → Type 0
 IsHeld v a d = (a < desk_count v) × (desk_at v a ≡ Held d)
 
 -- the same floor with another desk a, in any hands or in those of a worker
-abbrev pub with_any_desk : FloorState → ℕ → AnyDesk → FloorState
+abbrev pub with_any_desk : FloorState → ℕ → AnyDeskState → FloorState
 with_any_desk v a s = record v { desks = slice_set v.desks a s }
 
 abbrev pub with_desk : FloorState → ℕ → DeskState → FloorState
@@ -95,7 +94,7 @@ pub record FitsFloor (desks chunks : ℕ) (b : Buffer) : Type 0 where
 
 -- desk a of so many: it has its number, and the floor's digits and limit; its slots at home and the buffers in its
 -- cache are known
-pub record IsDeskOf (digits : Scheme) (limit desks chunks a : ℕ) (s : AnyDesk) : Type 0 where
+pub record IsDeskOf (digits : Scheme) (limit desks chunks a : ℕ) (s : AnyDeskState) : Type 0 where
   pub numbered : IsNumbered digits limit a s
   pub placed : All (HasPlace chunks) (home_of s)
   pub known : All (FitsFloor desks chunks) (cached_of s)
@@ -115,8 +114,8 @@ last_number = 4294967295
 
 -- A floor of n desks, each with its inbox. There are no more desks than numbers, and the table has the places of
 -- each chunk.
-pub record IsFloorOf (n : ℕ) (digits : Scheme) (limit chunks : ℕ) (desks : List AnyDesk) (lent : List (Option Buffer))
-    (inboxes : List (List QueuedState)) (next : ℕ)
+pub record IsFloorOf (n : ℕ) (digits : Scheme) (limit chunks : ℕ) (desks : List AnyDeskState)
+    (lent : List (Option Buffer)) (inboxes : List (List QueuedState)) (next : ℕ)
     : Type 0 where
   pub count : length desks ≡ n
   pub few : n ≤ 2 ^ digits.bits
@@ -129,6 +128,6 @@ pub record IsFloorOf (n : ℕ) (digits : Scheme) (limit chunks : ℕ) (desks : L
   pub next_low : 1 ≤ next
   pub next_high : next ≤ last_number + 1
 
-abbrev pub IsFloor : Scheme → ℕ → ℕ → List AnyDesk → List (Option Buffer) → List (List QueuedState) → ℕ → Type 0
+abbrev pub IsFloor : Scheme → ℕ → ℕ → List AnyDeskState → List (Option Buffer) → List (List QueuedState) → ℕ → Type 0
 IsFloor digits limit chunks desks lent inboxes next =
     IsFloorOf (length desks) digits limit chunks desks lent inboxes next

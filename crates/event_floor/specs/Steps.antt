@@ -30,7 +30,7 @@ use Rattle.pool_machine.specs.declared.refusal.Refusal.TheVariants.{NoDesk, Idle
 use Rattle.pool_machine.specs.declared.refusal.Refusal.TheVariants.{NoChunk, NotLent, NothingFor, NotAnOwner, ToSelf}
 use Rattle.pool_machine.specs.declared.refusal.Refusal.TheVariants.{NoBatch, Nothing, Unsettled, Held, NoMemory}
 use Rattle.pool_machine.specs.declared.refusal.Refusal.TheVariants.{BadClass, Spent}
-use Rattle.event_floor.specs.declared.any_desk.AnyDesk.TheVariants.{Idle as IdleDesk}
+use Rattle.event_floor.specs.Desks.AnyDeskState.{Idle as IdleDesk}
 use Rattle.event_floor.specs.Desks.{adopted, retired}
 use Rattle.event_floor.specs.Lent.{lent_at, index_of}
 use Rattle.event_floor.specs.Inboxes.{QueuedState, inbox_at, sent_as, as_linked, no_batch, IsUnlinked, IsUnlinkedOf}

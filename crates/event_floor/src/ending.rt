@@ -10,26 +10,15 @@ use crate::inboxes::end_inboxes;
 use crate::lists::Lists;
 use region_cut::endings::Endings;
 
-// Lets go a desk's buffers, and the cursors over its chunks.
-fn end_desk<'r>(any: AnyDesk<'r>, endings: &mut Endings<'r>)
-    ensures chunks { endings.new.chunks ≡ chunks_of any.entry ++ endings.old.chunks }
-    ensures known { IsPermutation (map ended_of (buffers_with any.entry) ++ endings.old.known) endings.new.known }
-{
-    match any {
-        AnyDesk::Idle(desk) => desk.end(endings),
-        AnyDesk::Held(desk) => desk.end(endings),
-    }
-}
-
-// The same of all desks.
+// Lets go the buffers of all desks, and the cursors over their chunks.
 fn end_desks<'r>(desks: Vec<AnyDesk<'r>>, endings: &mut Endings<'r>)
     ensures chunks { endings.new.chunks ≡ flat_map chunks_of desks.entry.items ++ endings.old.chunks }
     ensures known { IsPermutation (map ended_of (flat_map buffers_with desks.entry.items) ++ endings.old.known)
         endings.new.known }
 {
     let mut desks = desks;
-    while let Some(any) = desks.pop() {
-        end_desk(any, endings);
+    while let Some(desk) = desks.pop() {
+        desk.end(endings);
     }
 }
 

@@ -4,12 +4,11 @@ ghost use Rattle.event_floor.specs.Floors.{desk_count};
 ghost use Rattle.event_floor.specs.Steps.{Does, Refuses};
 ghost use Rattle.pool_machine.specs.declared.request.Request.TheVariants.{Adopt, Retire};
 
-use crate::any_desk::{AnyDesk, check_held, hold, release};
+use crate::any_desk::check_held;
 use crate::lists::Lists;
 use crate::{Refusal, Reply};
 
 impl<'r> Lists<'r> {
-    #[inline(never)]
     pub(crate) fn adopt(&mut self, a: u32, worker: u32) -> Result<Reply, Refusal>
         ensures does { IfOk result (λ reply. Does self.old (Adopt a worker) reply self.new) }
         ensures refuses { IfErr result (λ refusal. Refuses self.old (Adopt a worker) refusal) }
@@ -20,14 +19,14 @@ impl<'r> Lists<'r> {
         if place >= self.desks.len() {
             return Err(Refusal::NoDesk);
         }
-        if let AnyDesk::Held(_) = &self.desks[place] {
+        let desk = &mut self.desks[place];
+        if desk.is_held() {
             return Err(Refusal::Held);
         }
-        hold(&mut self.desks[place], self.digits, worker);
+        desk.hold(worker);
         Ok(Reply::Done)
     }
 
-    #[inline(never)]
     pub(crate) fn retire(&mut self, a: u32) -> Result<Reply, Refusal>
         ensures does { IfOk result (λ reply. Does self.old (Retire a) reply self.new) }
         ensures refuses { IfErr result (λ refusal. Refuses self.old (Retire a) refusal) }
@@ -38,7 +37,7 @@ impl<'r> Lists<'r> {
         if self.inboxes.has_unlinked_of(a) {
             return Err(Refusal::Unsettled);
         }
-        if release(&mut self.desks[a as usize], self.digits) {
+        if self.desks[a as usize].release() {
             Ok(Reply::Done)
         } else {
             Err(Refusal::Unsettled)

@@ -7,7 +7,7 @@ ghost use Rattle.event_floor.specs.Steps.{Does, Refuses};
 ghost use Rattle.pool_machine.specs.declared.request.Request.TheVariants.{Claim, Alloc, Free};
 
 use crate::answers::{refusal_by_desk, reply_of_free};
-use crate::any_desk::{AnyDesk, check_held};
+use crate::any_desk::check_held;
 use crate::lists::Lists;
 use crate::{Refusal, Reply};
 use digit_route::Digits;
@@ -34,9 +34,7 @@ impl<'r> Lists<'r> {
         ensures desks { desk_count self.new ≡ desk_count self.old }
     {
         check_held(&self.desks, a)?;
-        let AnyDesk::Held(desk) = &mut self.desks[a as usize] else {
-            unreachable!()
-        };
+        let desk = &mut self.desks[a as usize];
         let Some(class) = class_of(self.digits, class) else {
             return Err(Refusal::BadClass);
         };
@@ -58,9 +56,7 @@ impl<'r> Lists<'r> {
         ensures desks { desk_count self.new ≡ desk_count self.old }
     {
         check_held(&self.desks, a)?;
-        let AnyDesk::Held(desk) = &mut self.desks[a as usize] else {
-            unreachable!()
-        };
+        let desk = &mut self.desks[a as usize];
         match desk.alloc(alloc, size as usize) {
             Ok(buf) => {
                 let slot = buf.slot();
@@ -78,9 +74,7 @@ impl<'r> Lists<'r> {
         ensures desks { desk_count self.new ≡ desk_count self.old }
     {
         check_held(&self.desks, a)?;
-        let AnyDesk::Held(desk) = &mut self.desks[a as usize] else {
-            unreachable!()
-        };
+        let desk = &mut self.desks[a as usize];
         let Some(buf) = self.lent.take(chunk, index) else {
             return Err(Refusal::NotLent);
         };

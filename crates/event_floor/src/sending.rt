@@ -5,7 +5,7 @@ ghost use Rattle.event_floor.specs.Steps.{Does, Refuses};
 ghost use Rattle.pool_machine.specs.declared.request.Request.TheVariants.{Send, Link, Take};
 
 use crate::answers::refusal_by_route;
-use crate::any_desk::{AnyDesk, check_held};
+use crate::any_desk::check_held;
 use crate::lists::Lists;
 use crate::{Refusal, Reply};
 
@@ -23,9 +23,7 @@ impl<'r> Lists<'r> {
             return Err(Refusal::NoDesk);
         }
         check_held(&self.desks, a)?;
-        let AnyDesk::Held(desk) = &mut self.desks[a as usize] else {
-            unreachable!()
-        };
+        let desk = &mut self.desks[a as usize];
         match desk.fault_for(t as u16) {
             Some(fault) => return Err(refusal_by_route(fault)),
             None => {}
@@ -34,7 +32,7 @@ impl<'r> Lists<'r> {
             return Err(Refusal::Spent);
         }
         let number = self.next as u32;
-        match self.inboxes.send(desk, t as u16, number) {
+        match desk.send(&mut self.inboxes, t as u16, number) {
             Ok(count) => {
                 self.next += 1;
                 Ok(Reply::Batch(number, count))
@@ -63,9 +61,7 @@ impl<'r> Lists<'r> {
         ensures desks { desk_count self.new ≡ desk_count self.old }
     {
         check_held(&self.desks, b)?;
-        let AnyDesk::Held(desk) = &mut self.desks[b as usize] else {
-            unreachable!()
-        };
+        let desk = &mut self.desks[b as usize];
         let Some(batch) = self.inboxes.take(b as usize) else {
             return Err(Refusal::Nothing);
         };

@@ -14,7 +14,6 @@ ghost use Rattle.event_floor.specs.headline.Headline.{Shows};
 ghost use Rattle.event_floor.specs.headline.Names.{IsNamed};
 
 use crate::Floor;
-use crate::any_desk::{AnyDesk, cached, home};
 use digit_route::Digits;
 use region_cut::{Class, Slot};
 use slot_chain::NoMemory;
@@ -31,10 +30,7 @@ impl<'r> Floor<'r> {
     {
         let lists = &self.lists;
         let queued = lists.inboxes.count(a as usize);
-        let (home, cached) = match &lists.desks[a as usize] {
-            AnyDesk::Idle(desk) => desk.counts(),
-            AnyDesk::Held(desk) => desk.counts(),
-        };
+        let (home, cached) = lists.desks[a as usize].counts();
         (home, cached, queued)
     }
 
@@ -59,7 +55,7 @@ impl<'r> Floor<'r> {
         requires { a < desk_count self.now }
         ensures { IfOk result (λ slots. IsPermutation (map slot_at (home_of (desk_at self.now a))) slots.items) }
     {
-        home(&self.lists.desks[a as usize], alloc)
+        self.lists.desks[a as usize].home(alloc)
     }
 
     /// The slots of the buffers in the desk's cache, each as often as it is there, in no order.
@@ -67,7 +63,7 @@ impl<'r> Floor<'r> {
         requires { a < desk_count self.now }
         ensures { IfOk result (λ slots. IsPermutation (map slot_of (cached_of (desk_at self.now a))) slots.items) }
     {
-        cached(&self.lists.desks[a as usize], alloc)
+        self.lists.desks[a as usize].cached(alloc)
     }
 
     /// How many buffers are lent. Takes time in the number of slots.

@@ -6,9 +6,8 @@ use Rattle.std.proofs.lemmas.List.Sorted.{IsPermutation-map, sum_by-IsPermutatio
 use Rattle.region_cut.specs.declared.slot.Slot.{Slot}
 use Rattle.pool_desk.specs.Homes.{AtHome, slot_at}
 use Rattle.pool_desk.specs.Desks.{DeskState}
-use Rattle.event_floor.specs.declared.any_desk.AnyDesk.{AnyDesk}
-use Rattle.event_floor.specs.declared.any_desk.AnyDesk.TheVariants.{Idle, Held}
-use Rattle.event_floor.specs.Desks.{home_of}
+use Rattle.event_floor.specs.Desks.AnyDeskState.{Idle, Held}
+use Rattle.event_floor.specs.Desks.{AnyDeskState, home_of}
 use Rattle.event_floor.specs.Floors.{FloorState, desk_at, IsHeld}
 use Rattle.region_cut.specs.Slots.{same_slot, times}
 use Rattle.pool_machine.specs.Slots.{one_if}
@@ -25,7 +24,7 @@ entry_slots : (n : ℕ) (home : List AtHome) → slots_seen (map (entry_at n) ho
 entry_slots n [] = refl
 entry_slots n (x ∷ home) = ap₂ ◌∷◌ (slot_seen n x) (entry_slots n home)
 
-pub home_slots : (s : AnyDesk) → slots_seen (desk_of s).home ≡ map slot_at (home_of s)
+pub home_slots : (s : AnyDeskState) → slots_seen (desk_of s).home ≡ map slot_at (home_of s)
 home_slots (Idle d) = entry_slots d.number d.home
 home_slots (Held d) = entry_slots d.number d.home
 

@@ -7,7 +7,7 @@ use Rattle.std.proofs.lemmas.List.Sorted.{IsPermutation-map}
 use Rattle.region_cut.specs.Classes.{slots_of, size_of}
 use Rattle.pool_desk.specs.Homes.{unused_from}
 use Rattle.pool_desk.specs.Desks.{DeskState}
-use Rattle.event_floor.specs.declared.any_desk.AnyDesk.TheVariants.{Held as HeldDesk}
+use Rattle.event_floor.specs.Desks.AnyDeskState.{Held as HeldDesk}
 use Rattle.pool_machine.specs.declared.request.Request.TheVariants.{Claim}
 use Rattle.pool_machine.specs.declared.reply.Reply.TheVariants.{Chunk}
 use Rattle.event_floor.specs.Floors.{FloorState}

@@ -7,6 +7,7 @@ use Rattle.region_cut.specs.declared.slot.Slot.{Slot}
 use Rattle.region_cut.specs.Carved.{Carved}
 use Rattle.region_cut.specs.Classes.{slots_of}
 use Rattle.slot_chain.specs.Buffer.{Buffer}
+use Rattle.slot_chain.specs.Filling.{emptied}
 use Rattle.pool_desk.specs.Homes.{AtHome, Unused, Names, TakesNext, taken_next, unused_from, kept_in}
 use Rattle.pool_desk.specs.Homes.{GivenAs}
 use Rattle.pool_desk.specs.Homes.AtHome.{Kept, Fresh}
@@ -14,11 +15,10 @@ use Rattle.pool_desk.specs.Desks.{IdleState, DeskState}
 use Rattle.pool_desk.specs.Steps.{freed, passed_on, own, others, Caches, Frees}
 use Rattle.pool_desk.specs.declared.freed.Freed.{Freed}
 use Rattle.pool_desk.specs.declared.freed.Freed.TheVariants.{Home as FreedHome, Cached as FreedCached, Due as FreedDue}
-use Rattle.event_floor.specs.declared.any_desk.AnyDesk.{AnyDesk}
-use Rattle.event_floor.specs.declared.any_desk.AnyDesk.TheVariants.{Idle, Held}
+use Rattle.event_floor.specs.Desks.AnyDeskState.{Idle, Held}
 use Rattle.event_floor.specs.Lent.{index_of, buffers_lent}
 use Rattle.event_floor.specs.Inboxes.{QueuedState, inbox_at, sent_as, as_linked, no_batch, buffers_in}
-use Rattle.event_floor.specs.Desks.{adopted, retired, home_of, cached_of}
+use Rattle.event_floor.specs.Desks.{AnyDeskState, adopted, retired, home_of, cached_of}
 use Rattle.event_floor.specs.Floors.{FloorState, desk_count, desk_at, no_desk, with_any_desk, with_desk, IsIdle, IsHeld}
 use Rattle.event_floor.specs.Steps.{DrawsChunk, LendsSlot, SendsBatch, LinksBatch, TakesFront, TakesBack}
 use Rattle.event_floor.specs.headline.EndsKnown.{buffers_with, buffers_of}
@@ -36,7 +36,7 @@ IsHome K U (Kept b) = K b
 IsHome K U (Fresh u) = U u
 
 -- of a desk
-pub record OfDesk (K : Buffer → Type 0) (U : Unused → Type 0) (R : Carved → Type 0) (s : AnyDesk) : Type 0 where
+pub record OfDesk (K : Buffer → Type 0) (U : Unused → Type 0) (R : Carved → Type 0) (s : AnyDeskState) : Type 0 where
   pub home : All (IsHome K U) (home_of s)
   pub cached : All K (cached_of s)
   pub chunks : All R (chunks_of s)
@@ -91,17 +91,17 @@ module _ (K : Buffer → Type 0) (U : Unused → Type 0) (R : Carved → Type 0)
     pub buffers_everywhere : All K (buffers_of v)
     buffers_everywhere =
         All-append K (flat_map buffers_with v.desks) _
-        (All-flat K buffers_with v.desks (at_each_desk (λ (s : AnyDesk). All K (buffers_with s)) v
+        (All-flat K buffers_with v.desks (at_each_desk (λ (s : AnyDeskState). All K (buffers_with s)) v
         (λ a l. All-append K (kept_in (home_of (desk_at v a))) _ (kept_back (IsHome K U) (home_of (desk_at v a)) (e.desks a l).home) (e.desks a l).cached)))
         (All-append K (buffers_lent v.lent) _ (lent_each K v.lent e.lent)
         (All-flat K buffers_in v.inboxes
         (λ k d l. subst (λ ps. All K (buffers_in ps)) (get_or_same v.inboxes k [] d l) (All-flat K (λ (p : QueuedState). p.buffers) (inbox_at v.inboxes k) (e.queued k)))))
 
     pub fresh_everywhere : All U (fresh_of v)
-    fresh_everywhere = All-flat U (λ s. fresh_in (home_of s)) v.desks (at_each_desk (λ (s : AnyDesk). All U (fresh_in (home_of s))) v (λ a l. fresh_back (home_of (desk_at v a)) (e.desks a l).home))
+    fresh_everywhere = All-flat U (λ s. fresh_in (home_of s)) v.desks (at_each_desk (λ (s : AnyDeskState). All U (fresh_in (home_of s))) v (λ a l. fresh_back (home_of (desk_at v a)) (e.desks a l).home))
 
     pub chunks_everywhere : All R (flat_map chunks_of v.desks)
-    chunks_everywhere = All-flat R chunks_of v.desks (at_each_desk (λ (s : AnyDesk). All R (chunks_of s)) v (λ a l. (e.desks a l).chunks))
+    chunks_everywhere = All-flat R chunks_of v.desks (at_each_desk (λ (s : AnyDeskState). All R (chunks_of s)) v (λ a l. (e.desks a l).chunks))
 
     -- ---- requests
 
@@ -112,11 +112,11 @@ module _ (K : Buffer → Type 0) (U : Unused → Type 0) (R : Carved → Type 0)
     idle_here a d h = subst (OfDesk K U R) h.1 (e.desks a h.0)
 
     -- the floor with another desk, another table and other inboxes
-    changed : (a : ℕ) (s : AnyDesk) (lent : List (Option Buffer)) (inboxes : List (List QueuedState)) → a < desk_count v → OfDesk K U R s
+    changed : (a : ℕ) (s : AnyDeskState) (lent : List (Option Buffer)) (inboxes : List (List QueuedState)) → a < desk_count v → OfDesk K U R s
         → ((i : ℕ) → IfSome (get_or lent i None) K) → ((b : ℕ) → All (λ (p : QueuedState). All K p.buffers) (inbox_at inboxes b))
         → (w : FloorState) → w.desks ≡ set v.desks a s → w.lent ≡ lent → w.inboxes ≡ inboxes → Everywhere K U R w
     changed a s lent inboxes l here lends batches w d t i = record {
-      desks = subst (λ (ds : List AnyDesk). (b : ℕ) → b < length ds → OfDesk K U R (get_or ds b no_desk)) (sym d) (λ b m. each_desk (λ n x. OfDesk K U R x) v.desks a s l here e.desks b m);
+      desks = subst (λ (ds : List AnyDeskState). (b : ℕ) → b < length ds → OfDesk K U R (get_or ds b no_desk)) (sym d) (λ b m. each_desk (λ n x. OfDesk K U R x) v.desks a s l here e.desks b m);
       lent = subst (λ (ts : List (Option Buffer)). (i : ℕ) → IfSome (get_or ts i None) K) (sym t) lends;
       queued = subst (λ (is : List (List QueuedState)). (b : ℕ) → All (λ (p : QueuedState). All K p.buffers) (inbox_at is b)) (sym i) batches;
     }
@@ -220,7 +220,7 @@ module _ (K : Buffer → Type 0) (U : Unused → Type 0) (R : Carved → Type 0)
         w (ap (λ (f : FloorState). f.desks) s.same) (ap (λ (f : FloorState). f.lent) s.same) (ap (λ (f : FloorState). f.inboxes) s.same)
 
     -- a slot is lent
-    module _ (give : (u : Unused) (b : Buffer) → GivenAs (Fresh u) b → U u → K b) (w : FloorState) (a n : ℕ) (slot : Slot) (s : LendsSlot v a n slot w)
+    module _ (as_emptied : (b : Buffer) → K b → K (emptied b)) (give : (u : Unused) (b : Buffer) → GivenAs (Fresh u) b → U u → K b) (w : FloorState) (a n : ℕ) (slot : Slot) (s : LendsSlot v a n slot w)
         (next : (u : Unused) (t : TakesNext u s.buffer s.before.drawn s.after.drawn) → IsPermutation s.before.home (Fresh u ∷ s.after.home)
         → GivenAs (Fresh u) s.buffer → R t.from → R (taken_next t.from s.buffer.bytes.ghost_name t.rest)) where
       lent_to : K s.buffer → All (IsHome K U) s.after.home → All R s.after.drawn → Everywhere K U R w
@@ -239,7 +239,7 @@ module _ (K : Buffer → Type 0) (U : Unused → Type 0) (R : Carved → Type 0)
       lent_from_home (Kept c) g m p =
           let h = held_here a s.before s.held in
           let all = All-permutation (IsHome K U) _ _ p h.home in
-          lent_to (subst K (sym g) (All-head (IsHome K U) (Kept c) s.after.home all)) (All-tail (IsHome K U) (Kept c) s.after.home all) (subst (λ cs. All R cs) (sym m) h.chunks)
+          lent_to (subst K (sym g) (as_emptied c (All-head (IsHome K U) (Kept c) s.after.home all))) (All-tail (IsHome K U) (Kept c) s.after.home all) (subst (λ cs. All R cs) (sym m) h.chunks)
       lent_from_home (Fresh u) g m p =
           let h = held_here a s.before s.held in
           let all = All-permutation (IsHome K U) _ _ p h.home in

@@ -14,11 +14,10 @@ use Rattle.slot_chain.specs.Buffer.{Buffer}
 use Rattle.pool_desk.specs.Homes.{AtHome, slot_at, kept_in}
 use Rattle.pool_desk.specs.Homes.AtHome.{Kept, Fresh}
 use Rattle.pool_machine.specs.declared.chunk.DrawnChunk.{DrawnChunk}
-use Rattle.event_floor.specs.declared.any_desk.AnyDesk.{AnyDesk}
-use Rattle.event_floor.specs.declared.any_desk.AnyDesk.TheVariants.{Idle, Held}
+use Rattle.event_floor.specs.Desks.AnyDeskState.{Idle, Held}
 use Rattle.event_floor.specs.Lent.{buffers_lent}
 use Rattle.event_floor.specs.Inboxes.{QueuedState, inbox_at, buffers_in}
-use Rattle.event_floor.specs.Desks.{home_of, cached_of}
+use Rattle.event_floor.specs.Desks.{AnyDeskState, home_of, cached_of}
 use Rattle.event_floor.specs.Floors.{FloorState, desk_at, desk_count, no_desk}
 use Rattle.region_cut.specs.Slots.{same_slot, times}
 use Rattle.pool_machine.specs.Slots.{has_index, one_if}
@@ -70,15 +69,15 @@ kept_slots (b ∷ bs) = ap (λ l. b.slot ∷ l) (kept_slots bs)
 kept_append : (xs ys : List Buffer) → map slot_at (map Kept (xs ++ ys)) ≡ map slot_at (map Kept xs) ++ map slot_at (map Kept ys)
 kept_append xs ys = ap (map slot_at) (map-append Kept xs ys) ∙ map-append slot_at (map Kept xs) (map Kept ys)
 
-home_part : (ds : List AnyDesk) → flat_map (λ (d : DeskListing). slots_seen d.home) (map desk_of ds) ≡ map slot_at (flat_map home_of ds)
+home_part : (ds : List AnyDeskState) → flat_map (λ (d : DeskListing). slots_seen d.home) (map desk_of ds) ≡ map slot_at (flat_map home_of ds)
 home_part [] = refl
 home_part (s ∷ ds) = ap₂ ◌++◌ (home_slots s) (home_part ds) ∙ sym (map-append slot_at (home_of s) (flat_map home_of ds))
 
-cache_slots : (s : AnyDesk) → slots_seen (desk_of s).cache ≡ map slot_at (map Kept (cached_of s))
+cache_slots : (s : AnyDeskState) → slots_seen (desk_of s).cache ≡ map slot_at (map Kept (cached_of s))
 cache_slots (Idle d) = refl
 cache_slots (Held d) = kept_slots d.cached
 
-cache_part : (ds : List AnyDesk) → flat_map (λ (d : DeskListing). slots_seen d.cache) (map desk_of ds) ≡ map slot_at (map Kept (flat_map cached_of ds))
+cache_part : (ds : List AnyDeskState) → flat_map (λ (d : DeskListing). slots_seen d.cache) (map desk_of ds) ≡ map slot_at (map Kept (flat_map cached_of ds))
 cache_part [] = refl
 cache_part (s ∷ ds) = ap₂ ◌++◌ (cache_slots s) (cache_part ds) ∙ sym (kept_append (cached_of s) (flat_map cached_of ds))
 
@@ -126,25 +125,25 @@ placed_each K v h =
     let batches = flat_map buffers_in v.inboxes in
     let desks = All-parts K buffers_with v.desks (All-first K (flat_map buffers_with v.desks) (lent ++ batches) h) in
     let out = All-second K (flat_map buffers_with v.desks) (lent ++ batches) h in
-    let at_home : All (λ (s : AnyDesk). All (KeptIs K) (home_of s)) v.desks =
-    All-to (λ (s : AnyDesk). All K (buffers_with s)) (λ (s : AnyDesk). All (KeptIs K) (home_of s)) v.desks (λ s g. kept_each K (home_of s)
+    let at_home : All (λ (s : AnyDeskState). All (KeptIs K) (home_of s)) v.desks =
+    All-to (λ (s : AnyDeskState). All K (buffers_with s)) (λ (s : AnyDeskState). All (KeptIs K) (home_of s)) v.desks (λ s g. kept_each K (home_of s)
     (All-first K (kept_in (home_of s)) (cached_of s) g)) desks in
     let in_caches : All K caches =
-    All-flat K cached_of v.desks (All-to (λ (s : AnyDesk). All K (buffers_with s)) (λ (s : AnyDesk). All K (cached_of s)) v.desks (λ s g. All-second K (kept_in (home_of s))
+    All-flat K cached_of v.desks (All-to (λ (s : AnyDeskState). All K (buffers_with s)) (λ (s : AnyDeskState). All K (cached_of s)) v.desks (λ s g. All-second K (kept_in (home_of s))
     (cached_of s) g) desks) in
     All-append (KeptIs K) (flat_map home_of v.desks) (map Kept lent ++ (map Kept caches ++ map Kept batches)) (All-flat (KeptIs K) home_of v.desks at_home)
     (All-append (KeptIs K) (map Kept lent) (map Kept caches ++ map Kept batches) (All-map (KeptIs K) Kept lent (All-first K lent batches out))
     (All-append (KeptIs K) (map Kept caches) (map Kept batches) (All-map (KeptIs K) Kept caches in_caches) (All-map (KeptIs K) Kept batches (All-second K lent batches out))))
 
-pub at_each_desk : (P : AnyDesk → Type 0) (v : FloorState) → ((a : ℕ) → a < desk_count v → P (desk_at v a)) → All P v.desks
+pub at_each_desk : (P : AnyDeskState → Type 0) (v : FloorState) → ((a : ℕ) → a < desk_count v → P (desk_at v a)) → All P v.desks
 at_each_desk P v f = λ k d l. subst P (get_or_same v.desks k no_desk d l) (f k l)
 
 module _ (v : FloorState) (names : List Carved) (n : NamesByPlace names v) where
   cached_named : All (HasName names) (flat_map cached_of v.desks)
-  cached_named = All-flat (HasName names) cached_of v.desks (at_each_desk (λ (s : AnyDesk). All (HasName names) (cached_of s)) v (λ a l. (n.desks a l).cached))
+  cached_named = All-flat (HasName names) cached_of v.desks (at_each_desk (λ (s : AnyDeskState). All (HasName names) (cached_of s)) v (λ a l. (n.desks a l).cached))
 
-  home_named : All (λ (s : AnyDesk). All (IsNamedHome names) (home_of s)) v.desks
-  home_named = at_each_desk (λ (s : AnyDesk). All (IsNamedHome names) (home_of s)) v (λ a l. (n.desks a l).home)
+  home_named : All (λ (s : AnyDeskState). All (IsNamedHome names) (home_of s)) v.desks
+  home_named = at_each_desk (λ (s : AnyDeskState). All (IsNamedHome names) (home_of s)) v (λ a l. (n.desks a l).home)
 
   lent_named : All (HasName names) (buffers_lent v.lent)
   lent_named = lent_each (HasName names) v.lent n.lent
@@ -164,7 +163,7 @@ module _ (v : FloorState) (names : List Carved) (n : NamesByPlace names v) where
   buffers_named =
       All-append (HasName names) (flat_map buffers_with v.desks) _
       (All-flat (HasName names) buffers_with v.desks
-      (at_each_desk (λ (s : AnyDesk). All (HasName names) (buffers_with s)) v
+      (at_each_desk (λ (s : AnyDeskState). All (HasName names) (buffers_with s)) v
       (λ a l. All-append (HasName names) (kept_in (home_of (desk_at v a))) _ (kept_back (IsNamedHome names) (home_of (desk_at v a)) (n.desks a l).home) (n.desks a l).cached)))
       (All-append (HasName names) (buffers_lent v.lent) _ lent_named queued_named)
 

@@ -12,12 +12,13 @@ use Rattle.region_cut.specs.Carved.{Carved}
 use Rattle.region_cut.specs.Classes.{size_of, slots_of}
 use Rattle.region_cut.specs.Laws.{StandsAt}
 use Rattle.slot_chain.specs.Buffer.{Buffer}
+use Rattle.slot_chain.specs.Filling.{emptied}
 use Rattle.pool_desk.specs.Homes.{AtHome, Unused, slot_at, Names, TakesNext, taken_next}
 use Rattle.pool_desk.specs.Homes.{GivenAs}
 use Rattle.pool_desk.specs.Homes.AtHome.{Kept, Fresh}
 use Rattle.pool_desk.specs.Desks.{DeskState}
 use Rattle.pool_machine.specs.declared.chunk.DrawnChunk.{DrawnChunk}
-use Rattle.event_floor.specs.declared.any_desk.AnyDesk.TheVariants.{Held}
+use Rattle.event_floor.specs.Desks.AnyDeskState.{Held}
 use Rattle.event_floor.specs.Lent.{index_of}
 use Rattle.event_floor.specs.Inboxes.{QueuedState, inbox_at}
 use Rattle.event_floor.specs.Desks.{home_of, cached_of}
@@ -51,12 +52,15 @@ module _ (names : List Carved) (v w : FloorState) (a n : ℕ) (slot : Slot) (f :
   lender_named : IsNamedDesk names v.drawn a (Held s.before)
   lender_named = held_named names v f a s.before s.held
 
-  -- ---- a buffer that came home is lent as it was
+  -- ---- a buffer that came home is lent as it was, but for what was filled
 
-  kept_lent : (c : Buffer) → buffer ≡ c → IsPermutation s.before.home (Kept c ∷ s.after.home) → s.after.drawn ≡ s.before.drawn → NamesByPlace names w
+  emptied_named : (c : Buffer) → HasName names c → HasName names (emptied c)
+  emptied_named c h = record { chunk = h.chunk; is_chunk = h.is_chunk; class = h.class; name = h.name; size = h.size }
+
+  kept_lent : (c : Buffer) → buffer ≡ emptied c → IsPermutation s.before.home (Kept c ∷ s.after.home) → s.after.drawn ≡ s.before.drawn → NamesByPlace names w
   kept_lent c e p same =
       let all = All-permutation (IsNamedHome names) _ _ p lender_named.home in
-      let named : HasName names buffer = subst (HasName names) (sym e) (All-head (IsNamedHome names) (Kept c) s.after.home all) in
+      let named : HasName names buffer = subst (HasName names) (sym e) (emptied_named c (All-head (IsNamedHome names) (Kept c) s.after.home all)) in
       subst (NamesByPlace names) (sym s.same)
       (changed_named names v f a (Held s.after) (set v.lent (index_of slot) (Some buffer)) v.inboxes v.next s.held.0
       (desk_named names v f a s.before s.after lender_named same (All-tail (IsNamedHome names) (Kept c) s.after.home all)
@@ -110,7 +114,7 @@ module _ (names : List Carved) (v w : FloorState) (a n : ℕ) (slot : Slot) (f :
         let more = length_push t.from.taken buffer.bytes.ghost_name in
         let at = t.place in
         let size : length buffer.bytes.now ≡ size_of x.class =
-        ap length g.3 ∙ (fresh_named.size ∙ ap size_of (sym t.class_is ∙ (sym (ap (λ (c : Carved). c.class) q) ∙ h.class))) in
+        ap length g.4 ∙ (fresh_named.size ∙ ap size_of (sym t.class_is ∙ (sym (ap (λ (c : Carved). c.class) q) ∙ h.class))) in
         let z = size_of x.class in
         let behind : (x.slot.index - length t.from.taken) * z ≡ length buffer.bytes.now + (x.slot.index - length taken.taken) * z =
         (let j : x.slot.index - length t.from.taken ≡ (x.slot.index - length taken.taken) + 1 = omega (arith, low, apart_index, more, at) in
@@ -143,7 +147,7 @@ module _ (names : List Carved) (v w : FloorState) (a n : ℕ) (slot : Slot) (f :
       class = t.class_is ∙ sym g.1;
       name = ap (λ (x : Slot). slice_get (t.from.taken ++ buffer.bytes.ghost_name ∷ []) x.index) g.0
           ∙ (ap (slice_get (t.from.taken ++ buffer.bytes.ghost_name ∷ [])) (sym t.place) ∙ get_last t.from.taken buffer.bytes.ghost_name);
-      size = ap length g.3 ∙ (fresh_named.size ∙ ap size_of (sym g.1));
+      size = ap length g.4 ∙ (fresh_named.size ∙ ap size_of (sym g.1));
     }
 
     -- the chunk is in no other list, and once in that of the desk
@@ -194,7 +198,7 @@ module _ (names : List Carved) (v w : FloorState) (a n : ℕ) (slot : Slot) (f :
         let z = size_of t.from.class in
         let k = (f.chunks chunk t.from at_chunk).whole in
         let more : length taken.taken ≡ suc (length t.from.taken) = (let l = length_push t.from.taken buffer.bytes.ghost_name in omega (arith, l)) in
-        let size : length buffer.bytes.now ≡ z = ap length g.3 ∙ (fresh_named.size ∙ ap size_of (sym t.class_is)) in
+        let size : length buffer.bytes.now ≡ z = ap length g.4 ∙ (fresh_named.size ∙ ap size_of (sym t.class_is)) in
         let left : length t.from.rest ≡ length buffer.bytes.now + length t.rest = ap length t.left ∙ length-append buffer.bytes.now t.rest in
         subst (λ n. n * z + length t.rest ≡ chunk_size) (sym more) (omega (arith, suc-mul (length t.from.taken) z, size, left, k))
 

@@ -2,12 +2,11 @@
 use Rattle.std.proofs.Common.{◌≡◌, ℕ, Bool, true, false, ◌||◌, [], ◌∷◌, map, set, Ok, is_some, refl, sym, ap, ◌∙◌, subst}
 use Rattle.std.specs.List.{list_any}
 use Rattle.pool_desk.specs.Desks.{IdleState, DeskState}
-use Rattle.event_floor.specs.declared.any_desk.AnyDesk.{AnyDesk}
-use Rattle.event_floor.specs.declared.any_desk.AnyDesk.TheVariants.{Idle as IdleDesk, Held as HeldDesk}
+use Rattle.event_floor.specs.Desks.AnyDeskState.{Idle as IdleDesk, Held as HeldDesk}
 use Rattle.pool_machine.specs.declared.request.Request.TheVariants.{Adopt, Retire}
 use Rattle.pool_machine.specs.declared.reply.Reply.TheVariants.{Done}
 use Rattle.pool_machine.specs.declared.refusal.Refusal.TheVariants.{NoDesk, Held, Unsettled}
-use Rattle.event_floor.specs.Desks.{adopted, retired, IsNumbered}
+use Rattle.event_floor.specs.Desks.{AnyDeskState, adopted, retired, IsNumbered}
 use Rattle.event_floor.specs.Floors.{FloorState, with_any_desk, with_desk, IsIdle, IsHeld}
 use Rattle.event_floor.specs.Steps.{LacksUnlinkedOf}
 use Rattle.pool_machine.specs.Listing.{Entry, DeskListing, desk_listing}
@@ -19,7 +18,7 @@ use Rattle.event_floor.proofs.headline.Views.{passes, held_seen, idle_seen, is_d
 use Rattle.event_floor.proofs.headline.Refused.{unsettled, unsettled_rows, neither_row, none_unlinked_of}
 
 -- the listing of a floor with another desk
-pub any_desk_listing : (v : FloorState) (a : ℕ) (s : AnyDesk) → listing_of (with_any_desk v a s) ≡ record (listing_of v) { desks = set (listing_of v).desks a (desk_of s) }
+pub any_desk_listing : (v : FloorState) (a : ℕ) (s : AnyDeskState) → listing_of (with_any_desk v a s) ≡ record (listing_of v) { desks = set (listing_of v).desks a (desk_of s) }
 any_desk_listing v a s = ap (λ xs. record (listing_of v) { desks = xs }) (with_any_desk_seen v a s)
 
 -- the desk has its number, and the floor's digits

@@ -12,9 +12,8 @@ use Rattle.pool_machine.specs.declared.request.Request.{Request}
 use Rattle.pool_machine.specs.declared.request.Request.TheVariants.{Adopt, Retire, Claim, Alloc, Free, Send, Link, Take}
 use Rattle.pool_machine.specs.declared.reply.Reply.{Reply}
 use Rattle.pool_machine.specs.declared.reply.Reply.TheVariants.{Done, Chunk, Slot as Lent, Home, Cached, Due, Batch, Counts}
-use Rattle.event_floor.specs.declared.any_desk.AnyDesk.{AnyDesk}
 use Rattle.event_floor.specs.Inboxes.{QueuedState}
-use Rattle.event_floor.specs.Desks.{new_desks, home_of, cached_of}
+use Rattle.event_floor.specs.Desks.{AnyDeskState, new_desks, home_of, cached_of}
 use Rattle.event_floor.specs.Floors.{FloorState, no_desk, opening}
 use Rattle.event_floor.specs.Steps.{Does}
 use Rattle.event_floor.specs.Steps.{Answers}
@@ -57,7 +56,7 @@ stays_named v w q (Err r) s n h = subst (λ (z : FloorState). (names : List Carv
 -- ---- a new floor
 
 -- desks with nothing
-abbrev pub IsBare : AnyDesk → Type 0
+abbrev pub IsBare : AnyDeskState → Type 0
 IsBare s = (home_of s ≡ []) × (cached_of s ≡ []) × (chunks_of s ≡ [])
 
 pub idle_bare : (digits : Scheme) (limit n : ℕ) → All IsBare (new_desks digits limit n)
@@ -65,7 +64,7 @@ unfolding new_desks
 idle_bare digits limit zero = All-nil IsBare
 idle_bare digits limit (suc n) = All-append IsBare (new_desks digits limit n) _ (idle_bare digits limit n) (All-cons IsBare _ [] (refl, refl, refl) (All-nil IsBare))
 
-bare_named : (a : ℕ) (s : AnyDesk) → IsBare s → IsNamedDesk [] [] a s
+bare_named : (a : ℕ) (s : AnyDeskState) → IsBare s → IsNamedDesk [] [] a s
 bare_named a s h = record {
   home = subst (λ xs. All (IsNamedHome []) xs) (sym h.0) (All-nil (IsNamedHome []));
   cached = subst (λ xs. All (HasName []) xs) (sym h.1) (All-nil (HasName []));

@@ -16,6 +16,7 @@ use Rattle.region_cut.specs.Parts.{bytes_of}
 use Rattle.region_cut.specs.Ranges.{start_of}
 use Rattle.region_cut.specs.declared.part.Part.{Part}
 use Rattle.slot_chain.specs.Buffer.{Buffer}
+use Rattle.slot_chain.specs.Filling.{emptied}
 use Rattle.pool_desk.specs.Homes.{AtHome, Unused, TakesNext, taken_next, unused_from}
 use Rattle.pool_desk.specs.Homes.{GivenAs}
 use Rattle.pool_desk.specs.Homes.AtHome.{Kept, Fresh}
@@ -26,8 +27,7 @@ use Rattle.pool_machine.specs.declared.reply.Reply.TheVariants.{Done, Chunk, Slo
 use Rattle.pool_machine.specs.Steps.{Answer}
 use Rattle.event_floor.specs.Floors.{FloorState, no_desk, opening}
 use Rattle.event_floor.specs.Inboxes.{QueuedState}
-use Rattle.event_floor.specs.Desks.{new_desks}
-use Rattle.event_floor.specs.declared.any_desk.AnyDesk.{AnyDesk}
+use Rattle.event_floor.specs.Desks.{AnyDeskState, new_desks}
 use Rattle.digit_route.specs.Digits.{Scheme}
 use Rattle.event_floor.specs.Steps.{Answers}
 use Rattle.event_floor.specs.Steps.{Does, DrawsChunk, LendsSlot}
@@ -45,7 +45,7 @@ use Rattle.event_floor.proofs.headline.Taken.{All-to, some_is}
 -- ---- each request, of what holds everywhere
 
 module _ (K : Buffer → Type 0) (U : Unused → Type 0) (R : Carved → Type 0)
-    (changed : (b : Buffer) (n : ℕ) → K b → K (record b { forwards = n }))
+    (changed : (b : Buffer) (n : ℕ) → K b → K (record b { forwards = n })) (as_emptied : (b : Buffer) → K b → K (emptied b))
     (give : (u : Unused) (b : Buffer) → GivenAs (Fresh u) b → U u → K b)
     (next : (names : List Carved) (v w : FloorState) (a n : ℕ) (slot : Slot) → NamesByPlace names v → (s : LendsSlot v a n slot w)
     (u : Unused) (t : TakesNext u s.buffer s.before.drawn s.after.drawn) → IsPermutation s.before.home (Fresh u ∷ s.after.home)
@@ -60,7 +60,7 @@ module _ (K : Buffer → Type 0) (U : Unused → Type 0) (R : Carved → Type 0)
   does_everywhere names v w (Retire a) _ n e f h = elim h [ ]
   does_everywhere names v w (Claim a c) (Chunk k) n e f h = let g = f a c k h in claim_everywhere K U R v e w a c k h g.0 g.1
   does_everywhere names v w (Claim a c) _ n e f h = elim h [ ]
-  does_everywhere names v w (Alloc a m) (Lent slot) n e f h = alloc_everywhere K U R v e give w a m slot h (next names v w a m slot n h)
+  does_everywhere names v w (Alloc a m) (Lent slot) n e f h = alloc_everywhere K U R v e as_emptied give w a m slot h (next names v w a m slot n h)
   does_everywhere names v w (Alloc a m) _ n e f h = elim h [ ]
   does_everywhere names v w (Free a pair) Home n e f h = free_everywhere K U R v e (λ b p. changed b 0 p) (λ b p. changed b _ p) w a pair.0 pair.1 _ h
   does_everywhere names v w (Free a pair) Cached n e f h = free_everywhere K U R v e (λ b p. changed b 0 p) (λ b p. changed b _ p) w a pair.0 pair.1 _ h
@@ -115,7 +115,7 @@ module _ (region : List ℕ) where
 
   given_lies : (u : Unused) (b : Buffer) → GivenAs (Fresh u) b → FreshLies u → BufferLies b
   given_lies u b g h =
-      subst (λ bs. LieAt region b.slot b.class bs) (sym g.3)
+      subst (λ bs. LieAt region b.slot b.class bs) (sym g.4)
       (subst (λ c. LieAt region b.slot c u.bytes) (sym g.1) (subst (λ s. LieAt region s u.class u.bytes) (sym g.0) h))
 
   next_lies : (names : List Carved) (v w : FloorState) (a n : ℕ) (slot : Slot) → NamesByPlace names v → (s : LendsSlot v a n slot w)
@@ -125,7 +125,7 @@ module _ (region : List ℕ) where
       let z = size_of t.from.class in
       let at = chunk_size * t.from.chunk + length t.from.taken * z in
       let fresh : HasNoName names u = All-head (IsNamedHome names) (Fresh u) s.after.home (All-permutation (IsNamedHome names) _ _ p (held_named names v f a s.before s.held).home) in
-      let size : length s.buffer.bytes.now ≡ z = ap length g.3 ∙ (fresh.size ∙ ap size_of (sym t.class_is)) in
+      let size : length s.buffer.bytes.now ≡ z = ap length g.4 ∙ (fresh.size ∙ ap size_of (sym t.class_is)) in
       let more : length (t.from.taken ++ s.buffer.bytes.ghost_name ∷ []) ≡ length t.from.taken + 1 = length_push t.from.taken s.buffer.bytes.ghost_name in
       let place : at + length s.buffer.bytes.now ≡ chunk_size * t.from.chunk + (length t.from.taken + 1) * z = (let m = suc-mul (length t.from.taken) z in omega (arith, size, m)) in
       subst (λ k. StandsAt t.rest (chunk_size * t.from.chunk + k * z) region) (sym more)
@@ -175,7 +175,7 @@ module _ (region : List ℕ) where
 
   does_hold : (names : List Carved) (v w : FloorState) (q : Request) (r : Reply) → NamesByPlace names v → Holds v region → Does v q r w → Holds w region
   does_hold names v w q r n h d =
-      let e = does_everywhere BufferLies FreshLies (RestLies region) (λ b m p. p) given_lies next_lies names v w q r n
+      let e = does_everywhere BufferLies FreshLies (RestLies region) (λ b m p. p) (λ b p. p) given_lies next_lies names v w q r n
       (everywhere BufferLies FreshLies (RestLies region) v h.buffers h.fresh h.rests)
       (λ a class k s. (claimed_lies v w a class k s h.undrawn, uncut_lies v w a class k s h.undrawn)) d in
       record {
@@ -261,7 +261,7 @@ names_start names v n =
 does_keep : (names : List Carved) (old v w : FloorState) (q : Request) (r : Reply) → NamesByPlace names v → KeptSince old v → Does v q r w → KeptSince old w
 does_keep names old v w q r n h d =
     let olds = buffers_of old in record {
-      kept = does_everywhere (IsKept olds) (HasNone olds) AnyChunk (λ b m p. p) (given_kept olds) (λ names v w a n slot f s u t p g m. m) names v w q r n h.kept
+      kept = does_everywhere (IsKept olds) (HasNone olds) AnyChunk (λ b m p. p) (λ b p. p) (given_kept olds) (λ names v w a n slot f s u t p g m. m) names v w q r n h.kept
           (λ a class k s. (
             claimed_new olds s.part.chunk class s.part.bytes.ghost_name s.part.bytes.now
                 (subst (λ m. All (λ (c : Buffer). c.slot.chunk < m) olds) (sym (s.is_part ∙ s.is_next)) h.below),
@@ -317,7 +317,7 @@ fresh_stay old new h = λ i d l. λ j x m. λ e f n.
 -- ---- a new floor
 
 module _ (K : Buffer → Type 0) (U : Unused → Type 0) (R : Carved → Type 0) where
-  bare_desk : (s : AnyDesk) → IsBare s → OfDesk K U R s
+  bare_desk : (s : AnyDeskState) → IsBare s → OfDesk K U R s
   bare_desk s h = record {
     home = subst (λ hs. All (IsHome K U) hs) (sym h.0) (All-nil (IsHome K U));
     cached = subst (λ bs. All K bs) (sym h.1) (All-nil K);

@@ -19,7 +19,7 @@ use Rattle.pool_desk.specs.Desks.{DeskState}
 use Rattle.pool_desk.specs.Steps.{Frees, Caches}
 use Rattle.pool_desk.specs.declared.freed.Freed.{Freed}
 use Rattle.pool_desk.specs.declared.freed.Freed.TheVariants.{Home as FreedHome, Cached as FreedCached, Due as FreedDue}
-use Rattle.event_floor.specs.declared.any_desk.AnyDesk.TheVariants.{Held as HeldDesk}
+use Rattle.event_floor.specs.Desks.AnyDeskState.{Held as HeldDesk}
 use Rattle.pool_machine.specs.declared.request.Request.TheVariants.{Alloc, Free}
 use Rattle.pool_machine.specs.declared.reply.Reply.TheVariants.{Slot as Lent}
 use Rattle.event_floor.specs.DeskAnswers.{reply_of}

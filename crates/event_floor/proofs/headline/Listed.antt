@@ -17,11 +17,10 @@ use Rattle.region_cut.specs.Slots.{same_slot, times}
 use Rattle.pool_machine.specs.Slots.{one_if}
 use Rattle.pool_machine.specs.State.{State, Waiting, is_slot, OnLoan, InCache, InBatch, slots_at}
 use Rattle.pool_machine.specs.SlotLists.{home_slots, queued_slots}
-use Rattle.event_floor.specs.declared.any_desk.AnyDesk.{AnyDesk}
-use Rattle.event_floor.specs.declared.any_desk.AnyDesk.TheVariants.{Idle, Held}
+use Rattle.event_floor.specs.Desks.AnyDeskState.{Idle, Held}
 use Rattle.event_floor.specs.Lent.{buffers_lent}
 use Rattle.event_floor.specs.Inboxes.{QueuedState, buffers_in, inbox_at}
-use Rattle.event_floor.specs.Desks.{home_of, cached_of}
+use Rattle.event_floor.specs.Desks.{AnyDeskState, home_of, cached_of}
 use Rattle.event_floor.specs.Floors.{FloorState, desk_count, desk_at, no_desk}
 use Rattle.event_floor.specs.headline.Listing.{entry_of, desk_of, batch_of, listing_of}
 use Rattle.event_floor.specs.headline.ListsSlots.{slots_with, slots_on, ListsSlots}
@@ -36,7 +35,7 @@ seen_buffers : (bs : List Buffer) → slots_seen (map entry_of bs) ≡ map slot_
 seen_buffers [] = refl
 seen_buffers (b ∷ bs) = ap (λ ss. b.slot ∷ ss) (seen_buffers bs)
 
-desk_cache : (x : AnyDesk) → slots_seen (desk_of x).cache ≡ map slot_of (cached_of x)
+desk_cache : (x : AnyDeskState) → slots_seen (desk_of x).cache ≡ map slot_of (cached_of x)
 desk_cache (Idle d) = refl
 desk_cache (Held d) = seen_buffers d.cached
 

@@ -13,11 +13,10 @@ use Rattle.pool_desk.specs.Desks.{IdleState, DeskState}
 use Rattle.pool_desk.specs.Steps.{freed, passed_on, own, others, Caches, Frees}
 use Rattle.pool_desk.specs.declared.freed.Freed.{Freed}
 use Rattle.pool_desk.specs.declared.freed.Freed.TheVariants.{Home as FreedHome, Cached as FreedCached, Due as FreedDue}
-use Rattle.event_floor.specs.declared.any_desk.AnyDesk.{AnyDesk}
-use Rattle.event_floor.specs.declared.any_desk.AnyDesk.TheVariants.{Idle, Held}
+use Rattle.event_floor.specs.Desks.AnyDeskState.{Idle, Held}
 use Rattle.event_floor.specs.Lent.{index_of}
 use Rattle.event_floor.specs.Inboxes.{QueuedState, inbox_at, sent_as, as_linked, no_batch}
-use Rattle.event_floor.specs.Desks.{adopted, retired}
+use Rattle.event_floor.specs.Desks.{AnyDeskState, adopted, retired}
 use Rattle.event_floor.specs.Floors.{FloorState, desk_count, no_desk, with_any_desk, with_desk, IsIdle, IsHeld}
 use Rattle.event_floor.specs.Steps.{SendsBatch, LinksBatch, TakesFront, TakesBack}
 use Rattle.event_floor.specs.headline.Names.{HasName, IsNamedHome, IsNamedDesk}
@@ -27,7 +26,7 @@ use Rattle.event_floor.proofs.headline.Tables.{lent_place}
 
 -- ---- lists
 
-pub each_desk : (P : ℕ → AnyDesk → Type 0) (desks : List AnyDesk) (a : ℕ) (s : AnyDesk) → a < length desks → P a s
+pub each_desk : (P : ℕ → AnyDeskState → Type 0) (desks : List AnyDeskState) (a : ℕ) (s : AnyDeskState) → a < length desks → P a s
     → ((b : ℕ) → b < length desks → P b (get_or desks b no_desk)) → (b : ℕ) → b < length (set desks a s) → P b (get_or (set desks a s) b no_desk)
 each_desk P desks a s l p each b m =
     ⊎_elim (λ (same : _ × (b ≡ a)). rw same.1 (rw (get_or-set_same desks a s no_desk l) p))
@@ -77,7 +76,7 @@ module _ (names : List Carved) (v : FloorState) (n : NamesByPlace names v) where
   idle_named a d h = subst (IsNamedDesk names v.drawn a) h.1 (n.desks a h.0)
 
   -- the floor with another desk, another table and other inboxes
-  pub changed_named : (a : ℕ) (s : AnyDesk) (lent : List (Option Buffer)) (inboxes : List (List QueuedState)) (next : ℕ) → a < desk_count v → IsNamedDesk names v.drawn a s
+  pub changed_named : (a : ℕ) (s : AnyDeskState) (lent : List (Option Buffer)) (inboxes : List (List QueuedState)) (next : ℕ) → a < desk_count v → IsNamedDesk names v.drawn a s
       → ((i : ℕ) → IfSome (get_or lent i None) (HasName names)) → ((b : ℕ) → All (λ (p : QueuedState). All (HasName names) p.buffers) (inbox_at inboxes b))
       → NamesByPlace names (record v { desks = set v.desks a s; lent = lent; inboxes = inboxes; next = next })
   changed_named a s lent inboxes next l p lends batches = record {

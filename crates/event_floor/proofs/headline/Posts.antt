@@ -9,7 +9,7 @@ use Rattle.digit_route.specs.Route.{TakesBucket}
 use Rattle.pool_desk.specs.Homes.AtHome.{Kept}
 use Rattle.pool_desk.specs.Desks.{DeskState}
 use Rattle.pool_desk.specs.Steps.{passed_on as buffer_passed_on, own, others}
-use Rattle.event_floor.specs.declared.any_desk.AnyDesk.TheVariants.{Held as HeldDesk}
+use Rattle.event_floor.specs.Desks.AnyDeskState.{Held as HeldDesk}
 use Rattle.pool_machine.specs.declared.request.Request.TheVariants.{Send, Link, Take}
 use Rattle.pool_machine.specs.declared.reply.Reply.{Reply}
 use Rattle.pool_machine.specs.declared.reply.Reply.TheVariants.{Done, Batch, Counts}

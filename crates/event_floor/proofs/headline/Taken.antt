@@ -18,10 +18,9 @@ use Rattle.pool_desk.specs.Homes.{AtHome, unused_from}
 use Rattle.pool_desk.specs.Homes.AtHome.{Kept, Fresh}
 use Rattle.pool_desk.specs.Desks.{DeskState}
 use Rattle.pool_machine.specs.declared.chunk.DrawnChunk.{DrawnChunk}
-use Rattle.event_floor.specs.declared.any_desk.AnyDesk.{AnyDesk}
-use Rattle.event_floor.specs.declared.any_desk.AnyDesk.TheVariants.{Held}
+use Rattle.event_floor.specs.Desks.AnyDeskState.{Held}
 use Rattle.event_floor.specs.Inboxes.{QueuedState, inbox_at}
-use Rattle.event_floor.specs.Desks.{home_of, cached_of}
+use Rattle.event_floor.specs.Desks.{AnyDeskState, home_of, cached_of}
 use Rattle.event_floor.specs.Floors.{FloorState, desk_at, no_desk}
 use Rattle.event_floor.specs.Steps.{DrawsChunk}
 use Rattle.pool_machine.specs.Slots.{one_if}
@@ -179,7 +178,7 @@ module _ (names : List Carved) (v w : FloorState) (a class k : ℕ) (n : NamesBy
   kept_same : (c : Carved) → slice_get names c.chunk ≡ Some c → slice_get new_names c.chunk ≡ Some c
   kept_same c e = get_pushed names new_chunk c c.chunk e
 
-  other_desk : (b : ℕ) (x : AnyDesk) → b ≢ a → IsNamedDesk names v.drawn b x → IsNamedDesk new_names new_drawn b x
+  other_desk : (b : ℕ) (x : AnyDeskState) → b ≢ a → IsNamedDesk names v.drawn b x → IsNamedDesk new_names new_drawn b x
   other_desk b x ne h = record {
     home = All-to (IsNamedHome names) (IsNamedHome new_names) (home_of x) kept_home h.home;
     cached = All-to (HasName names) (HasName new_names) (cached_of x) kept_name h.cached;

@@ -9,8 +9,8 @@ use Rattle.pool_desk.specs.Homes.{AtHome, slot_at, class_at}
 use Rattle.pool_desk.specs.Homes.AtHome.{Kept, Fresh}
 use Rattle.pool_desk.specs.HomesState.{HasClass, LacksClass}
 use Rattle.pool_desk.specs.Desks.{IdleState, DeskState}
-use Rattle.event_floor.specs.declared.any_desk.AnyDesk.{AnyDesk}
-use Rattle.event_floor.specs.declared.any_desk.AnyDesk.TheVariants.{Idle as IdleDesk, Held as HeldDesk}
+use Rattle.event_floor.specs.Desks.{AnyDeskState}
+use Rattle.event_floor.specs.Desks.AnyDeskState.{Idle as IdleDesk, Held as HeldDesk}
 use Rattle.pool_machine.specs.declared.refusal.Refusal.{Refusal}
 use Rattle.pool_machine.specs.declared.refusal.Refusal.TheVariants.{NoDesk, Idle}
 use Rattle.event_floor.specs.Inboxes.{inbox_at}
@@ -90,7 +90,7 @@ held_first v a cs d h =
     ∙ passes (is_none (desk_listing (listing_of v) a).worker) Idle cs (ap (λ (x : DeskListing). is_none x.worker) (held_seen v a d h))
 
 -- another desk a
-pub with_any_desk_seen : (v : FloorState) (a : ℕ) (s : AnyDesk) → (listing_of (with_any_desk v a s)).desks ≡ set (listing_of v).desks a (desk_of s)
+pub with_any_desk_seen : (v : FloorState) (a : ℕ) (s : AnyDeskState) → (listing_of (with_any_desk v a s)).desks ≡ set (listing_of v).desks a (desk_of s)
 with_any_desk_seen v a s = set-map desk_of v.desks a s
 
 -- ---- slots at home

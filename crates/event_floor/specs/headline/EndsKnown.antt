@@ -9,15 +9,14 @@ use Rattle.region_cut.specs.Ranges.{start_of}
 use Rattle.slot_chain.specs.Buffer.{Buffer}
 use Rattle.pool_desk.specs.Homes.{AtHome, Unused, kept_in}
 use Rattle.pool_desk.specs.Homes.AtHome.{Kept, Fresh}
-use Rattle.event_floor.specs.declared.any_desk.AnyDesk.{AnyDesk}
 use Rattle.event_floor.specs.Lent.{buffers_lent}
 use Rattle.event_floor.specs.Inboxes.{buffers_in}
-use Rattle.event_floor.specs.Desks.{home_of, cached_of}
+use Rattle.event_floor.specs.Desks.{AnyDeskState, home_of, cached_of}
 use Rattle.event_floor.specs.Floors.{FloorState}
 use Rattle.event_floor.specs.headline.Names.{chunks_of}
 
 -- the buffers at home with a desk, and those in its cache
-abbrev pub buffers_with : AnyDesk → List Buffer
+abbrev pub buffers_with : AnyDeskState → List Buffer
 buffers_with s = kept_in (home_of s) ++ cached_of s
 
 -- all buffers of a floor: with its desks, lent, and in batches

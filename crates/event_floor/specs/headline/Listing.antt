@@ -3,8 +3,8 @@ use Rattle.std.specs.Prelude.{ℕ, [], map, Some, None}
 use Rattle.slot_chain.specs.Buffer.{Buffer}
 use Rattle.pool_desk.specs.Homes.{AtHome}
 use Rattle.pool_desk.specs.Homes.AtHome.{Kept, Fresh}
-use Rattle.event_floor.specs.declared.any_desk.AnyDesk.{AnyDesk}
-use Rattle.event_floor.specs.declared.any_desk.AnyDesk.TheVariants.{Idle, Held}
+use Rattle.event_floor.specs.Desks.{AnyDeskState}
+use Rattle.event_floor.specs.Desks.AnyDeskState.{Idle, Held}
 use Rattle.event_floor.specs.Lent.{buffers_lent}
 use Rattle.event_floor.specs.Inboxes.{QueuedState}
 use Rattle.event_floor.specs.Floors.{FloorState}
@@ -19,7 +19,7 @@ abbrev pub entry_at : ℕ → AtHome → Entry
 entry_at owner (Kept b) = entry_of b
 entry_at owner (Fresh u) = record { slot = u.slot; class = u.class; owner = owner; forwards = 0 }
 
-abbrev pub desk_of : AnyDesk → DeskListing
+abbrev pub desk_of : AnyDeskState → DeskListing
 desk_of (Idle d) = record { worker = None; home = map (entry_at d.number) d.home; cache = [] }
 desk_of (Held d) = record {
   worker = Some d.worker;

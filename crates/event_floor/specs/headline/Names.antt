@@ -11,11 +11,10 @@ use Rattle.slot_chain.specs.Buffer.{Buffer}
 use Rattle.pool_desk.specs.Homes.{AtHome, Unused}
 use Rattle.pool_desk.specs.Homes.AtHome.{Kept, Fresh}
 use Rattle.pool_machine.specs.declared.chunk.DrawnChunk.{DrawnChunk}
-use Rattle.event_floor.specs.declared.any_desk.AnyDesk.{AnyDesk}
-use Rattle.event_floor.specs.declared.any_desk.AnyDesk.TheVariants.{Idle, Held}
+use Rattle.event_floor.specs.Desks.AnyDeskState.{Idle, Held}
 use Rattle.event_floor.specs.Chunks.{class_drawn}
 use Rattle.event_floor.specs.Inboxes.{QueuedState}
-use Rattle.event_floor.specs.Desks.{home_of, cached_of}
+use Rattle.event_floor.specs.Desks.{AnyDeskState, home_of, cached_of}
 use Rattle.event_floor.specs.Lent.{buffers_lent}
 use Rattle.event_floor.specs.Floors.{FloorState}
 
@@ -45,7 +44,7 @@ IsNamedHome names (Kept b) = HasName names b
 IsNamedHome names (Fresh u) = HasNoName names u
 
 -- the chunks that a desk ever claimed
-abbrev pub chunks_of : AnyDesk → List Carved
+abbrev pub chunks_of : AnyDeskState → List Carved
 chunks_of (Idle d) = d.drawn
 chunks_of (Held d) = d.drawn
 
@@ -54,7 +53,7 @@ abbrev pub drew : List DrawnChunk → ℕ → ℕ → Bool
 drew drawn a k = option_map_or (λ (d : DrawnChunk). d.owner == a) (slice_get drawn k) false
 
 -- desk a: all its buffers have their names, and it knows each chunk that was drawn for it once, and no other
-pub record IsNamedDesk (names : List Carved) (drawn : List DrawnChunk) (a : ℕ) (s : AnyDesk) : Type 0 where
+pub record IsNamedDesk (names : List Carved) (drawn : List DrawnChunk) (a : ℕ) (s : AnyDeskState) : Type 0 where
   pub home : All (IsNamedHome names) (home_of s)
   pub cached : All (HasName names) (cached_of s)
   pub same : All (λ (c : Carved). slice_get names c.chunk ≡ Some c) (chunks_of s)
@@ -74,7 +73,7 @@ pub record IsNamedChunk (parts : List GName) (drawn : List DrawnChunk) (k : ℕ)
 pub record AreNames (names : List Carved) (v : FloorState) : Type 0 where
   pub count : length names ≡ length v.drawn
   pub chunks : (k : ℕ) (c : Carved) → slice_get names k ≡ Some c → IsNamedChunk v.parts v.drawn k c
-  pub desks : (a : ℕ) (s : AnyDesk) → slice_get v.desks a ≡ Some s → IsNamedDesk names v.drawn a s
+  pub desks : (a : ℕ) (s : AnyDeskState) → slice_get v.desks a ≡ Some s → IsNamedDesk names v.drawn a s
   pub lent : All (HasName names) (buffers_lent v.lent)
   pub queued : All (λ inbox. All (λ (p : QueuedState). All (HasName names) p.buffers) inbox) v.inboxes
 

@@ -1,15 +1,13 @@
 use Rattle.std.proofs.Common.{◌≡◌, ◌++◌, ◌∷◌, [], ◌∙◌, List, ap, arith}
-use Rattle.pool_desk.specs.Desks.{IdleState}
-use Rattle.event_floor.specs.declared.any_desk.AnyDesk.{AnyDesk}
-use Rattle.event_floor.specs.declared.any_desk.AnyDesk.TheVariants.{Idle}
-use Rattle.event_floor.specs.Desks.{new_desks, new_desk}
+use Rattle.event_floor.specs.Desks.AnyDeskState.{Idle}
+use Rattle.event_floor.specs.Desks.{AnyDeskState, new_desks, new_desk}
 use Rattle.event_floor.proofs.FloorLaws.{idle_desks_more}
 use Rattle.event_floor.proofs.any_desk.idle_desks.Goals as goal
 
 pub loop-number-preserved : goal.loop-number-preserved
 loop-number-preserved c =
-    c.push_reserved.ensures.items ∙ (ap (λ (z : IdleState). c.loop-number.desks.items ++ Idle z ∷ []) c.new-desk.ensures
-    ∙ (ap (λ (z : List AnyDesk). z ++ Idle (new_desk c.args.digits c.args.limit c.loop-number.number) ∷ []) c.loop-number.invariant
+    c.push_reserved.ensures.items ∙ (ap (λ (z : AnyDeskState). c.loop-number.desks.items ++ z ∷ []) c.new.ensures
+    ∙ (ap (λ (z : List AnyDeskState). z ++ Idle (new_desk c.args.digits c.args.limit c.loop-number.number) ∷ []) c.loop-number.invariant
     ∙ idle_desks_more c.args.digits c.args.limit c.loop-number.number))
 
 pub returns : goal.returns
