@@ -17,7 +17,7 @@ use Rattle.pool_desk.specs.Homes.AtHome.{Kept, Fresh}
 use Rattle.pool_desk.specs.Slots.{places}
 use Rattle.pool_desk.specs.Desks.{DeskState}
 use Rattle.slot_chain.specs.Parcels.{ParcelState}
-use Rattle.pool_desk.specs.Steps.{Claims, Allocs, Frees, FreesAll, Handles, Caches, CachesAll, freed, passed_on, own, others}
+use Rattle.pool_desk.specs.Steps.{Claims, AllocsClass, Frees, FreesAll, Handles, Caches, CachesAll, freed, passed_on, own, others}
 use Rattle.pool_desk.specs.declared.freed.Freed.{Freed}
 use Rattle.pool_desk.specs.declared.freed.Freed.TheVariants.{Home, Cached, Due}
 use Rattle.pool_fabric.specs.declared.ledger.DrawnChunk.{DrawnChunk}
@@ -62,19 +62,19 @@ given_drawn f (Fresh u) b old new is t =
     let r = is t.from b.bytes.ghost_name t.rest in
     omega arith
 
-pub gave : (h : Slot → ℕ) (old : DeskState) (size : ℕ) (b : Buffer) (new : DeskState) → Allocs old size (Ok b) new → held h old ≡ held h new + h b.slot
-gave h old size b new a =
-    let g = a.1 in
+pub gave : (h : Slot → ℕ) (old : DeskState) (class : ℕ) (b : Buffer) (new : DeskState) → AllocsClass old class (Ok b) new → held h old ≡ held h new + h b.slot
+gave h old class b new a =
+    let g = a.0 in
     let p = weigh-permutation (of_home h) old.home (g.from ∷ new.home) g.others in
     let e = given_slot h g.from b g.gives in
-    let s = ap (λ (d : DeskState). weigh (of_buffer h) d.cached) a.2 in
+    let s = ap (λ (d : DeskState). weigh (of_buffer h) d.cached) a.1 in
     omega arith
 
-pub gave_owed : (h : Slot → ℕ) (old : DeskState) (size : ℕ) (b : Buffer) (new : DeskState) → Allocs old size (Ok b) new → owed h new ≡ owed h old
-gave_owed h old size b new a = given_drawn (of_chunk h) a.1.from b old.drawn new.drawn (λ c n rest. refl) a.1.names
+pub gave_owed : (h : Slot → ℕ) (old : DeskState) (class : ℕ) (b : Buffer) (new : DeskState) → AllocsClass old class (Ok b) new → owed h new ≡ owed h old
+gave_owed h old class b new a = given_drawn (of_chunk h) a.0.from b old.drawn new.drawn (λ c n rest. refl) a.0.names
 
-pub gave_chunks : (g : DrawnChunk → ℕ) (old : DeskState) (size : ℕ) (b : Buffer) (new : DeskState) → Allocs old size (Ok b) new → drew g new ≡ drew g old
-gave_chunks g old size b new a = given_drawn (of_drawn g) a.1.from b old.drawn new.drawn (λ c n rest. refl) a.1.names
+pub gave_chunks : (g : DrawnChunk → ℕ) (old : DeskState) (class : ℕ) (b : Buffer) (new : DeskState) → AllocsClass old class (Ok b) new → drew g new ≡ drew g old
+gave_chunks g old class b new a = given_drawn (of_drawn g) a.0.from b old.drawn new.drawn (λ c n rest. refl) a.0.names
 
 freed_to : (h : Slot → ℕ) (old : DeskState) (b : Buffer) (new : DeskState) → Caches old b new → held h new ≡ held h old + h b.slot
 freed_to h old b new c =

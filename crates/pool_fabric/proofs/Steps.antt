@@ -5,7 +5,7 @@ use Rattle.region_cut.specs.declared.part.Part.{Part}
 use Rattle.slot_chain.specs.Buffer.{Buffer}
 use Rattle.pool_desk.specs.Desks.{DeskState}
 use Rattle.slot_chain.specs.Parcels.{ParcelState}
-use Rattle.pool_desk.specs.Steps.{Claims, Allocs, Frees, FreesAll}
+use Rattle.pool_desk.specs.Steps.{Claims, AllocsClass, Frees, FreesAll}
 use Rattle.pool_desk.specs.declared.freed.Freed.{Freed}
 use Rattle.pool_fabric.specs.Weights.{weigh}
 use Rattle.pool_fabric.specs.Names.{Names, box_at}
@@ -36,18 +36,18 @@ reseat n s d lent freed number digits limit i = record {
 }
 
 -- a buffer is lent
-pub lends_keeps : (n : Names) (s : StationState) (size : ℕ) (b : Buffer) (d : DeskState) (lent : List Buffer) → IsStation n s → Allocs s.desk size (Ok b) d → lent ≡ s.lent ++ b ∷ []
+pub lends_keeps : (n : Names) (s : StationState) (class : ℕ) (b : Buffer) (d : DeskState) (lent : List Buffer) → IsStation n s → AllocsClass s.desk class (Ok b) d → lent ≡ s.lent ++ b ∷ []
     → IsStation n (record s { desk = d; lent = lent })
-lends_keeps n s size b d lent i a more = record {
+lends_keeps n s class b d lent i a more = record {
   slots = λ h.
       let p = i.slots h in
-      let e = gave h s.desk size b d a in
-      let o = gave_owed h s.desk size b d a in
+      let e = gave h s.desk class b d a in
+      let o = gave_owed h s.desk class b d a in
       let q = weigh-snoc (of_buffer h) s.lent b in
       let z = ap (weigh (of_buffer h)) more in
       omega arith;
-  chunks = λ g. gave_chunks g s.desk size b d a ∙ i.chunks g;
-  seated = reseat n s d lent s.freed (ap (λ (x : DeskState). x.number) a.2) (ap (λ (x : DeskState). x.digits) a.2) (ap (λ (x : DeskState). x.limit) a.2) i.seated;
+  chunks = λ g. gave_chunks g s.desk class b d a ∙ i.chunks g;
+  seated = reseat n s d lent s.freed (ap (λ (x : DeskState). x.number) a.1) (ap (λ (x : DeskState). x.digits) a.1) (ap (λ (x : DeskState). x.limit) a.1) i.seated;
 }
 
 -- a buffer is freed

@@ -3,7 +3,7 @@ use Rattle.std.specs.Prelude.{◌≡◌, ℕ, [], ◌∷◌, ◌++◌, Result, O
 use Rattle.slot_chain.specs.Buffer.{Buffer}
 use Rattle.region_cut.specs.declared.part.Part.{Part}
 use Rattle.slot_chain.specs.Parcels.{ParcelState}
-use Rattle.pool_desk.specs.Steps.{Claims, Allocs, Frees, FreesAll}
+use Rattle.pool_desk.specs.Steps.{Claims, Allocs, AllocsClass, Frees, FreesAll}
 use Rattle.pool_desk.specs.declared.error.DeskError.{DeskError}
 use Rattle.pool_desk.specs.declared.freed.Freed.{Freed}
 use Rattle.pool_fabric.specs.Pages.{drawn_for}
@@ -15,6 +15,13 @@ Lends old size (Ok b) new =
     Allocs old.desk size (Ok b) new.desk
     × (new ≡ record old { desk = new.desk; lent = old.lent ++ b ∷ [] })
 Lends old size (Err e) new = Allocs old.desk size (Err e) new.desk × (new ≡ old)
+
+-- the same where its class is asked for
+abbrev pub LendsClass : StationState → ℕ → Result Buffer DeskError → StationState → Type 0
+LendsClass old c (Ok b) new =
+    AllocsClass old.desk c (Ok b) new.desk
+    × (new ≡ record old { desk = new.desk; lent = old.lent ++ b ∷ [] })
+LendsClass old c (Err e) new = AllocsClass old.desk c (Err e) new.desk × (new ≡ old)
 
 -- the desk takes a buffer back
 pub record TakesBack (old : StationState) (b : Buffer) (r : Freed) (new : StationState) : Type 0 where

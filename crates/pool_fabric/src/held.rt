@@ -1,8 +1,10 @@
 //! A station that a worker holds.
 ghost use Rattle.std.specs.Prelude.{◌≡◌, ◌≢◌, ◌<◌, ◌≤◌, ◌^◌, ◌↔◌, [], IsTrue, MatchResult, IfOk};
 ghost use Rattle.slot_chain.specs.Counts.{capped, sizes};
+ghost use Rattle.region_cut.specs.Classes.{classes_of};
+ghost use Rattle.pool_desk.specs.Desks.{profile_at};
 ghost use Rattle.pool_desk.specs.HomesState.{HasClass};
-ghost use Rattle.pool_fabric.specs.Calls.{Lends, TakesAllBack, TakesBack};
+ghost use Rattle.pool_fabric.specs.Calls.{Lends, LendsClass, TakesAllBack, TakesBack};
 
 use crate::ledger::Page;
 use crate::named::Named;
@@ -95,6 +97,17 @@ impl<'r, T: Receiver, S: Sender, J: Naming> HeldStation<'r, T, S, J> {
         ensures { Lends self.old size result self.new }
     {
         let buf = self.desk.alloc(alloc, size)?;
+        self.lent = self.lent.and(&buf);
+        Ok(buf)
+    }
+
+    /// Gives out a buffer of this class, as [`Desk::alloc_class`] does.
+    #[inline(always)]
+    pub fn alloc_class(&mut self, alloc: Global, class: Class) -> Result<Buf<'r>, DeskError>
+        requires { class < classes_of (profile_at self.old.desk) }
+        ensures { LendsClass self.old class result self.new }
+    {
+        let buf = self.desk.alloc_class(alloc, class)?;
         self.lent = self.lent.and(&buf);
         Ok(buf)
     }

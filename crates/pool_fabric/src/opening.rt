@@ -79,7 +79,7 @@ impl<'r, T: Receiver, S: Sender, M: NewMail<T, S>> Opening<'r, M, T, S> {
     {
         let (ledger, book) = Ledger::new(alloc)?;
         let boxes = open_boxes::<T, S, M>(alloc, digits, desks)?;
-        let stock = Stock::new(parts);
+        let stock = Stock::new(alloc, parts)?;
         Ok(Opening {
             boxes,
             ledger,

@@ -1,10 +1,11 @@
 //! The chunks that nobody drew yet.
-ghost use Rattle.std.specs.Prelude.{◌≡◌, ℕ, ◌<◌, [], ◌∷◌, ◌++◌, length, reverse, None, MatchOption};
+ghost use Rattle.std.specs.Prelude.{◌≡◌, ℕ, ◌<◌, [], ◌∷◌, ◌++◌, length, reverse, None, IfOk, MatchOption};
 ghost use Rattle.slot_audit.specs.Audit.{class_noted};
 ghost use Rattle.pool_fabric.specs.Stocks.{IsRising, AreChunks, GivesPart, IsLeast};
 
 use region_cut::{Class, Part};
 use slot_audit::Drawn;
+use std::alloc::{AllocError, Global};
 use std::fmt;
 use std::marker::Model;
 
@@ -26,19 +27,18 @@ impl<'r> Model for Stock<'r> {
 }
 
 impl<'r> Stock<'r> {
-    /// The stock of these parts, in order of their numbers. No chunk is drawn.
-    pub fn new(parts: Vec<Part<'r>>) -> Stock<'r>
+    /// The stock of these parts, in order of their numbers. No chunk is drawn. [`AllocError`] is answered
+    /// only where there is no memory for the table of drawn chunks, of some 2 KB.
+    pub fn new(alloc: Global, parts: Vec<Part<'r>>) -> Result<Stock<'r>, AllocError>
         requires order { IsRising parts.items }
         requires chunks { AreChunks parts.items }
-        ensures left { result.left ≡ reverse parts.entry.items }
-        ensures none { (k : ℕ) → class_noted result.drawn k ≡ None }
+        ensures left { IfOk result (λ s. s.left ≡ reverse parts.entry.items) }
+        ensures none { IfOk result (λ s. (k : ℕ) → class_noted s.drawn k ≡ None) }
     {
+        let drawn = Drawn::new(alloc)?;
         let mut parts = parts;
         parts.reverse();
-        Stock {
-            parts,
-            drawn: Drawn::new(),
-        }
+        Ok(Stock { parts, drawn })
     }
 
     /// Takes out the part of the least number, and notes that it is drawn for the class. Says where

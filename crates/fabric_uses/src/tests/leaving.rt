@@ -195,7 +195,7 @@ fn audited<'r, R: Abort>(rt: &R, alloc: Global, batches: Vec<Batch<'r>>) -> Resu
     }
     let posted = [Slot { chunk: 0, index: 0 }, Slot { chunk: 0, index: 1 }];
     assert!(rt; slots.as_slice() == posted.as_slice());
-    let mut drawn = Drawn::new();
+    let mut drawn = Drawn::new(alloc)?;
     drawn.note(0, Class::new(15).ok_or("a class of 512 bytes")?);
     let audit = account(alloc, &[], &[], &batches, &drawn);
     assert!(rt; audit == Err(Fault::Missing(Slot { chunk: 0, index: 2 })));
