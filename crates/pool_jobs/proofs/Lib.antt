@@ -2,3 +2,4 @@ pub mod Adding
 pub mod Looking
 pub mod Largest
 pub mod Travels
+pub mod Waits

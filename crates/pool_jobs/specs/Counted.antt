@@ -1,5 +1,5 @@
 -- What workers left, and what they counted together.
-use Rattle.std.specs.Prelude.{ℕ, ◌+◌, ◌<◌, ◌≤◌, List, Option, Some, None, length, slice_index_or, sum_by, filter_map}
+use Rattle.std.specs.Prelude.{◌≡◌, ℕ, ◌+◌, ◌<◌, ◌≤◌, List, Option, Some, None, length, slice_index_or, sum_by, filter_map, Result, Ok, Err}
 use Rattle.slot_chain.specs.Counts.{capped}
 use Rattle.pool_fabric.specs.Stations.{StationState}
 use Rattle.pool_jobs.specs.declared.counting.Done.{Done}
@@ -25,6 +25,11 @@ stations_of lefts = filter_map station_of lefts
 abbrev pub IsLeastAt : List StationState → ℕ → Type 0
 IsLeastAt stations at = (k : ℕ) (d : StationState) → k < length stations
     → (slice_index_or stations at d).desk.number ≤ (slice_index_or stations k d).desk.number
+
+-- a buffer that was given is counted, or that none was to be had
+abbrev pub Counts : {B E : Type 0} → BufferCounts → Result B E → BufferCounts → Type 0
+Counts old (Ok b) new = new ≡ record old { allocated = capped (old.allocated + 1) }
+Counts old (Err e) new = new ≡ record old { starved = capped (old.starved + 1) }
 
 -- two counts added up, none beyond the greatest u64
 abbrev pub both : BufferCounts → BufferCounts → BufferCounts

@@ -3,3 +3,4 @@ pub mod Serving
 pub mod Ends
 pub mod Rounds
 pub mod Counted
+pub mod Edges

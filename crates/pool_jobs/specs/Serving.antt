@@ -37,6 +37,14 @@ abbrev pub HasOnlyUnused : ℕ → StationState → Type 0
 HasOnlyUnused c s =
     HasClass c s.desk.home × All (λ (a : AtHome). class_at a ≡ c → IsUnused a) s.desk.home
 
+-- A buffer of this class is lent out; or none is, since no slot of the class is at home, or each slot there wants
+-- memory.
+abbrev pub ServesClass : Names → StationState → ℕ → Result Buffer PoolError → StationState → Type 0
+ServesClass names old c (Ok b) new = (b.class ≡ c) × LendsOut names old b new
+ServesClass names old c (Err TooLarge) new = ⊥
+ServesClass names old c (Err UsedUp) new = LacksClass c new.desk.home × Keeps names old new
+ServesClass names old c (Err NoMemory) new = HasOnlyUnused c new × Keeps names old new
+
 -- A buffer of the right class is lent out.
 -- Or none is: no class holds n bytes, or no slot of the class is at home, or each slot there wants memory.
 abbrev pub Serves : Names → StationState → ℕ → Result Buffer PoolError → StationState → Type 0

@@ -1,25 +1,27 @@
 //! The allocator that a worker holds.
-ghost use Rattle.std.specs.Prelude.{◌≡◌, ◌<◌, ◌≤◌, ◌↔◌, [], ◌∷◌, ◌++◌, IsTrue, IfSome, IfOk, MatchOption};
+ghost use Rattle.std.specs.Prelude.{◌≡◌, ◌≢◌, ◌<◌, ◌≤◌, ◌↔◌, [], ◌∷◌, ◌++◌, length, IsTrue, IfSome, IfOk, MatchOption};
 ghost use Rattle.region_cut.specs.Classes.{size_of, classes_of, largest_of, NoClassFor};
 ghost use Rattle.digit_route.specs.Profiles.{profile_of};
 ghost use Rattle.pool_fabric.specs.Limits.{most_taken};
-ghost use Rattle.pool_jobs.specs.Serving.{IsClassFor, Keeps, SameDesk, Serves};
-ghost use Rattle.pool_jobs.specs.declared.error.PoolError.TheVariants.{TooLarge};
+ghost use Rattle.pool_jobs.specs.Serving.{IsClassFor, Keeps, SameDesk, Serves, ServesClass};
+ghost use Rattle.pool_jobs.specs.declared.error.PoolError.TheVariants.{TooLarge, UsedUp};
 
 use crate::buffer::Buffer;
 use crate::error::PoolError;
 use crate::gate::Gate;
 use crate::heap::Heap;
 use crate::parcel::Parcel;
+use crate::waiting::Pauses;
 use batch_inbox::{Mail, Mailbox, Receiver, Sender};
 use pool_desk::{DeskError, Freed};
 use pool_fabric::{Fabric, HeldStation, Naming};
 use region_cut::Class;
 use slot_chain::NoMemory;
 use std::alloc::Global;
-use std::fmt;
 use std::marker::Model;
 use std::sync::Wait;
+use std::time::{Clock, Duration, Instant};
+use std::{fmt, io};
 
 // How many calls go by between two looks into the inbox, where slots of each class are at home all
 // the while.
@@ -110,14 +112,15 @@ impl<
 
     // Asks the desk.
     #[inline(always)]
-    fn ask(&mut self, size: usize) -> Result<Buffer<'r, J>, PoolError>
-        ensures { Serves J.names self.old size result self.new }
+    fn ask(&mut self, class: Class) -> Result<Buffer<'r, J>, PoolError>
+        requires { class < classes_of (profile_of J.names.digits.bits) }
+        ensures { ServesClass J.names self.old class result self.new }
     {
-        let answer = self.station.alloc(self.alloc, size);
+        let _number = self.station.number();
+        let answer = self.station.alloc_class(self.alloc, class);
         let _number = self.station.number();
         match answer {
             Ok(buf) => Ok(Buffer::new(buf)),
-            Err(DeskError::TooLarge) => Err(PoolError::TooLarge),
             Err(DeskError::NeedChunk(_)) => Err(PoolError::UsedUp),
             Err(DeskError::NoMemory) => Err(PoolError::NoMemory),
             Err(_) => unreachable!(),
@@ -140,18 +143,31 @@ impl<
         }
     }
 
-    // Sees to it that a slot for so many bytes is at home, where one is to be had.
+    // Sees to it that a slot of the class is at home, where one is to be had.
     #[inline(always)]
-    fn provide<R: Wait>(&mut self, rt: &R, size: usize)
+    fn provide<R: Wait>(&mut self, rt: &R, class: Class)
+        requires { class < classes_of (profile_of J.names.digits.bits) }
         ensures { Keeps J.names self.old self.new }
     {
         let _number = self.station.number();
-        let Some(class) = self.class_for(size) else {
-            return;
-        };
         // It answers nothing: memory for an answer would be cleared before anything is done.
         if self.is_to_look() || !self.station.has_home(class) {
             self.fetch(rt, class);
+        }
+    }
+
+    // Gives a buffer of the class for so many bytes.
+    #[inline(always)]
+    fn serve<R: Wait>(&mut self, rt: &R, size: usize) -> Result<Buffer<'r, J>, PoolError>
+        ensures { Serves J.names self.old size result self.new }
+    {
+        let _number = self.station.number();
+        match self.class_for(size) {
+            None => Err(PoolError::TooLarge),
+            Some(class) => {
+                self.provide(rt, class);
+                self.ask(class)
+            }
         }
     }
 
@@ -168,10 +184,66 @@ impl<
     {
         let call = self.next_call();
         self.gate.before(self.worker, call);
-        self.provide(rt, size);
-        let answer = self.ask(size);
+        let answer = self.serve(rt, size);
         self.gate.after(self.worker, call);
         answer
+    }
+
+    // Posts what is cached here, for others may wait for it, and waits a while.
+    #[cold]
+    #[inline(never)]
+    fn pause<R: Wait + Clock>(&mut self, rt: &R, pauses: &mut Pauses)
+        ensures { Keeps J.names self.old self.new }
+    {
+        let _all = self.flush(rt);
+        pauses.pause(rt);
+    }
+
+    /// Gives a buffer as [`Allocator::alloc`] does, and where the pool is used up it waits until a slot
+    /// comes home: it posts what is cached here, yields, and then sleeps, so that it uses little of a core.
+    ///
+    /// A thread that waits while it holds back what others need can wait for ever, as one does that waits
+    /// for more buffers than the pool has.
+    #[inline]
+    pub fn alloc_waiting<R: Wait + Clock>(
+        &mut self,
+        rt: &R,
+        size: usize,
+    ) -> Result<Buffer<'r, J>, PoolError>
+        ensures serves { Serves J.names self.old size result self.new }
+        ensures waits { result ≢ Err UsedUp }
+    {
+        let mut pauses = Pauses::new();
+        for _ in rt.forever() {
+            let answer = self.alloc(rt, size);
+            if !is_used_up(&answer) {
+                return answer;
+            }
+            self.pause(rt, &mut pauses);
+        }
+        unreachable!()
+    }
+
+    /// Gives a buffer as [`Allocator::alloc_waiting`] does, but waits no longer than `limit`, or a
+    /// millisecond more: it is [`PoolError::UsedUp`] then. Where the clock can't be read it doesn't wait.
+    pub fn alloc_within<R: Wait + Clock>(
+        &mut self,
+        rt: &R,
+        size: usize,
+        limit: Duration,
+    ) -> Result<Buffer<'r, J>, PoolError>
+        ensures { Serves J.names self.old size result self.new }
+    {
+        let began = Instant::now(rt);
+        let mut pauses = Pauses::new();
+        for _ in rt.forever() {
+            let answer = self.alloc(rt, size);
+            if !is_used_up(&answer) || !is_within(rt, &began, limit) {
+                return answer;
+            }
+            self.pause(rt, &mut pauses);
+        }
+        unreachable!()
     }
 
     /// Posts all that is cached, whether that is due or not, and says whether all went. What an inbox
@@ -292,6 +364,27 @@ impl<
     }
 }
 
+// Whether the pool is used up, for now.
+fn is_used_up<J: Naming>(answer: &Result<Buffer<'_, J>, PoolError>) -> bool
+    ensures { IsTrue result ↔ (answer.now ≡ Err UsedUp) }
+{
+    match answer {
+        Err(PoolError::UsedUp) => true,
+        _ => false,
+    }
+}
+
+// Whether less time went by than the limit. It didn't where the clock can't be read.
+fn is_within(clock: &impl Clock, began: &io::Result<Instant>, limit: Duration) -> bool {
+    match began {
+        Ok(began) => match began.elapsed(clock) {
+            Ok(elapsed) => elapsed < limit,
+            Err(_) => false,
+        },
+        Err(_) => false,
+    }
+}
+
 /// One who is about to take up work at a fabric.
 #[derive(Drop)]
 pub struct Entrance<'a, 'r, M: Mailbox, T: Receiver, S: Sender, G: Gate, J: Naming> {
@@ -379,6 +472,8 @@ impl<
 
     type Buffer = Buffer<'r, J>;
 
+    type Parcel = Parcel<'r, J>;
+
     ghost largest = { λ _. largest_of (profile_of J.names.digits.bits) };
 
     #[inline]
@@ -388,6 +483,50 @@ impl<
         ensures serves { Serves J.names self.old size result self.new }
     {
         self.alloc(rt, size)
+    }
+
+    #[inline]
+    fn alloc_waiting<R: Wait + Clock>(
+        &mut self,
+        rt: &R,
+        size: usize,
+    ) -> Result<Buffer<'r, J>, PoolError>
+        ensures large_enough { IfOk result (λ b. size ≤ size_of b.class) }
+        ensures too_large { (result ≡ Err TooLarge) ↔ (largest_of (profile_of J.names.digits.bits) < size) }
+        ensures waits { result ≢ Err UsedUp }
+        ensures serves { Serves J.names self.old size result self.new }
+    {
+        self.alloc_waiting(rt, size)
+    }
+
+    fn alloc_within<R: Wait + Clock>(
+        &mut self,
+        rt: &R,
+        size: usize,
+        limit: Duration,
+    ) -> Result<Buffer<'r, J>, PoolError>
+        ensures large_enough { IfOk result (λ b. size ≤ size_of b.class) }
+        ensures too_large { (result ≡ Err TooLarge) ↔ (largest_of (profile_of J.names.digits.bits) < size) }
+        ensures serves { Serves J.names self.old size result self.new }
+    {
+        self.alloc_within(rt, size, limit)
+    }
+
+    fn parcel(&mut self, places: usize) -> Result<Parcel<'r, J>, NoMemory>
+        ensures places { IfOk result (λ p. places ≤ p.places) }
+        ensures empty { IfOk result (λ p. length p.items ≡ 0) }
+        ensures same { self.new ≡ self.old }
+    {
+        self.parcel(places)
+    }
+
+    #[inline]
+    fn free_all<R: Wait>(&mut self, rt: &R, parcel: Parcel<'r, J>)
+        ensures desk { SameDesk J.names self.old self.new }
+        ensures lent { self.new.lent ≡ self.old.lent }
+        ensures freed { self.new.freed ≡ self.old.freed ++ parcel.entry.items }
+    {
+        self.free_all(rt, parcel);
     }
 
     #[inline]

@@ -195,8 +195,8 @@ impl<'a, 'r, M: Mailbox, T: Receiver, S: Sender, G: Gate, J: Naming, N: Drop> Cl
 // Writes the low byte of the worker's number into the first byte.
 fn marked<'r, J: Naming>(buffer: Buffer<'r, J>, worker: u32) -> Buffer<'r, J> {
     let mut buffer = buffer;
-    if buffer.len() > 0 {
-        buffer.set(0, (worker % 256) as u8);
+    if buffer.capacity() > 0 {
+        buffer.copy_in(0, &[(worker % 256) as u8]);
     }
     buffer
 }

@@ -1,11 +1,11 @@
 //! An allocator that counts its calls.
-ghost use Rattle.std.specs.Prelude.{◌≡◌, ◌<◌, ◌≤◌, ◌↔◌, ◌+◌, [], ◌∷◌, ◌++◌, IsTrue, IfOk, IfSome, MatchResult};
+ghost use Rattle.std.specs.Prelude.{◌≡◌, ◌≢◌, ◌<◌, ◌≤◌, ◌↔◌, ◌+◌, [], ◌∷◌, ◌++◌, length, IsTrue, IfOk, IfSome};
 ghost use Rattle.region_cut.specs.Classes.{size_of, largest_of};
 ghost use Rattle.digit_route.specs.Profiles.{profile_of};
 ghost use Rattle.pool_fabric.specs.Limits.{most_taken};
-ghost use Rattle.pool_jobs.specs.declared.error.PoolError.TheVariants.{TooLarge};
+ghost use Rattle.pool_jobs.specs.declared.error.PoolError.TheVariants.{TooLarge, UsedUp};
 ghost use Rattle.slot_chain.specs.Counts.{capped};
-ghost use Rattle.pool_jobs.specs.Counted.{none_counted};
+ghost use Rattle.pool_jobs.specs.Counted.{Counts, none_counted};
 ghost use Rattle.pool_jobs.specs.Serving.{Keeps, SameDesk, Serves};
 
 use crate::allocator::Allocator;
@@ -13,10 +13,13 @@ use crate::buffer::Buffer;
 use crate::error::PoolError;
 use crate::gate::Gate;
 use crate::heap::Heap;
+use crate::parcel::Parcel;
 use crate::tally::BufferCounts;
 use batch_inbox::{Mail, Mailbox, Receiver, Sender};
 use pool_fabric::{HeldStation, Naming};
+use slot_chain::NoMemory;
 use std::sync::Wait;
+use std::time::{Clock, Duration};
 
 /// What a worker hands back: its station, where the shelf didn't take it, and its counts.
 #[derive(Drop)]
@@ -98,6 +101,8 @@ impl<
 
     type Buffer = Buffer<'r, J>;
 
+    type Parcel = Parcel<'r, J>;
+
     ghost largest = { λ _. largest_of (profile_of J.names.digits.bits) };
 
     #[inline]
@@ -105,15 +110,43 @@ impl<
         ensures large_enough { IfOk result (λ b. size ≤ size_of b.class) }
         ensures too_large { (result ≡ Err TooLarge) ↔ (largest_of (profile_of J.names.digits.bits) < size) }
         ensures serves { Serves J.names self.old.allocator size result self.new.allocator }
-        ensures counted { let counts = self.old.counts in MatchResult result
-            (λ _. self.new.counts ≡ record counts { allocated = capped (counts.allocated + 1) })
-            (λ _. self.new.counts ≡ record counts { starved = capped (counts.starved + 1) }) }
+        ensures counted { Counts self.old.counts result self.new.counts }
     {
         let answer = self.allocator.alloc(rt, size);
-        match &answer {
-            Ok(_) => self.counts.allocated = self.counts.allocated.saturating_add(1),
-            Err(_) => self.counts.starved = self.counts.starved.saturating_add(1),
-        }
+        self.counts.count(answer.is_ok());
+        answer
+    }
+
+    #[inline]
+    fn alloc_waiting<R: Wait + Clock>(
+        &mut self,
+        rt: &R,
+        size: usize,
+    ) -> Result<Buffer<'r, J>, PoolError>
+        ensures large_enough { IfOk result (λ b. size ≤ size_of b.class) }
+        ensures too_large { (result ≡ Err TooLarge) ↔ (largest_of (profile_of J.names.digits.bits) < size) }
+        ensures waits { result ≢ Err UsedUp }
+        ensures serves { Serves J.names self.old.allocator size result self.new.allocator }
+        ensures counted { Counts self.old.counts result self.new.counts }
+    {
+        let answer = self.allocator.alloc_waiting(rt, size);
+        self.counts.count(answer.is_ok());
+        answer
+    }
+
+    fn alloc_within<R: Wait + Clock>(
+        &mut self,
+        rt: &R,
+        size: usize,
+        limit: Duration,
+    ) -> Result<Buffer<'r, J>, PoolError>
+        ensures large_enough { IfOk result (λ b. size ≤ size_of b.class) }
+        ensures too_large { (result ≡ Err TooLarge) ↔ (largest_of (profile_of J.names.digits.bits) < size) }
+        ensures serves { Serves J.names self.old.allocator size result self.new.allocator }
+        ensures counted { Counts self.old.counts result self.new.counts }
+    {
+        let answer = self.allocator.alloc_within(rt, size, limit);
+        self.counts.count(answer.is_ok());
         answer
     }
 
@@ -126,6 +159,26 @@ impl<
     {
         self.counts.freed = self.counts.freed.saturating_add(1);
         self.allocator.free(rt, buffer);
+    }
+
+    fn parcel(&mut self, places: usize) -> Result<Parcel<'r, J>, NoMemory>
+        ensures places { IfOk result (λ p. places ≤ p.places) }
+        ensures empty { IfOk result (λ p. length p.items ≡ 0) }
+        ensures same { self.new ≡ self.old }
+    {
+        self.allocator.parcel(places)
+    }
+
+    #[inline]
+    fn free_all<R: Wait>(&mut self, rt: &R, parcel: Parcel<'r, J>)
+        ensures desk { SameDesk J.names self.old.allocator self.new.allocator }
+        ensures lent { self.new.allocator.lent ≡ self.old.allocator.lent }
+        ensures freed { self.new.allocator.freed ≡ self.old.allocator.freed ++ parcel.entry.items }
+        ensures counted { self.new.counts
+            ≡ record self.old.counts { freed = capped (self.old.counts.freed + length parcel.entry.items) } }
+    {
+        self.counts.freed = self.counts.freed.saturating_add(parcel.len() as u64);
+        self.allocator.free_all(rt, parcel);
     }
 
     fn flush<R: Wait>(&mut self, rt: &R) -> bool

@@ -6,17 +6,18 @@ use std::alloc::Global;
 use std::sync::Wait;
 use std::thread;
 use std::thread::{JoinHandle, Threads};
+use std::time::Clock;
 
 /// What one thread does, and what its join gives.
 pub trait Job: Drop {
     type Out: Drop;
 
-    fn run<R: Wait>(self, rt: &R) -> Self::Out;
+    fn run<R: Wait + Clock>(self, rt: &R) -> Self::Out;
 }
 
 /// Runs each job in a thread of its own, and gives what each gave, in order. All threads that were
 /// started have ended when the call returns; after an error what they gave is let go.
-pub fn crew<J: Job + Send, R: Threads + Wait + Sync>(
+pub fn crew<J: Job + Send, R: Threads + Wait + Clock + Sync>(
     rt: &R,
     alloc: Global,
     jobs: Vec<J>,

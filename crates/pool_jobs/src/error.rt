@@ -34,6 +34,14 @@ impl PoolError {
     }
 }
 
+impl From<NoMemory> for PoolError {
+    fn from(_refused: NoMemory) -> PoolError
+        ensures { result ≡ PoolError.NoMemory }
+    {
+        PoolError::NoMemory
+    }
+}
+
 /// Why workers gave no tally. What they had is then given up.
 #[derive(Clone, Copy, Debug, PartialEq, Eq, Drop, Error)]
 pub enum JobError {

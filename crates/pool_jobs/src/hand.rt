@@ -10,26 +10,30 @@ use crate::counting::{Counting, Done};
 use crate::crew::{Job, crew};
 use crate::error::JobError;
 use crate::gate::Gate;
+use crate::parcel::Parcel;
 use crate::task::Task;
 use batch_inbox::{Mail, Receiver, Sender};
 use pool_fabric::{Fabric, Naming};
 use std::alloc::{AllocError, Global};
 use std::sync::Wait;
 use std::thread::Threads;
+use std::time::Clock;
 
 /// One who does a task with an allocator. The trait names no lifetime, so a thread may own a value of
 /// it.
 pub trait Hand: Drop + Sized {
     type Buffer: Drop;
 
+    type Parcel: Drop;
+
     type Left: Drop;
 
     /// Does the task, and gives up the allocator.
-    fn serve<K: Task, R: Wait>(
+    fn serve<K: Task, R: Wait + Clock>(
         self,
         rt: &R,
         task: K,
-        channels: Channels<Self::Buffer>,
+        channels: Channels<Self::Buffer, Self::Parcel>,
     ) -> Served<Self, K>;
 }
 
@@ -51,13 +55,15 @@ impl<
 > Hand for Counting<'a, 'r, M, T, S, G, J> {
     type Buffer = Buffer<'r, J>;
 
+    type Parcel = Parcel<'r, J>;
+
     type Left = Done<'r, T, S, J>;
 
-    fn serve<K: Task, R: Wait>(
+    fn serve<K: Task, R: Wait + Clock>(
         self,
         rt: &R,
         task: K,
-        channels: Channels<Buffer<'r, J>>,
+        channels: Channels<Buffer<'r, J>, Parcel<'r, J>>,
     ) -> Served<Counting<'a, 'r, M, T, S, G, J>, K> {
         let mut heap = self;
         let answer = task.run(rt, &mut heap, channels);
@@ -73,13 +79,13 @@ impl<
 struct Shift<H: Hand, K: Task> {
     hand: Option<H>,
     task: K,
-    channels: Channels<H::Buffer>,
+    channels: Channels<H::Buffer, H::Parcel>,
 }
 
 impl<H: Hand, K: Task> Job for Shift<H, K> {
     type Out = Served<H, K>;
 
-    fn run<R: Wait>(self, rt: &R) -> Served<H, K> {
+    fn run<R: Wait + Clock>(self, rt: &R) -> Served<H, K> {
         let Shift {
             hand,
             task,
@@ -147,7 +153,7 @@ fn shifts_of<H: Hand, K: Task>(
     alloc: Global,
     hands: Vec<H>,
     tasks: Vec<K>,
-    channels: Vec<Channels<H::Buffer>>,
+    channels: Vec<Channels<H::Buffer, H::Parcel>>,
 ) -> Result<Vec<Shift<H, K>>, AllocError>
     requires { length channels.items ≡ length tasks.items }
     ensures { IfOk result (λ shifts. length shifts.items ≡ length tasks.items) }
@@ -178,13 +184,14 @@ pub fn all_served<H, K, R>(
 where
     H: Hand + Send,
     K: Task + Send,
-    R: Threads + Wait + Sync,
+    R: Threads + Wait + Clock + Sync,
     H::Buffer: Send,
+    H::Parcel: Send,
     H::Left: Send,
     K::Answer: Send,
     ensures each { IfOk result (λ all. length all.items ≡ length tasks.items) }
 {
-    let channels = channels_of::<H::Buffer, K>(alloc, &tasks)?;
+    let channels = channels_of::<H::Buffer, H::Parcel, K>(alloc, &tasks)?;
     let shifts = shifts_of(alloc, hands, tasks, channels)?;
     crew(rt, alloc, shifts)
 }

@@ -7,6 +7,7 @@ use crate::rows::{Places, Spent};
 use crossbeam_channel::{Receiver, Sender};
 use std::alloc::{AllocError, Global};
 use std::sync::Wait;
+use std::time::Clock;
 
 /// What a worker does with its buffers.
 #[derive(Drop)]
@@ -84,7 +85,7 @@ pub(crate) fn hand_over<W: Worker, R: Wait>(
 impl<S: Starter> Job for HandingTurn<S> {
     type Out = Spent<S>;
 
-    fn run<R: Wait>(self, rt: &R) -> Spent<S> {
+    fn run<R: Wait + Clock>(self, rt: &R) -> Spent<S> {
         let HandingTurn {
             starter,
             alloc,

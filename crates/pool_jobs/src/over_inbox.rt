@@ -21,6 +21,7 @@ use std::alloc::Global;
 use std::marker::Brand;
 use std::sync::Wait;
 use std::thread::Threads;
+use std::time::Clock;
 
 // All rounds, whose threads are all joined.
 fn all_rounds<'a, 'r, G, N, J, R>(
@@ -32,7 +33,7 @@ where
     G: Gate + Sync,
     N: Rng + SeedableRng + Send + Drop,
     J: Naming + Send + Sync,
-    R: Threads + Wait + Sync,
+    R: Threads + Wait + Clock + Sync,
 {
     let mut rounds = rounds;
     for number in 0..rounds.count() {
@@ -57,7 +58,7 @@ where
     G: Gate + Sync,
     N: Rng + SeedableRng + Send + Drop,
     J: Naming + Send + Sync,
-    R: Threads + Wait + Sync,
+    R: Threads + Wait + Clock + Sync,
     requires { J.names ≡ opening }
     ensures whole { IfOk result (λ e. IsWhole e.found.desks.items e.found.batches.items e.found.lent.items
         e.found.freed.items e.found.parts.items opening.entry.chunks) }
@@ -93,7 +94,7 @@ pub fn work<'r, G, N, R>(
 where
     G: Gate + Sync,
     N: Rng + SeedableRng + Send + Drop,
-    R: Threads + Wait + Sync,
+    R: Threads + Wait + Clock + Sync,
     ensures whole { IfOk result (λ e. IsWhole e.found.desks.items e.found.batches.items e.found.lent.items
         e.found.freed.items e.found.parts.items opening.entry.chunks) }
     ensures desks { IfOk result (λ e. IsEachDesk opening.entry.count e.found.desks.items) }
@@ -115,7 +116,7 @@ where
     G: Gate + Sync,
     K: Task + Send,
     J: Naming + Send + Sync,
-    R: Threads + Wait + Sync,
+    R: Threads + Wait + Clock + Sync,
     K::Answer: Send,
     ensures each { IfOk result (λ r. length r.answers.items ≡ length tasks.items) }
 {
@@ -135,7 +136,7 @@ where
     G: Gate + Sync,
     K: Task + Send,
     J: Naming + Send + Sync,
-    R: Threads + Wait + Sync,
+    R: Threads + Wait + Clock + Sync,
     K::Answer: Send,
     requires { J.names ≡ opening }
     ensures whole { IfOk result (λ e. IsWhole e.found.desks.items e.found.batches.items e.found.lent.items
@@ -175,7 +176,7 @@ pub fn run<'r, G, K, R>(
 where
     G: Gate + Sync,
     K: Task + Send,
-    R: Threads + Wait + Sync,
+    R: Threads + Wait + Clock + Sync,
     K::Answer: Send,
     ensures whole { IfOk result (λ e. IsWhole e.found.desks.items e.found.batches.items e.found.lent.items
         e.found.freed.items e.found.parts.items opening.entry.chunks) }

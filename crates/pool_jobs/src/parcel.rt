@@ -1,10 +1,15 @@
 //! Buffers of one allocator of a pool.
 ghost use Rattle.std.specs.Prelude.{◌≡◌, ◌<◌, ◌≤◌, ◌^◌, ◌↔◌, [], ◌∷◌, ◌++◌, length, IsTrue, MatchOption, MatchResult};
-ghost use Rattle.slot_chain.specs.Parcels.{KeepsOut, Packs};
+ghost use Rattle.std.specs.Prelude.{Some, slice_get};
+ghost use Rattle.std.specs.Fn.{FnOnceReturnsAtMut};
+ghost use Rattle.region_cut.specs.Classes.{size_of};
+ghost use Rattle.slot_chain.specs.Filling.{holding};
+ghost use Rattle.slot_chain.specs.Parcels.{EditsAt, KeepsOut, Packs};
 
 use crate::buffer::Buffer;
+use crate::burst::Burst;
 use pool_fabric::Naming;
-use slot_chain::Parcel as Packed;
+use slot_chain::{Buf, Parcel as Packed};
 use std::fmt;
 use std::marker::{Model, PhantomData};
 
@@ -104,6 +109,74 @@ impl<'r, J: Naming> Parcel<'r, J> {
         let _packed = self.parcel.owner();
         let buf = self.parcel.pop()?;
         Some(Buffer::new(buf))
+    }
+
+    /// The buffers, in the order in which they came, to be looked at.
+    pub fn buffers(&self) -> &[Buf<'r>]
+        ensures { result.now ≡ self.now.items }
+    {
+        self.parcel.buffers()
+    }
+
+    /// Lends all bytes of the buffer at place `at` to a closure, which may write them. How much of it is
+    /// filled stays as it is; [`Parcel::set_len_at`] says it.
+    pub fn edit_at<T, F: FnOnce(&mut [u8]) -> T>(&mut self, at: usize, edit: F) -> T
+        requires place { at < length self.old.items }
+        requires callable { F.IsAlwaysCallable edit }
+        ensures { (bytes : _) × EditsAt at (λ b b'. FnOnceReturnsAtMut F.FnOnce edit b.bytes.now result bytes
+            × (b' ≡ holding b bytes b.filled)) self.old self.new }
+    {
+        self.parcel.edit_at(at, edit)
+    }
+
+    /// Says how many bytes of the buffer at place `at` count as filled, from the front: at most as many as
+    /// it has. No byte is written.
+    pub fn set_len_at(&mut self, at: usize, len: usize)
+        requires { (b : _) × (slice_get self.old.items at ≡ Some b) × (len ≤ size_of b.class) }
+        ensures { EditsAt at (λ b b'. b' ≡ record b { filled = len }) self.old self.new }
+    {
+        self.parcel.set_len_at(at, len);
+    }
+}
+
+impl<'r, J: Naming> Burst<Buffer<'r, J>> for Parcel<'r, J> {
+    type Item = Buf<'r>;
+
+    ghost count = { λ p. length p.items };
+
+    ghost places = { λ p. p.places };
+
+    fn len(&self) -> usize {
+        self.len()
+    }
+
+    fn is_empty(&self) -> bool {
+        self.is_empty()
+    }
+
+    fn places(&self) -> usize {
+        self.places()
+    }
+
+    fn is_full(&self) -> bool {
+        self.is_full()
+    }
+
+    #[inline]
+    fn push(&mut self, buffer: Buffer<'r, J>) -> Result<(), Buffer<'r, J>> {
+        self.push(buffer)
+    }
+
+    fn pop(&mut self) -> Option<Buffer<'r, J>> {
+        self.pop()
+    }
+
+    fn buffers(&self) -> &[Buf<'r>] {
+        self.buffers()
+    }
+
+    fn edit_at<T, F: FnOnce(&mut [u8]) -> T>(&mut self, at: usize, edit: F) -> T {
+        self.edit_at(at, edit)
     }
 }
 

@@ -21,6 +21,7 @@ use std::alloc::{AllocError, Global};
 use std::marker::Model;
 use std::sync::Wait;
 use std::thread::Threads;
+use std::time::Clock;
 
 /// What one round of a workload begins with.
 #[derive(Drop)]
@@ -70,7 +71,7 @@ fn turned<B: Drop>(rows: Vec<Places<B>>) -> Result<Vec<Places<B>>, AllocError> {
 pub fn one_round<S, R>(rt: &R, alloc: Global, begun: Begun<S>) -> Result<Vec<Spent<S>>, JobError>
 where
     S: Starter + Send,
-    R: Threads + Wait + Sync,
+    R: Threads + Wait + Clock + Sync,
     S::Buffer: Send,
     S::Left: Send,
     ensures each { IfOk result (λ spent. length spent.items ≡ length begun.starters.items) }

@@ -5,6 +5,7 @@ use crate::client::{Starter, Worker};
 use crate::crew::Job;
 use std::alloc::{AllocError, Global};
 use std::sync::Wait;
+use std::time::Clock;
 
 /// How many buffers a row has.
 const PLACES: u32 = 16;
@@ -126,7 +127,7 @@ pub(crate) fn replace<W: Worker, R: Wait>(
 impl<S: Starter> Job for RowTurn<S> {
     type Out = Spent<S>;
 
-    fn run<R: Wait>(self, rt: &R) -> Spent<S> {
+    fn run<R: Wait + Clock>(self, rt: &R) -> Spent<S> {
         let RowTurn {
             starter,
             mut row,

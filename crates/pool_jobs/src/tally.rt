@@ -1,5 +1,6 @@
 //! What was counted.
-ghost use Rattle.std.specs.Prelude.{◌≡◌, ◌-◌};
+ghost use Rattle.std.specs.Prelude.{◌≡◌, ◌+◌, ◌-◌, MatchBool};
+ghost use Rattle.slot_chain.specs.Counts.{capped};
 ghost use Rattle.pool_jobs.specs.Counted.{both, none_counted};
 
 use slot_audit::Fault;
@@ -9,7 +10,7 @@ use slot_audit::Fault;
 pub struct BufferCounts {
     /// The buffers that were allocated.
     pub allocated: u64,
-    /// The calls of `free`.
+    /// The buffers that were freed, one by one or in parcels.
     pub freed: u64,
     /// How often no buffer was to be had.
     pub starved: u64,
@@ -27,6 +28,19 @@ impl BufferCounts {
             freed: 0,
             starved: 0,
             lost: 0,
+        }
+    }
+
+    /// Counts a call of an allocator: whether it gave a buffer.
+    pub(crate) fn count(&mut self, is_given: bool)
+        ensures { MatchBool is_given
+            (self.new ≡ record self.old { allocated = capped (self.old.allocated + 1) })
+            (self.new ≡ record self.old { starved = capped (self.old.starved + 1) }) }
+    {
+        if is_given {
+            self.allocated = self.allocated.saturating_add(1);
+        } else {
+            self.starved = self.starved.saturating_add(1);
         }
     }
 
