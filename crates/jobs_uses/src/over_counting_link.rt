@@ -16,6 +16,7 @@ use std::alloc::Global;
 use std::marker::Brand;
 use std::sync::Wait;
 use std::thread::Threads;
+use std::time::Clock;
 
 // All rounds, whose threads are all joined.
 fn all_rounds<'a, 'r, G, N, J, R>(
@@ -27,7 +28,7 @@ where
     G: Gate + Sync,
     N: Rng + SeedableRng + Send + Drop,
     J: Naming + Send + Sync,
-    R: Threads + Wait + Sync,
+    R: Threads + Wait + Clock + Sync,
 {
     let mut rounds = rounds;
     for number in 0..rounds.count() {
@@ -51,7 +52,7 @@ fn seen<'r, N, J, R>(
 where
     N: Rng + SeedableRng + Send + Drop,
     J: Naming + Send + Sync,
-    R: Threads + Wait + Sync,
+    R: Threads + Wait + Clock + Sync,
 {
     let watch = Watch::over(alloc, fabric, workers, hold)?;
     let rounds = Rounds::new(alloc, fabric, &watch, workload, plan, u32::from(workers));
@@ -77,7 +78,7 @@ fn worked<'r, N, J, R>(
 where
     N: Rng + SeedableRng + Send + Drop,
     J: Naming + Send + Sync,
-    R: Threads + Wait + Sync,
+    R: Threads + Wait + Clock + Sync,
     requires { J.names ≡ opening }
     ensures whole { IfOk result (λ w. let f = w.ended.found in IsWhole f.desks.items f.batches.items
         f.lent.items f.freed.items f.parts.items opening.entry.chunks) }
@@ -116,7 +117,7 @@ pub fn work_counting_linked<'r, N, R>(
 ) -> Result<Watched<'r>, JobError>
 where
     N: Rng + SeedableRng + Send + Drop,
-    R: Threads + Wait + Sync,
+    R: Threads + Wait + Clock + Sync,
     ensures whole { IfOk result (λ w. let f = w.ended.found in IsWhole f.desks.items f.batches.items
         f.lent.items f.freed.items f.parts.items opening.entry.chunks) }
     ensures desks { IfOk result (λ w. IsEachDesk opening.entry.count w.ended.found.desks.items) }

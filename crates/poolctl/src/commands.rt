@@ -13,6 +13,7 @@ use poolctl_words::{Asked, Unread, read};
 use std::alloc::Global;
 use std::sync::Wait;
 use std::thread::Threads;
+use std::time::Clock;
 use trace_audit::{Sink, Source, replay, replay_audited};
 
 /// Does what the words ask for. The program's own name stands first among them.
@@ -21,7 +22,7 @@ use trace_audit::{Sink, Source, replay, replay_audited};
 /// Words that are refused, or that ask for help, are answered with the text for standard error. An audit of a report
 /// that doesn't say yes had no memory, and says so behind the whole report. Only a workload starts threads; all have
 /// ended when the call returns.
-pub fn command<R: Source, W: Sink, H: Threads + Wait + Sync>(
+pub fn command<R: Source, W: Sink, H: Threads + Wait + Clock + Sync>(
     rt: &H,
     alloc: Global,
     words: &[String],

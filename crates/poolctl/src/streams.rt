@@ -8,10 +8,13 @@ use std::io::{self, BufReader, BufWriter, ErrorKind, Write};
 use std::rt::Env;
 use std::sync::Wait;
 use std::thread::Threads;
+use std::time::Clock;
 use trace_audit::{FromReader, ToWriter};
 
 /// Runs what the program's words ask for over standard input and standard output.
-pub fn run<R: Input + Print + Env + AllocGlobal + Threads + Wait + Sync>(rt: &R) -> Outcome {
+pub fn run<R: Input + Print + Env + AllocGlobal + Threads + Wait + Clock + Sync>(
+    rt: &R,
+) -> Outcome {
     match try_run(rt) {
         Ok(outcome) => outcome,
         Err(error) if error.kind() == ErrorKind::OutOfMemory => Outcome::NoMemory,
@@ -19,7 +22,7 @@ pub fn run<R: Input + Print + Env + AllocGlobal + Threads + Wait + Sync>(rt: &R)
     }
 }
 
-fn try_run<R: Input + Print + Env + AllocGlobal + Threads + Wait + Sync>(
+fn try_run<R: Input + Print + Env + AllocGlobal + Threads + Wait + Clock + Sync>(
     rt: &R,
 ) -> io::Result<Outcome> {
     let alloc = rt.alloc();

@@ -18,6 +18,7 @@ use region_cut::{CHUNK, cut};
 use std::alloc::{AllocError, Global};
 use std::sync::Wait;
 use std::thread::Threads;
+use std::time::Clock;
 use trace_audit::{Failed, Fault, Sink, write_all, write_audit};
 
 fn name_of(workload: Workload) -> &'static str
@@ -80,7 +81,7 @@ fn write_tally<W: Sink>(alloc: Global, work: &Work, tally: Tally, sink: &mut W) 
 }
 
 // Runs a workload over the region.
-fn tally_over<'r, H: Threads + Wait + Sync>(
+fn tally_over<'r, H: Threads + Wait + Clock + Sync>(
     rt: &H,
     alloc: Global,
     asked: &Work,
@@ -119,7 +120,7 @@ fn tally_over<'r, H: Threads + Wait + Sync>(
 }
 
 // Runs a workload over a region of its own.
-fn tally_of<H: Threads + Wait + Sync>(
+fn tally_of<H: Threads + Wait + Clock + Sync>(
     rt: &H,
     alloc: Global,
     asked: &Work,
@@ -134,7 +135,7 @@ fn tally_of<H: Threads + Wait + Sync>(
 
 /// Runs a workload, and writes what its workers counted and the line of the audit. Nothing is written where the
 /// workload could not be run, or its lines could not be made, for want of memory or of a thread.
-pub fn run_work<W: Sink, H: Threads + Wait + Sync>(
+pub fn run_work<W: Sink, H: Threads + Wait + Clock + Sync>(
     rt: &H,
     alloc: Global,
     asked: &Work,

@@ -1,6 +1,7 @@
 //! What workloads and tasks are run over, and what is told of them at the end.
 
 mod due;
+mod edges;
 mod handed;
 mod looks;
 mod marks;
@@ -25,6 +26,7 @@ use region_cut::{CHUNK, cut};
 use std::sync::Wait;
 use std::test::Fail;
 use std::thread::Threads;
+use std::time::Clock;
 
 // Which inboxes the desks have.
 #[derive(Clone, Copy)]
@@ -72,7 +74,7 @@ fn ended_over<'r, N, G, R>(
 where
     N: Rng + SeedableRng + Send + Drop,
     G: Gate + Sync,
-    R: AllocGlobal + Threads + Wait + Sync,
+    R: AllocGlobal + Threads + Wait + Clock + Sync,
     requires { (1 ≤ ground.desks) × (ground.desks ≤ 64) × (ground.limit ≤ 1048576) }
 {
     let alloc = rt.alloc();
@@ -89,7 +91,7 @@ where
 }
 
 // What it counted.
-fn tally_of<G: Gate + Sync, R: AllocGlobal + Threads + Wait + Sync>(
+fn tally_of<G: Gate + Sync, R: AllocGlobal + Threads + Wait + Clock + Sync>(
     rt: &R,
     gate: &G,
     ground: Ground,
@@ -113,7 +115,7 @@ struct Outcome<A: Drop> {
 fn outcome_of<K, R>(rt: &R, ground: Ground, tasks: Vec<K>) -> Result<Outcome<K::Answer>, Fail>
 where
     K: Task + Send,
-    R: AllocGlobal + Threads + Wait + Sync,
+    R: AllocGlobal + Threads + Wait + Clock + Sync,
     K::Answer: Send,
     requires { (1 ≤ ground.desks) × (ground.desks ≤ 64) × (ground.limit ≤ 1048576) × (ground.chunks ≤ 1024) }
 {

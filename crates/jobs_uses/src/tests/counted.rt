@@ -7,6 +7,7 @@ use region_cut::CHUNK;
 use std::sync::Wait;
 use std::test::Fail;
 use std::thread::Threads;
+use std::time::Clock;
 
 // Which inboxes count their posts.
 #[derive(Clone, Copy)]
@@ -29,7 +30,7 @@ const HOLD: Hold = Hold { call: 9, posts: 8 };
 
 // A producer of 16 buffers has a chunk of eight slots, and its consumer posts each buffer that it
 // frees.
-fn watched_over<'r, R: AllocGlobal + Threads + Wait + Sync>(
+fn watched_over<'r, R: AllocGlobal + Threads + Wait + Clock + Sync>(
     rt: &R,
     region: &'r mut Vec<u8>,
     inner: Inner,
@@ -58,7 +59,7 @@ struct Outcome {
     gave_up: bool,
 }
 
-fn outcome_of<R: AllocGlobal + Threads + Wait + Sync>(
+fn outcome_of<R: AllocGlobal + Threads + Wait + Clock + Sync>(
     rt: &R,
     inner: Inner,
 ) -> Result<Outcome, Fail> {

@@ -11,6 +11,7 @@ use std::alloc::Global;
 use std::process::Abort;
 use std::sync::Wait;
 use std::thread::Threads;
+use std::time::Clock;
 
 // So many bytes. Where memory for them was refused, the next try works.
 fn bytes_of(rt: &impl Abort, alloc: Global, len: usize) -> Vec<u8> {
@@ -34,7 +35,7 @@ fn alone_over<R: Wait>(rt: &R, alloc: Global, region: &mut [u8]) -> Option<Tally
 
 // What two workers counted over the region, of which one allocates and one frees, or none where
 // memory or a thread was refused.
-fn prodcons_over<R: Threads + Wait + Sync>(
+fn prodcons_over<R: Threads + Wait + Clock + Sync>(
     rt: &R,
     alloc: Global,
     region: &mut [u8],

@@ -11,6 +11,7 @@ use std::sync::Wait;
 use std::sync::atomic::{AtomicBool, Ordering};
 use std::test::Fail;
 use std::thread::{self, Threads};
+use std::time::Clock;
 
 // How often a worker looks for what the other does before it goes on.
 const LOOKS: u32 = 10_000_000;
@@ -76,7 +77,7 @@ const PLAN: Plan = Plan {
 };
 
 // How many batches the consumer posts, where its cache is due beyond this limit.
-fn batches_at<R: AllocGlobal + Threads + Wait + Sync>(
+fn batches_at<R: AllocGlobal + Threads + Wait + Clock + Sync>(
     rt: &R,
     inboxes: Inboxes,
     limit: u64,
@@ -117,7 +118,7 @@ fn a_batch_passes_the_limit(rt: HostRuntime) -> Result<(), Fail> {
 }
 
 // Whether each desk that is found has digits of this width.
-fn have_width<R: AllocGlobal + Threads + Wait + Sync>(
+fn have_width<R: AllocGlobal + Threads + Wait + Clock + Sync>(
     rt: &R,
     inboxes: Inboxes,
     width: u32,

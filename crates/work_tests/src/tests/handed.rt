@@ -8,6 +8,7 @@ use std::sync::Wait;
 use std::sync::atomic::{AtomicBool, Ordering};
 use std::test::Fail;
 use std::thread::{self, Threads};
+use std::time::Clock;
 
 // How often a worker looks for what the other does before it goes on.
 const LOOKS: u32 = 10_000_000;
@@ -39,7 +40,7 @@ impl Gate for BothAtWork {
 }
 
 // How many batches two workers leave in their inboxes, whose caches are never due before the end.
-fn batches_left<R: AllocGlobal + Threads + Wait + Sync>(
+fn batches_left<R: AllocGlobal + Threads + Wait + Clock + Sync>(
     rt: &R,
     inboxes: Inboxes,
     workload: Workload,

@@ -8,6 +8,7 @@ use std::sync::Wait;
 use std::sync::atomic::{AtomicBool, Ordering};
 use std::test::Fail;
 use std::thread::{self, Threads};
+use std::time::Clock;
 
 // How often the producer looks for what the consumer does before it goes on.
 const LOOKS: u32 = 10_000_000;
@@ -48,7 +49,7 @@ impl Gate for AtNinth {
 }
 
 // How many of four chunks are left in the stock.
-fn chunks_left<R: AllocGlobal + Threads + Wait + Sync>(
+fn chunks_left<R: AllocGlobal + Threads + Wait + Clock + Sync>(
     rt: &R,
     inboxes: Inboxes,
 ) -> Result<usize, Fail> {

@@ -11,6 +11,7 @@ use std::alloc::{AllocError, Global};
 use std::sync::Wait;
 use std::test::Fail;
 use std::thread::Threads;
+use std::time::Clock;
 
 const CHUNKS: u16 = 8;
 
@@ -67,7 +68,7 @@ fn marks_of(
 }
 
 // What a workload of so many desks and rounds leaves in its region, whose first word is the seed.
-fn marks_after<R: AllocGlobal + Threads + Wait + Sync>(
+fn marks_after<R: AllocGlobal + Threads + Wait + Clock + Sync>(
     rt: &R,
     inboxes: Inboxes,
     desks: u16,

@@ -10,6 +10,7 @@ use std::sync::Wait;
 use std::sync::atomic::{AtomicBool, AtomicU64, Ordering};
 use std::test::Fail;
 use std::thread::{self, Threads};
+use std::time::Clock;
 
 // How often a worker looks for what the others do before it goes on.
 const LOOKS: u32 = 10_000_000;
@@ -89,7 +90,7 @@ impl Gate for OneRow {
 }
 
 // Which of three workers had the full row in the last of so many rounds.
-fn last_holders<R: AllocGlobal + Threads + Wait + Sync>(
+fn last_holders<R: AllocGlobal + Threads + Wait + Clock + Sync>(
     rt: &R,
     inboxes: Inboxes,
     rounds: u32,

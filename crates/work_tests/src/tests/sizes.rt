@@ -7,6 +7,7 @@ use region_cut::CHUNK;
 use std::sync::Wait;
 use std::test::Fail;
 use std::thread::Threads;
+use std::time::Clock;
 
 // The first and the last word of each class from 0 to 7, with the number of the class.
 const SMALL: [(u32, u32); 16] = [
@@ -52,7 +53,7 @@ const LARGE: [(u32, u32); 19] = [
 ];
 
 // The class of the one chunk that a worker draws whose one word is this, or none.
-fn class_drawn<R: AllocGlobal + Threads + Wait + Sync>(
+fn class_drawn<R: AllocGlobal + Threads + Wait + Clock + Sync>(
     rt: &R,
     inboxes: Inboxes,
     word: u32,

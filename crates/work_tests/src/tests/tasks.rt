@@ -7,7 +7,7 @@ use pool_jobs::{Bytes, Channels, Heap, PoolError, Task};
 use slot_audit::Fault;
 use std::sync::Wait;
 use std::test::Fail;
-use std::thread;
+use std::time::Clock;
 
 // The size of each buffer. A chunk has eight slots of it.
 const SIZE: usize = 512;
@@ -42,11 +42,15 @@ impl Task for Act {
         }
     }
 
-    fn run<H: Heap, R: Wait>(
+    fn bound(&self, _task: usize) -> usize {
+        1_000
+    }
+
+    fn run<H: Heap, R: Wait + Clock>(
         self,
         rt: &R,
         heap: &mut H,
-        channels: Channels<H::Buffer>,
+        channels: Channels<H::Buffer, H::Parcel>,
     ) -> Result<u64, PoolError> {
         match self {
             Act::Alone(count) => Ok(alone(rt, heap, count)),
@@ -71,7 +75,7 @@ fn alone<H: Heap, R: Wait>(rt: &R, heap: &mut H, count: u64) -> u64 {
     for _ in 0..count {
         if let Ok(buffer) = heap.alloc(rt, SIZE) {
             let mut buffer = buffer;
-            buffer.set(SIZE - 1, 1);
+            buffer.copy_in(SIZE - 1, &[1]);
             heap.free(rt, buffer);
             freed = freed.wrapping_add(1);
         }
@@ -82,67 +86,67 @@ fn alone<H: Heap, R: Wait>(rt: &R, heap: &mut H, count: u64) -> u64 {
 fn give<H: Heap, R: Wait>(
     rt: &R,
     heap: &mut H,
-    channels: &Channels<H::Buffer>,
+    channels: &Channels<H::Buffer, H::Parcel>,
     count: u64,
     to: usize,
 ) -> u64 {
     let mut given = 0u64;
     for _ in 0..count {
         if let Ok(buffer) = heap.alloc(rt, SIZE) {
-            match channels.send(rt, to, buffer) {
+            match channels.send_buffer(rt, heap, to, buffer) {
                 Ok(()) => given = given.wrapping_add(1),
-                Err(buffer) => heap.free(rt, buffer),
+                Err(message) => message.free(rt, heap),
             }
         }
     }
     given
 }
 
-fn wait_and_give<H: Heap, R: Wait>(
+fn wait_and_give<H: Heap, R: Wait + Clock>(
     rt: &R,
     heap: &mut H,
-    channels: &Channels<H::Buffer>,
+    channels: &Channels<H::Buffer, H::Parcel>,
     count: u64,
     to: usize,
 ) -> Result<u64, PoolError> {
     let mut given = 0u64;
-    for _ in rt.forever() {
-        if given >= count {
-            break;
+    for _ in 0..count {
+        let buffer = heap.alloc_waiting(rt, SIZE)?;
+        if let Err(message) = channels.send_buffer(rt, heap, to, buffer) {
+            message.free(rt, heap);
         }
-        match heap.alloc(rt, SIZE) {
-            Err(PoolError::UsedUp) => thread::yield_now(),
-            Err(error) => return Err(error),
-            Ok(buffer) => {
-                if let Err(buffer) = channels.send(rt, to, buffer) {
-                    heap.free(rt, buffer);
-                }
-                given = given.wrapping_add(1);
-            }
-        }
+        given = given.wrapping_add(1);
     }
     Ok(given)
 }
 
-fn free_all<H: Heap, R: Wait>(rt: &R, heap: &mut H, channels: &Channels<H::Buffer>) -> u64 {
+fn free_all<H: Heap, R: Wait>(
+    rt: &R,
+    heap: &mut H,
+    channels: &Channels<H::Buffer, H::Parcel>,
+) -> u64 {
     let mut freed = 0u64;
     for _ in rt.forever() {
-        let Some(buffer) = channels.receive(rt, heap) else {
+        let Some(message) = channels.receive(rt, heap) else {
             break;
         };
-        heap.free(rt, buffer);
+        message.free(rt, heap);
         freed = freed.wrapping_add(1);
     }
     freed
 }
 
-fn drop_all<H: Heap, R: Wait>(rt: &R, heap: &mut H, channels: &Channels<H::Buffer>) -> u64 {
+fn drop_all<H: Heap, R: Wait>(
+    rt: &R,
+    heap: &mut H,
+    channels: &Channels<H::Buffer, H::Parcel>,
+) -> u64 {
     let mut dropped = 0u64;
     for _ in rt.forever() {
-        let Some(buffer) = channels.receive(rt, heap) else {
+        let Some(message) = channels.receive(rt, heap) else {
             break;
         };
-        drop(buffer);
+        drop(message);
         dropped = dropped.wrapping_add(1);
     }
     dropped
