@@ -1,66 +1,118 @@
-//! A packet pipeline: one thread fills buffers, the next checks them, the last one frees them.
-//!
-//! There is room for sixteen packets, and a thousand go through: each buffer comes home again and
-//! again, from a thread that did not allocate it.
+//! A packet pipeline: the first thread fills buffers, the second one looks at them, the third one looks again and frees
+//! them. A thousand packets go in parcels, a thousand one by one. Each edge holds eight messages.
 #![tactic(auto)]
 
-ghost use Rattle.std.specs.Prelude.{IfOk};
-ghost use Rattle.pool_fabric.specs.Audited.{Audited};
-ghost use Rattle.pool_jobs.specs.Ends.{slots_found};
-
-mod stage;
+ghost use Rattle.std.specs.Prelude.{◌≡◌, ◌↔◌, All, IsTrue};
 
 use anyhow::Context;
-use batch_inbox::{Inbox, SendSeat, TakeSeat};
-use digit_route::Digits;
-use pool_fabric::Opening;
-use pool_jobs::{Finished, NoGate, PoolError, run};
-use region_cut::{CHUNK, cut};
-use stage::Stage;
-use std::alloc::Global;
+use fustrevol::{Burst, Bytes, CHUNK, Data, Edges, Heap, Message, Pool, PoolError, Task};
 use std::sync::Wait;
-use std::thread::Threads;
+use std::time::Clock;
 
-// How many chunks the pool has. A chunk has room for eight packets.
-const CHUNKS: usize = 2;
+#[derive(Drop)]
+enum Stage {
+    Fill,
+    Look,
+    Check,
+}
 
-// How many bytes of strangers' buffers a thread keeps before it posts them.
-const LIMIT: u64 = 1_024;
+/// A stage answers with how many packets it saw, and how many of them were whole.
+impl Task for Stage {
+    type Answer = Result<(u32, u32), PoolError>;
 
-/// Runs the three stages over a pool in this region.
-fn pipeline<'r, R: Threads + Wait + Sync>(
-    rt: &R,
-    alloc: Global,
-    region: &'r mut [u8],
-) -> anyhow::Result<Finished<'r, Result<u64, PoolError>>>
-    ensures { IfOk result (λ f. Audited (slots_found f.found.desks.items f.found.batches.items)
-        f.found.drawn f.tally.audit) }
+    fn sends_to(&self, task: usize) -> bool {
+        matches!((self, task), (Stage::Fill, 1) | (Stage::Look, 2))
+    }
+
+    fn bound(&self, _task: usize) -> usize {
+        8
+    }
+
+    fn run<H: Heap, R: Wait + Clock>(self, rt: &R, heap: &mut H, to: Edges<H>) -> Self::Answer {
+        match self {
+            Stage::Fill => fill(rt, heap, &to),
+            Stage::Look => Ok(look(rt, heap, &to, Some(2))),
+            Stage::Check => Ok(look(rt, heap, &to, None)),
+        }
+    }
+}
+
+// How many bytes the packet of this number has, all of them the number's byte.
+fn length_of(number: u32) -> usize {
+    1 + (number % 1_009) as usize % 512
+}
+
+fn byte_of(number: u32) -> u8 {
+    (number % 251) as u8
+}
+
+fn holds_only(data: &[u8], byte: u8) -> bool
+    ensures { IsTrue result ↔ All (λ b. b ≡ byte) data.now }
 {
-    let parts = cut(alloc, region)?;
-    let stages = vec![in alloc; Stage::Fill, Stage::Check, Stage::Release]?;
-    let digits = Digits::new(2).context("digits of two bits")?;
-    let opening = Opening::<Inbox, TakeSeat, SendSeat>::new(alloc, parts, 3, digits, LIMIT)?;
-    Ok(run::<NoGate, Stage, R>(rt, alloc, opening, &NoGate, stages)?)
+    data.iter().all(|b| *b == byte)
+}
+
+// A buffer with the packet of this number. Where the pool is used up it waits until a slot comes home.
+fn packet<H: Heap, R: Wait + Clock>(rt: &R, heap: &mut H, n: u32) -> Result<H::Buffer, PoolError> {
+    let mut buffer = heap.alloc_waiting(rt, length_of(n))?;
+    buffer.fill(byte_of(n));
+    buffer.truncate(length_of(n));
+    Ok(buffer)
+}
+
+fn fill<H: Heap, R: Wait + Clock>(rt: &R, heap: &mut H, to: &Edges<H>) -> <Stage as Task>::Answer {
+    for burst in 0..40 {
+        let mut parcel = heap.parcel(25)?;
+        for n in 0..25 {
+            let _full = parcel.push(packet(rt, heap, 25 * burst + n)?);
+        }
+        let _ended = to.send_parcel(rt, heap, 1, parcel);
+    }
+    for n in 1_000..2_000 {
+        let buffer = packet(rt, heap, n)?;
+        let _ended = to.send_buffer(rt, heap, 1, buffer);
+    }
+    Ok((2_000, 2_000))
+}
+
+// Counts the next packet, and whether it has the length and the bytes of its number.
+fn see(seen: &mut (u32, u32), data: &[u8]) {
+    let whole = data.len() == length_of(seen.0) && holds_only(data, byte_of(seen.0));
+    seen.0 = seen.0.wrapping_add(1);
+    seen.1 = seen.1.wrapping_add(u32::from(whole));
+}
+
+// Looks at each packet, and hands it on or frees it.
+fn look<H: Heap, R: Wait>(rt: &R, heap: &mut H, to: &Edges<H>, next: Option<usize>) -> (u32, u32) {
+    let mut seen = (0, 0);
+    for _ in rt.forever() {
+        let Some(message) = to.receive(rt, heap) else {
+            break;
+        };
+        match &message {
+            Message::Buffer(buffer) => see(&mut seen, buffer.data()),
+            Message::Parcel(parcel) => {
+                for buffer in parcel.buffers() {
+                    see(&mut seen, buffer.data());
+                }
+            }
+        }
+        match next {
+            Some(next) => drop(to.send(rt, heap, next, message)),
+            None => message.free(rt, heap),
+        }
+    }
+    seen
 }
 
 fn main(rt: HostRuntime) -> anyhow::Result<()> {
-    let alloc = rt.alloc();
-    let mut region = vec![in alloc; 0u8; CHUNKS * CHUNK]?;
-    let Finished {
-        answers,
-        tally,
-        found,
-    } = pipeline(&rt, alloc, region.as_mut_slice())?;
-    for answer in answers {
-        let packets = answer.context("a stage without a desk")??;
-        println!(rt; "packets {packets}")?;
+    let mut region = vec![in rt.alloc(); 0u8; 64 * CHUNK]?;
+    let stages = vec![in rt.alloc(); Stage::Fill, Stage::Look, Stage::Check]?;
+    let report = Pool::new(rt.alloc(), &mut region)?.run(&rt, stages)?;
+    for answer in report.answers {
+        let (packets, whole) = answer.context("a stage without a desk")??;
+        println!(rt; "{packets} packets, {whole} whole")?;
     }
-    println!(rt;
-        "allocated {}, freed {}",
-        tally.counts.allocated, tally.counts.freed
-    )?;
-    let verdict = if tally.audit.is_ok() { "yes" } else { "no" };
-    println!(rt; "nothing is missing: {verdict}")?;
-    drop(found);
+    println!(rt; "{:?}", report.tally)?;
     Ok(())
 }
