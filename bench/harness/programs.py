@@ -55,6 +55,12 @@ def pin():
     return compiled("pin.so", [source], ["g++", *flags, source])
 
 
+def road():
+    source = HERE / "cpp" / "road.cpp"
+    flags = ["-std=c++17", "-O2", "-Wall", "-Wextra", "-fno-builtin-malloc", "-pthread"]
+    return compiled("road", [source], ["g++", *flags, source])
+
+
 def steps():
     source = HERE / "cpp" / "steps.cpp"
     return compiled("steps", [source], ["g++", "-std=c++17", "-O2", "-Wall", "-Wextra", source])
@@ -73,7 +79,7 @@ def listed(file):
 
 def further():
     """The programs of crates.txt.in beside those that the tables are of: each prints a table of its own."""
-    return [name for name in listed(HERE / "crates.txt.in") if name not in ("desk_bench", "jobs_bench")]
+    return [name for name in listed(HERE / "crates.txt.in") if name not in ("desk_bench", "jobs_bench", "road_bench")]
 
 
 def needed(name, lines):
@@ -139,6 +145,10 @@ def desk_bench():
 
 def jobs_bench():
     return rattle_program("jobs_bench", ["replace1", "1000", "1", "inbox"])
+
+
+def road_bench():
+    return rattle_program("road_bench", ["1000", "64"])
 
 
 def poolctl():
