@@ -42,8 +42,8 @@ pub trait Heap: Drop {
         ensures waits { result ≢ Err UsedUp }
         ensures largest { largest self.new ≡ largest self.old };
 
-    /// The same, and it waits at least `limit` long, or a little longer, before it answers
-    /// [`PoolError::UsedUp`].
+    /// The same, but it waits no longer than `limit`, or a millisecond more: it is [`PoolError::UsedUp`]
+    /// then. Where the clock can't be read it doesn't wait.
     fn alloc_within<R: Wait + Clock>(
         &mut self,
         rt: &R,
