@@ -6,11 +6,22 @@ use std::process::Abort;
 use std::test::Fail;
 use trace_audit::{Drawn, Failed, Fault, ReplayError, audit, write_audit};
 
+/// No chunk is drawn. Where the box of the table is refused, it is asked for again.
+fn none_drawn(rt: &(impl Abort + AllocGlobal)) -> Drawn {
+    match Drawn::new(rt.alloc()) {
+        Ok(drawn) => drawn,
+        Err(_) => Drawn::new(rt.alloc()).ok().expect(rt, "memory for a table"),
+    }
+}
+
 /// Chunk 0 is drawn for the class of 512 bytes, 8 slots, and no other.
-fn one_chunk(alloc: Global) -> Result<Drawn, Fail> {
-    let mut drawn = Drawn::new(alloc)?;
-    drawn.note(0, Class::new(15).ok_or("a class of 512 bytes")?);
-    Ok(drawn)
+fn one_chunk(rt: &(impl Abort + AllocGlobal)) -> Drawn {
+    let mut drawn = none_drawn(rt);
+    let Some(class) = Class::new(15) else {
+        panic!(rt; "there is a class 15")
+    };
+    drawn.note(0, class);
+    drawn
 }
 
 fn slot(chunk: u16, index: u16) -> Slot {
@@ -34,7 +45,7 @@ fn answers(
 }
 
 #[test]
-fn each_slot_once(rt: HostRuntime) -> Result<(), Fail> {
+fn each_slot_once(rt: HostRuntime) {
     let found = [
         slot(0, 3),
         slot(0, 0),
@@ -45,14 +56,13 @@ fn each_slot_once(rt: HostRuntime) -> Result<(), Fail> {
         slot(0, 5),
         slot(0, 4),
     ];
-    answers(&rt, &found, &one_chunk(rt.alloc())?, Ok(()));
-    answers(&rt, &[], &Drawn::new(rt.alloc())?, Ok(()));
-    Ok(())
+    answers(&rt, &found, &one_chunk(&rt), Ok(()));
+    answers(&rt, &[], &none_drawn(&rt), Ok(()));
 }
 
 #[test]
-fn the_least_fault_is_named(rt: HostRuntime) -> Result<(), Fail> {
-    let drawn = one_chunk(rt.alloc())?;
+fn the_least_fault_is_named(rt: HostRuntime) {
+    let drawn = one_chunk(&rt);
     let but_one = [
         slot(0, 1),
         slot(0, 2),
@@ -68,12 +78,11 @@ fn the_least_fault_is_named(rt: HostRuntime) -> Result<(), Fail> {
     answers(&rt, &doubled, &drawn, Err(Fault::Doubled(slot(0, 0))));
     let strange = [slot(0, 0), slot(0, 0), slot(1, 0), slot(0, 8)];
     answers(&rt, &strange, &drawn, Err(Fault::Stranger(slot(0, 8))));
-    Ok(())
 }
 
 /// As many slots as there should be, of which one is there twice.
 #[test]
-fn the_number_is_not_enough(rt: HostRuntime) -> Result<(), Fail> {
+fn the_number_is_not_enough(rt: HostRuntime) {
     let found = [
         slot(0, 7),
         slot(0, 6),
@@ -87,10 +96,9 @@ fn the_number_is_not_enough(rt: HostRuntime) -> Result<(), Fail> {
     answers(
         &rt,
         &found,
-        &one_chunk(rt.alloc())?,
+        &one_chunk(&rt),
         Err(Fault::Doubled(slot(0, 0))),
     );
-    Ok(())
 }
 
 /// Of the worked table: each class, and how many slots a chunk of it has.
