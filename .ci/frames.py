@@ -16,7 +16,7 @@ TOP = pathlib.Path(__file__).resolve().parent.parent
 PROGRAM = TOP / "crates" / "poolctl" / "out" / "poolctl"
 
 WANTED = 16 << 10
-HOLDS = 48 << 10
+HOLDS = 20 << 10
 
 FUNCTION = re.compile(r"^[0-9a-f]+ <(.+)>:$")
 INSTRUCTION = re.compile(r"^ *[0-9a-f]+:\t(.*)$")
