@@ -26,8 +26,9 @@ pub(crate) struct Home<'r> {
     list: Chain<'r>,
     bump: Option<Bump<'r>>,
     ties: Ties,
-    // Nothing reads it. With it a home takes 64 bytes, so that its place in a row is a shift away.
-    apart: u64,
+    // Nothing reads it. With it a home takes 64 bytes, so that its place in a row is a shift away: with 56
+    // a buffer that is lent and freed takes a sixth longer.
+    apart: [u64; 2],
 }
 
 impl<'r> Model for Home<'r> {
@@ -73,7 +74,7 @@ impl<'r> Home<'r> {
             list: Chain::new(),
             bump: None,
             ties: Ties::new(),
-            apart: 0,
+            apart: [0; 2],
         }
     }
 
