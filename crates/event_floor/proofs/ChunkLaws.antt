@@ -7,6 +7,7 @@ use Rattle.std.proofs.lemmas.List.{reverse-append, map-append, length-map, lengt
 use Rattle.region_cut.specs.declared.part.Part.{Part}
 use Rattle.region_cut.specs.Endings.{EndingsState}
 use Rattle.region_cut.specs.Parts.{AreNumbered, number_of, name_of, bytes_of, numbers_from}
+use Rattle.region_cut.proofs.Numbered.{numbered_length}
 use Rattle.event_floor.specs.Chunks.{AreUndrawn, stacked, ended_part, ended_parts}
 
 reverse_cons : {X : Type 0} (x : X) (xs : List X) → reverse (x ∷ xs) ≡ reverse xs ++ x ∷ []
@@ -20,17 +21,6 @@ map-reverse f (x ∷ xs) =
 reverse-numbers_from : (k n : ℕ) → reverse (numbers_from k n) ≡ stacked k n
 reverse-numbers_from k zero = refl
 reverse-numbers_from k (suc n) = reverse_cons k (numbers_from (k + 1) n) ∙ ap (λ z. z ++ k ∷ []) (reverse-numbers_from (k + 1) n)
-
-length-numbers_from : (k n : ℕ) → length (numbers_from k n) ≡ n
-length-numbers_from k zero = refl
-length-numbers_from k (suc n) = ap suc (length-numbers_from (k + 1) n)
-
-numbered_length : (ps : List Part) (h : AreNumbered ps) → length ps ≡ h.0
-numbered_length ps h = sym (length-map ps number_of) ∙ (ap length h.2 ∙ length-numbers_from 0 h.0)
-
--- how many there are
-pub numbered_few : (ps : List Part) → AreNumbered ps → length ps ≤ 1024
-numbered_few ps h = let e = numbered_length ps h in let l = h.1 in omega (arith, e, l)
 
 turned_stacked : (ps : List Part) → AreNumbered ps → map number_of (reverse ps) ≡ stacked 0 (length ps)
 turned_stacked ps h =

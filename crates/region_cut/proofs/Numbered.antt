@@ -1,13 +1,25 @@
--- The parts of a cut, by their numbers and joined.
-use Rattle.std.proofs.Common.{◌≡◌, ℕ, zero, suc, ◌+◌, ◌*◌, ◌/◌, List, ◌++◌, length, take, drop, Some, refl, sym, ap, ◌∙◌, append_assoc, arith}
+-- The parts of a cut, by their numbers, counted and joined.
+use Rattle.std.proofs.Common.{◌≡◌, ℕ, zero, suc, ◌+◌, ◌*◌, ◌/◌, ◌≤◌, subst, List, ◌++◌, length, take, drop, Some, refl, sym, ap, ◌∙◌, append_assoc, arith}
 use Rattle.std.specs.List.{slice_get, flat_map}
 use Rattle.std.specs.Option.{option_map}
 use Rattle.std.proofs.lemmas.List.{drop-drop, take-append-drop, length-map}
 use Rattle.std.proofs.lemmas.List.Folds.{flat_map-map}
 use Rattle.std.proofs.lemmas.Option.{slice_get-map}
-use Rattle.region_cut.specs.Limits.{chunk_size}
+use Rattle.region_cut.specs.Limits.{chunk_size, chunk_limit}
 use Rattle.region_cut.specs.Laws.{PartsLieInOrder, PartsMakeTheWhole}
-use Rattle.region_cut.specs.Parts.{chunks, numbers_from, bytes_of, number_of}
+use Rattle.region_cut.specs.Parts.{AreNumbered, chunks, numbers_from, bytes_of, number_of}
+use Rattle.region_cut.specs.declared.part.Part.{Part}
+
+pub length-numbers_from : (k n : ℕ) → length (numbers_from k n) ≡ n
+length-numbers_from k zero = refl
+length-numbers_from k (suc n) = ap (λ m. suc m) (length-numbers_from (k + 1) n)
+
+pub numbered_length : (ps : List Part) (h : AreNumbered ps) → length ps ≡ h.0
+numbered_length ps h = sym (length-map ps number_of) ∙ (ap (λ ns. length ns) h.2 ∙ length-numbers_from 0 h.0)
+
+-- there are no more parts than a region has chunks
+pub numbered_few : (ps : List Part) → AreNumbered ps → length ps ≤ chunk_limit
+numbered_few ps h = subst (λ (m : ℕ). m ≤ chunk_limit) (sym (numbered_length ps h)) h.1
 
 number_at : (k n i x : ℕ) → slice_get (numbers_from k n) i ≡ Some x → x ≡ k + i
 number_at k zero i x at = cc

@@ -8,7 +8,7 @@ use Rattle.event_floor.specs.headline.Names.{IsNamed}
 use Rattle.event_floor.specs.headline.Whole.{IsWhole}
 use Rattle.pool_machine.specs.Listing.{Shown}
 use Rattle.pool_machine.specs.State.{opening as machine_opening}
-use Rattle.event_floor.proofs.ChunkLaws.{numbered_few}
+use Rattle.region_cut.proofs.Numbered.{numbered_few}
 use Rattle.event_floor.proofs.FloorLaws.{new_desks_length}
 use Rattle.event_floor.proofs.headline.Keeping.{opening_named}
 use Rattle.event_floor.proofs.headline.Kept.{opening_holds, opening_holds_some}

@@ -1,7 +1,7 @@
 use Rattle.std.proofs.Common.{◌≡◌, arith, length, rules}
 use Rattle.std.proofs.lemmas.List.{length-map}
 use Rattle.region_cut.specs.Parts.{name_of}
-use Rattle.event_floor.proofs.ChunkLaws.{numbered_few}
+use Rattle.region_cut.proofs.Numbered.{numbered_few}
 use Rattle.event_floor.proofs.FloorLaws.{floor_settled, opening_is_floor}
 use Rattle.event_floor.proofs.lists.Lists.new.Goals as goal
 
