@@ -2,6 +2,7 @@
 ghost use Rattle.std.specs.Prelude.{◌≡◌, ℕ, ◌+◌, ◌<◌, ◌≤◌, ◌^◌, [], length, map, IfOk};
 ghost use Rattle.digit_route.specs.Limits.{largest_limit};
 ghost use Rattle.pool_fabric.specs.Ledgers.{whole};
+ghost use Rattle.pool_fabric.specs.Names.{box_at};
 ghost use Rattle.pool_fabric.specs.Opened.{AreColumns, AreNewTakes, most_desks};
 ghost use Rattle.pool_fabric.specs.Gathered.{taking_of};
 ghost use Rattle.pool_fabric.specs.Seats.{seat_of, AreSeatsBy, NoneSent};
@@ -62,6 +63,41 @@ fn last_row<S: Sender, J: Naming>(
     })
 }
 
+// A desk has some kilobytes, and each move of one takes as much of the stack. So a new one is made, and put in
+// its station, by two functions of their own.
+#[inline(never)]
+fn new_desk<'r>(number: u16, digits: Digits, limit: u64) -> IdleDesk<'r>
+    requires number { number < 2 ^ digits.bits }
+    requires limit { limit ≤ largest_limit }
+    ensures { result ≡ record { number = number; digits = digits; limit = limit; home = []; drawn = [] } }
+{
+    IdleDesk::new(number, digits, limit)
+}
+
+// A station with a new desk of this number.
+#[inline(never)]
+fn new_station<'r, T: Receiver, S: Sender, J: Naming>(
+    alloc: Global,
+    number: u16,
+    take: T,
+    seats: Vec<S>,
+    page: Page,
+    digits: Digits,
+    limit: u64,
+) -> Result<Station<'r, T, S, J>, NoMemory>
+    requires number { number < 2 ^ digits.bits }
+    requires limit { limit ≤ largest_limit }
+    requires profile { (digits ≡ J.names.digits) × (limit ≡ J.names.limit) }
+    requires take { (T.inbox take ≡ box_at J.names number) × (T.senders take ≡ J.names.count) × (T.taken take ≡ []) }
+    requires seats { AreSeatsBy J.names number (map (seat_of S.inbox S.number S.sent S.resting) seats.items)
+        × (length seats.items ≡ J.names.count)
+        × NoneSent (map (seat_of S.inbox S.number S.sent S.resting) seats.items) }
+    requires page { page ≡ record { key = J.names.ledger; parts = 1; gave = []; got = [] } }
+{
+    let desk = new_desk(number, digits, limit);
+    Station::new(alloc, desk, take, seats, page)
+}
+
 // Puts a new desk for each take seat on a shelf, with its seats.
 fn shelved<'r, T: Receiver, S: Sender, J: Naming>(
     alloc: Global,
@@ -95,9 +131,8 @@ fn shelved<'r, T: Receiver, S: Sender, J: Naming>(
             of: _,
         } = last_row::<S, J>(alloc, columns, number)?;
         columns = others;
-        let desk = IdleDesk::new(number as u16, digits, limit);
         let page = ledger.split(book);
-        let station = Station::new(alloc, desk, take, seats, page)?;
+        let station = new_station(alloc, number as u16, take, seats, page, digits, limit)?;
         shelf.push(station);
     }
     Ok(shelf)

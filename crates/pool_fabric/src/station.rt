@@ -65,6 +65,8 @@ impl<'r, T: Receiver, S: Sender, J: Naming> Model for Station<'r, T, S, J> {
 impl<'r, T: Receiver, S: Sender, J: Naming> Station<'r, T, S, J> {
     /// A station at which nothing was drawn, sent, taken, lent or freed yet. It takes memory, for the
     /// desk.
+    // By itself: a desk has some kilobytes, and each move of one takes as much of the stack.
+    #[inline(never)]
     pub fn new(
         alloc: Global,
         desk: IdleDesk<'r>,

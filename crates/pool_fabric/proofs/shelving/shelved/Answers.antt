@@ -1,5 +1,4 @@
 use Rattle.std.proofs.Common.{[], ◌∷◌, length, map, sym, ap, ◌∙◌, subst, arith, length-append}
-use Rattle.pool_desk.specs.Desks.{IdleState}
 use Rattle.pool_fabric.specs.Names.{box_at}
 use Rattle.pool_fabric.specs.Pages.{PageState}
 use Rattle.pool_fabric.specs.Gathered.{taking_of}
@@ -9,13 +8,13 @@ use Rattle.pool_fabric.proofs.Columns.{map-snoc}
 use Rattle.pool_fabric.proofs.Opens.{take_popped}
 use Rattle.pool_fabric.proofs.shelving.shelved.Goals as goal
 
-pub new-requires-in-Some-clause-take : goal.new-requires-in-Some-clause-take
-new-requires-in-Some-clause-take g c =
+pub new_station-requires-clause-take : goal.new_station-requires-clause-take
+new_station-requires-clause-take g c =
     let taking = taking_of g.T.Receiver.inbox g.T.Receiver.senders g.T.Receiver.taken in
     let rest = c.pop.new.self in
     let popped = ap (map taking) c.in-Some.ensures.items ∙ map-snoc taking rest.items c.in-Some.take in
     let t = take_popped g.J.Naming.names _ (map taking rest.items) (taking c.in-Some.take) c.loop-take.invariant.takes popped in
-    let number = ap (λ (d : IdleState). d.number) c.new-desk.ensures ∙ c.len-number.ensures ∙ rest.ok.0 in
+    let number = c.len-number.ensures ∙ rest.ok.0 in
     (t.1.0 ∙ ap (box_at g.J.Naming.names) (length-mapped taking rest.items ∙ sym number), t.1.1, t.1.2)
 
 pub loop-take-preserved : goal.loop-take-preserved
