@@ -1,7 +1,7 @@
 //! A thread may own, and hand over, a piece, a room, a buffer, a chain, a magazine and a parcel: each is passed to a
 //! call that wants `Send`.
 use region_cut::Piece;
-use slot_chain::{Buf, Chain, Magazine, Parcel, Room};
+use slot_chain::{Buf, BufParcel, Chain, Magazine, Room};
 
 // What a thread is started with has to be `Send`.
 fn crosses<T: Send + Drop>(value: T) {
@@ -34,6 +34,6 @@ pub fn magazine_crosses(magazine: Magazine<'_>) {
 }
 
 /// A parcel crosses.
-pub fn parcel_crosses(parcel: Parcel<'_>) {
+pub fn parcel_crosses(parcel: BufParcel<'_>) {
     crosses(parcel);
 }

@@ -16,7 +16,7 @@ use crate::row::Row;
 use crate::{Batch, BatchSink, Digits, Posting, Refused, RouteError};
 use region_cut::Slot;
 use region_cut::endings::Endings;
-use slot_chain::{Buf, NoMemory, Parcel};
+use slot_chain::{Buf, BufParcel, NoMemory};
 use std::alloc::Global;
 use std::marker::Model;
 use std::{fmt, mem};
@@ -172,7 +172,7 @@ impl<'r> Cache<'r> {
 
     /// Adds the buffers of a parcel of another desk, in constant time where there is room for its array
     /// ([`Cache::make_room`]): none of them is looked at then.
-    pub fn put_all(&mut self, parcel: Parcel<'r>)
+    pub fn put_all(&mut self, parcel: BufParcel<'r>)
         requires apart { parcel.owner ≢ self.old.number }
         requires in_range { parcel.owner < 2 ^ self.old.digits.bits }
         ensures same { self.new ≡ record self.old { items = self.new.items } }

@@ -18,7 +18,7 @@ use crate::walks::{fault_in, some_owner};
 use crate::{Batch, Digits, RouteError};
 use region_cut::Slot;
 use region_cut::endings::Endings;
-use slot_chain::{Buf, Magazine, NoMemory, Parcel};
+use slot_chain::{Buf, BufParcel, Magazine, NoMemory};
 use std::alloc::Global;
 use std::marker::Model;
 
@@ -162,7 +162,7 @@ impl<'r> Row<'r> {
     }
 
     /// Adds the buffers of a parcel to a row by the first digit.
-    pub(crate) fn append(&mut self, parcel: Parcel<'r>)
+    pub(crate) fn append(&mut self, parcel: BufParcel<'r>)
         requires round { self.old.round ≡ 0 }
         requires left { All (IsLeft self.old.digits self.old.number self.old.round) parcel.items }
         ensures same { self.new ≡ record self.old { items = self.new.items } }

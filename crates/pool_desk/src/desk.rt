@@ -23,7 +23,7 @@ use digit_route::laws::shared_at_most_all;
 use digit_route::{Batch, Cache, Digits};
 use region_cut::endings::Endings;
 use region_cut::{Class, Part, Slot};
-use slot_chain::{Buf, Magazine, NoMemory, Parcel};
+use slot_chain::{Buf, BufParcel, Magazine, NoMemory};
 use std::alloc::Global;
 use std::fmt;
 use std::marker::Model;
@@ -201,7 +201,7 @@ impl<'r> Desk<'r> {
     /// at, where the cache has room for its array ([`Desk::make_room`]).
     ///
     /// The owner's number is one of the desk's profile.
-    pub fn free_all(&mut self, parcel: Parcel<'r>) -> Freed
+    pub fn free_all(&mut self, parcel: BufParcel<'r>) -> Freed
         requires { parcel.owner < 2 ^ self.old.digits.bits }
         ensures { FreesAll self.old parcel.entry result self.new }
     {
@@ -223,7 +223,7 @@ impl<'r> Desk<'r> {
     /// own buffers came home, where one is kept that is large enough: the one that was kept last of
     /// those. A desk keeps at most 16 arrays, each for 1 to 256 buffers; one that comes beyond that is
     /// let go. Only else memory is taken. [`NoMemory`] is answered only where there is none for it.
-    pub fn parcel(&mut self, alloc: Global, places: usize) -> Result<Parcel<'r>, NoMemory>
+    pub fn parcel(&mut self, alloc: Global, places: usize) -> Result<BufParcel<'r>, NoMemory>
         ensures same { self.new ≡ self.old }
         ensures value { IfOk result (λ p.
             (p ≡ record { owner = self.old.number; places = p.places; items = [] }) × (places ≤ p.places)) }

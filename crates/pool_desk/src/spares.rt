@@ -4,7 +4,7 @@ ghost use Rattle.std.specs.Prelude.{vec_capacity};
 ghost use Rattle.pool_desk.specs.Spares.{HasRoom};
 
 use arrayvec::ArrayVec;
-use slot_chain::{Buf, NoMemory, Parcel};
+use slot_chain::{Buf, BufParcel, NoMemory};
 use std::alloc::Global;
 use std::marker::Model;
 
@@ -74,13 +74,13 @@ impl<'r> Spares<'r> {
         alloc: Global,
         owner: u16,
         places: usize,
-    ) -> Result<Parcel<'r>, NoMemory>
+    ) -> Result<BufParcel<'r>, NoMemory>
         ensures { IfOk result (λ p.
             (p ≡ record { owner = owner; places = p.places; items = [] }) × (places ≤ p.places)) }
     {
         match self.take(places) {
-            Some(array) => Ok(Parcel::over(owner, array)),
-            None => Parcel::new(alloc, owner, places),
+            Some(array) => Ok(BufParcel::over(owner, array)),
+            None => BufParcel::new(alloc, owner, places),
         }
     }
 }

@@ -15,7 +15,7 @@ use batch_inbox::{Receiver, Sender};
 use digit_route::Digits;
 use pool_desk::{Desk, DeskError, Freed};
 use region_cut::Class;
-use slot_chain::{Buf, NoMemory, Parcel};
+use slot_chain::{Buf, BufParcel, NoMemory};
 use std::alloc::Global;
 use std::fmt;
 use std::marker::Model;
@@ -123,7 +123,7 @@ impl<'r, T: Receiver, S: Sender, J: Naming> HeldStation<'r, T, S, J> {
     }
 
     /// Takes all buffers of a parcel back, as [`Desk::free_all`] does.
-    pub fn free_all(&mut self, parcel: Parcel<'r>) -> Freed
+    pub fn free_all(&mut self, parcel: BufParcel<'r>) -> Freed
         requires { parcel.owner < 2 ^ self.old.desk.digits.bits }
         ensures { TakesAllBack self.old parcel.entry result self.new }
     {
@@ -132,7 +132,7 @@ impl<'r, T: Receiver, S: Sender, J: Naming> HeldStation<'r, T, S, J> {
     }
 
     /// An empty parcel for the desk's buffers, as [`Desk::parcel`] gives it.
-    pub fn parcel(&mut self, alloc: Global, places: usize) -> Result<Parcel<'r>, NoMemory>
+    pub fn parcel(&mut self, alloc: Global, places: usize) -> Result<BufParcel<'r>, NoMemory>
         ensures same { self.new ≡ self.old }
         ensures value { IfOk result (λ p.
             (p ≡ record { owner = self.old.desk.number; places = p.places; items = [] }) × (places ≤ p.places)) }

@@ -7,7 +7,7 @@
 //! its objects already have, so that a buffer is freed, cached and sent without taking memory. Here
 //! the link is no part of the slot: it stands in a box of its own, a [`Room`], which is made before
 //! the buffer is. A buffer moves as the one pointer to that box. A [`Magazine`] is a list for another
-//! thread: an array of such pointers, so that no box is written to. A [`Parcel`] has the buffers of one
+//! thread: an array of such pointers, so that no box is written to. A [`BufParcel`] has the buffers of one
 //! allocator, which are passed on and freed as a whole.
 #![tactic(auto)]
 
@@ -31,6 +31,6 @@ pub use chain::Chain;
 pub use error::{Full, NoMemory};
 pub use into_iter::IntoIter;
 pub use magazine::Magazine;
-pub use parcel::Parcel;
+pub use parcel::BufParcel;
 pub use room::Room;
 pub use walk::{Tag, Walk};

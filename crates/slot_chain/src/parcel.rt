@@ -23,15 +23,15 @@ use std::marker::Model;
 /// is freed none of its buffers is looked at: its array goes home as it is, and costs as much as one
 /// buffer does. Programs that pass buffers on in bursts, as packet pipelines do, pack them so.
 ///
-/// Only [`Parcel::new`] takes memory. A parcel may be dropped, with all its buffers.
+/// Only [`BufParcel::new`] takes memory. A parcel may be dropped, with all its buffers.
 #[must_use]
-pub struct Parcel<'r> {
+pub struct BufParcel<'r> {
     owner: u16,
     bytes: u64,
     buffers: Vec<Buf<'r>>,
 }
 
-impl<'r> Model for Parcel<'r> {
+impl<'r> Model for BufParcel<'r> {
     ghost use Rattle.std.specs.Prelude.{◌≡◌, All, vec_capacity};
     ghost use Rattle.slot_chain.specs.Counts.{capped, sizes};
     ghost use Rattle.slot_chain.specs.Parcels.{ParcelState, IsPacked};
@@ -44,9 +44,9 @@ impl<'r> Model for Parcel<'r> {
 }
 
 // By hand, so that it is proved here once, and not again in each crate that lets one go.
-impl Drop for Parcel<'_> {
+impl Drop for BufParcel<'_> {
     fn drop(self) {
-        let Parcel {
+        let BufParcel {
             owner: _,
             bytes: _,
             buffers,
@@ -55,23 +55,23 @@ impl Drop for Parcel<'_> {
     }
 }
 
-impl<'r> Parcel<'r> {
+impl<'r> BufParcel<'r> {
     /// An empty parcel for buffers of the allocator `owner`, with room for at least so many.
     /// [`NoMemory`] is answered only where there is no memory for that.
-    pub fn new(alloc: Global, owner: u16, places: usize) -> Result<Parcel<'r>, NoMemory>
+    pub fn new(alloc: Global, owner: u16, places: usize) -> Result<BufParcel<'r>, NoMemory>
         ensures { IfOk result (λ p.
             (p ≡ record { owner = owner; places = p.places; items = [] }) × (places ≤ p.places)) }
     {
-        Ok(Parcel::over(owner, Vec::with_capacity(alloc, places)?))
+        Ok(BufParcel::over(owner, Vec::with_capacity(alloc, places)?))
     }
 
     /// An empty parcel over an array that names no buffer, with as much room as that has. Takes no
     /// memory.
-    pub fn over(owner: u16, array: Vec<Buf<'r>>) -> Parcel<'r>
+    pub fn over(owner: u16, array: Vec<Buf<'r>>) -> BufParcel<'r>
         requires { array.items ≡ [] }
         ensures { result ≡ record { owner = owner; places = vec_capacity array.entry; items = [] } }
     {
-        Parcel {
+        BufParcel {
             owner,
             bytes: 0,
             buffers: array,
@@ -120,7 +120,7 @@ impl<'r> Parcel<'r> {
         self.buffers.capacity()
     }
 
-    /// Whether each place has a buffer, so that [`Parcel::push`] takes none.
+    /// Whether each place has a buffer, so that [`BufParcel::push`] takes none.
     #[inline]
     pub fn is_full(&self) -> bool
         ensures { IsTrue result ↔ (self.now.places ≤ length self.now.items) }
@@ -165,7 +165,7 @@ impl<'r> Parcel<'r> {
     }
 
     /// Lends all bytes of the buffer at place `at` to a closure, which may write them. How much of it is
-    /// filled stays as it is; [`Parcel::set_len_at`] says it.
+    /// filled stays as it is; [`BufParcel::set_len_at`] says it.
     pub fn edit_at<T, F: FnOnce(&mut [u8]) -> T>(&mut self, at: usize, edit: F) -> T
         requires place { at < length self.old.items }
         requires callable { F.IsAlwaysCallable edit }
@@ -199,7 +199,7 @@ impl<'r> Parcel<'r> {
         ensures items { result.items ≡ self.entry.items }
         ensures packed { All (IsPacked self.entry.owner) result.items }
     {
-        let Parcel {
+        let BufParcel {
             owner: _,
             bytes: _,
             buffers,
@@ -232,8 +232,8 @@ fn sum_of(buffers: &[Buf<'_>]) -> u64
 }
 
 // The buffers are not printed.
-impl fmt::Debug for Parcel<'_> {
+impl fmt::Debug for BufParcel<'_> {
     fn fmt<W: fmt::Write>(&self, f: &mut fmt::Formatter<W>) -> fmt::Result {
-        write!(f, "Parcel({} buffers of {})", self.len(), self.owner)
+        write!(f, "BufParcel({} buffers of {})", self.len(), self.owner)
     }
 }

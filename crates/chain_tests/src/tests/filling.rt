@@ -1,7 +1,7 @@
 //! What a buffer is filled with, and that it goes with the buffer.
 use crate::tests::{filled, same};
 use region_cut::{CHUNK, class_for};
-use slot_chain::{Buf, Full, NoMemory, Parcel};
+use slot_chain::{Buf, BufParcel, Full, NoMemory};
 use std::alloc::Global;
 use std::io::Write;
 use std::process::Abort;
@@ -66,7 +66,7 @@ fn hand_over(rt: &impl Abort, alloc: Global) -> Result<(), NoMemory> {
     let class = class_for(16).expect(rt, "a class of 16 bytes");
     let mut region = Vec::from_elem(alloc, 3u8, CHUNK)?;
     let mut chain = filled(alloc, &mut region, class, 0)?;
-    let mut parcel = Parcel::new(alloc, 0, 2)?;
+    let mut parcel = BufParcel::new(alloc, 0, 2)?;
     let mut buf = chain.pop().expect(rt, "a buffer");
     append(rt, &mut buf);
     read(rt, &mut buf);

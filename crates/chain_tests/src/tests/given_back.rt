@@ -5,7 +5,7 @@ use crate::tests::{filled, same};
 use chain_uses::turned;
 use memory_marks::{Mark, set};
 use region_cut::{CHUNK, Class};
-use slot_chain::{Chain, NoMemory, Parcel};
+use slot_chain::{BufParcel, Chain, NoMemory};
 use std::alloc::Global;
 use std::process::Abort;
 
@@ -33,8 +33,8 @@ fn by_a_full_chain(rt: HostRuntime) {
 }
 
 // All buffers of the chain, in a parcel with a place for each.
-fn packed<'r>(alloc: Global, chain: Chain<'r>) -> Result<Parcel<'r>, NoMemory> {
-    let mut parcel = Parcel::new(alloc, 7, 8)?;
+fn packed<'r>(alloc: Global, chain: Chain<'r>) -> Result<BufParcel<'r>, NoMemory> {
+    let mut parcel = BufParcel::new(alloc, 7, 8)?;
     for buf in chain {
         drop(parcel.push(buf));
     }

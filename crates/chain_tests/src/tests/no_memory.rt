@@ -5,7 +5,7 @@ use crate::tests::order::chains;
 use crate::tests::same;
 use memory_marks::{Mark, set};
 use region_cut::CHUNK;
-use slot_chain::{Buf, Chain, Magazine, NoMemory, Parcel};
+use slot_chain::{Buf, BufParcel, Chain, Magazine, NoMemory};
 use std::alloc::Global;
 use std::process::Abort;
 
@@ -42,7 +42,7 @@ fn a_chain_takes_none(rt: HostRuntime) {
 }
 
 // As many go in as the parcel has places for, and the rest comes back.
-fn pack<'r>(parcel: &mut Parcel<'r>, chain: &mut Chain<'r>, back: &mut Chain<'r>) {
+fn pack<'r>(parcel: &mut BufParcel<'r>, chain: &mut Chain<'r>, back: &mut Chain<'r>) {
     for _ in 0..8 {
         let Some(buf) = chain.pop() else {
             return;
@@ -53,7 +53,7 @@ fn pack<'r>(parcel: &mut Parcel<'r>, chain: &mut Chain<'r>, back: &mut Chain<'r>
     }
 }
 
-fn unpack<'r>(parcel: &mut Parcel<'r>, chain: &mut Chain<'r>) {
+fn unpack<'r>(parcel: &mut BufParcel<'r>, chain: &mut Chain<'r>) {
     for _ in 0..8 {
         if let Some(buf) = parcel.pop() {
             chain.push(buf);
@@ -62,7 +62,11 @@ fn unpack<'r>(parcel: &mut Parcel<'r>, chain: &mut Chain<'r>) {
 }
 
 // Five of eight have a place.
-fn fill_parcel<'r>(rt: &impl Abort, mut parcel: Parcel<'r>, mut chain: Chain<'r>) -> Vec<Buf<'r>> {
+fn fill_parcel<'r>(
+    rt: &impl Abort,
+    mut parcel: BufParcel<'r>,
+    mut chain: Chain<'r>,
+) -> Vec<Buf<'r>> {
     let mut back = Chain::new();
     pack(&mut parcel, &mut chain, &mut back);
     same(rt, "those with a place", parcel.buffers().len() as u64, 5);
@@ -76,7 +80,7 @@ fn fill_parcel<'r>(rt: &impl Abort, mut parcel: Parcel<'r>, mut chain: Chain<'r>
 fn parcel(rt: &impl Abort, alloc: Global) -> Result<(), NoMemory> {
     let mut region = Vec::from_elem(alloc, 0u8, 2 * CHUNK)?;
     let (first, _second) = chains(rt, alloc, &mut region)?;
-    let parcel = Parcel::new(alloc, 7, 5)?;
+    let parcel = BufParcel::new(alloc, 7, 5)?;
     set(alloc, Mark::TakesNone);
     let array = fill_parcel(rt, parcel, first);
     set(alloc, Mark::MayTake);
@@ -132,8 +136,8 @@ fn a_magazine_takes_none(rt: HostRuntime) {
 // Two arrays, of which a list without room keeps none: their buffers are linked.
 fn append_arrays<'r>(
     rt: &impl Abort,
-    first: Parcel<'r>,
-    second: Parcel<'r>,
+    first: BufParcel<'r>,
+    second: BufParcel<'r>,
     mut list: Magazine<'r>,
 ) {
     list.append(first.into_buffers());
@@ -141,8 +145,8 @@ fn append_arrays<'r>(
     same(rt, "the slots of both", list.len(), 8);
 }
 
-fn packed<'r>(alloc: Global, chain: &mut Chain<'r>) -> Result<Parcel<'r>, NoMemory> {
-    let mut parcel = Parcel::new(alloc, 7, 4)?;
+fn packed<'r>(alloc: Global, chain: &mut Chain<'r>) -> Result<BufParcel<'r>, NoMemory> {
+    let mut parcel = BufParcel::new(alloc, 7, 4)?;
     for _ in 0..4 {
         if let Some(buf) = chain.pop() {
             drop(parcel.push(buf));

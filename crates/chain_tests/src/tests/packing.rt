@@ -3,17 +3,17 @@ use crate::tests::order::chains;
 use crate::tests::{filled, parts, same};
 use chain_uses::fill_part;
 use region_cut::{CHUNK, Class, class_for};
-use slot_chain::{Buf, Chain, NoMemory, Parcel};
+use slot_chain::{Buf, BufParcel, Chain, NoMemory};
 use std::alloc::Global;
 use std::process::Abort;
 
 // The buffer goes in, however often it was passed on.
-fn put<'r>(rt: &impl Abort, parcel: &mut Parcel<'r>, mut buf: Buf<'r>) {
+fn put<'r>(rt: &impl Abort, parcel: &mut BufParcel<'r>, mut buf: Buf<'r>) {
     buf.set_forwards(3);
     assert!(rt; parcel.push(buf).is_ok());
 }
 
-fn put_all<'r>(rt: &impl Abort, parcel: &mut Parcel<'r>, chain: Chain<'r>) {
+fn put_all<'r>(rt: &impl Abort, parcel: &mut BufParcel<'r>, chain: Chain<'r>) {
     for buf in chain {
         put(rt, parcel, buf);
     }
@@ -31,7 +31,7 @@ fn check_buffers(rt: &impl Abort, buffers: &[Buf<'_>], want: &[u16]) {
 }
 
 // Another's buffer comes back as it was.
-fn is_kept_out<'r>(rt: &impl Abort, parcel: &mut Parcel<'r>, mut buf: Buf<'r>) {
+fn is_kept_out<'r>(rt: &impl Abort, parcel: &mut BufParcel<'r>, mut buf: Buf<'r>) {
     let slot = buf.slot();
     buf.set_forwards(2);
     let back = parcel.push(buf).err().expect(rt, "another's");
@@ -44,7 +44,7 @@ fn is_kept_out<'r>(rt: &impl Abort, parcel: &mut Parcel<'r>, mut buf: Buf<'r>) {
 fn pack_both(rt: &impl Abort, alloc: Global) -> Result<(), NoMemory> {
     let mut region = Vec::from_elem(alloc, 0u8, 2 * CHUNK)?;
     let (first, second) = chains(rt, alloc, &mut region)?;
-    let mut parcel = Parcel::new(alloc, 7, 16)?;
+    let mut parcel = BufParcel::new(alloc, 7, 16)?;
     assert!(rt; parcel.is_empty());
     put_all(rt, &mut parcel, first);
     for buf in second {
@@ -65,7 +65,7 @@ fn a_parcel_takes_buffers_of_its_owner_alone(rt: HostRuntime) {
 }
 
 // Buffers go in until one finds no place, which comes back. Tells how many went in.
-fn fill_up<'r>(rt: &impl Abort, parcel: &mut Parcel<'r>, chain: Chain<'r>) -> u64 {
+fn fill_up<'r>(rt: &impl Abort, parcel: &mut BufParcel<'r>, chain: Chain<'r>) -> u64 {
     let mut count = 0u64;
     for buf in chain {
         let slot = buf.slot();
@@ -83,7 +83,7 @@ fn fill(rt: &impl Abort, alloc: Global, places: usize) -> Result<(), NoMemory> {
     let class = class_for(16).expect(rt, "a class of 16 bytes");
     let mut region = Vec::from_elem(alloc, 0u8, CHUNK)?;
     let chain = filled(alloc, &mut region, class, 1)?;
-    let mut parcel = Parcel::new(alloc, 1, places)?;
+    let mut parcel = BufParcel::new(alloc, 1, places)?;
     assert!(rt; parcel.places() >= places && parcel.is_full() == (parcel.places() == 0));
     let count = fill_up(rt, &mut parcel, chain);
     assert!(rt; count >= places as u64 && count < 256 && parcel.is_full());
@@ -108,13 +108,13 @@ fn what_finds_no_place_comes_back(rt: HostRuntime) {
 }
 
 // A buffer of the chain goes in, and then so many bytes are in it.
-fn put_one<'r>(rt: &impl Abort, parcel: &mut Parcel<'r>, chain: &mut Chain<'r>, bytes: u64) {
+fn put_one<'r>(rt: &impl Abort, parcel: &mut BufParcel<'r>, chain: &mut Chain<'r>, bytes: u64) {
     put(rt, parcel, chain.pop().expect(rt, "a buffer"));
     same(rt, "the bytes behind a push", parcel.bytes_total(), bytes);
 }
 
 // A buffer of this size comes out, and then so many bytes are in it.
-fn take_one(rt: &impl Abort, parcel: &mut Parcel<'_>, size: u64, bytes: u64) {
+fn take_one(rt: &impl Abort, parcel: &mut BufParcel<'_>, size: u64, bytes: u64) {
     let buf = parcel.pop().expect(rt, "a buffer");
     same(rt, "the size", buf.capacity() as u64, size);
     same(rt, "the hops", u64::from(buf.forwards()), 0);
@@ -124,7 +124,7 @@ fn take_one(rt: &impl Abort, parcel: &mut Parcel<'_>, size: u64, bytes: u64) {
 // The one chain has buffers of 512 bytes, the other of 16.
 fn count_bytes<'r>(
     rt: &impl Abort,
-    parcel: &mut Parcel<'r>,
+    parcel: &mut BufParcel<'r>,
     large: &mut Chain<'r>,
     small: &mut Chain<'r>,
 ) {
@@ -164,7 +164,7 @@ fn two_sizes<'r>(
 fn count_two_sizes(rt: &impl Abort, alloc: Global) -> Result<(), NoMemory> {
     let mut region = Vec::from_elem(alloc, 0u8, 2 * CHUNK)?;
     let (mut large, mut small) = two_sizes(rt, alloc, &mut region)?;
-    let mut parcel = Parcel::new(alloc, 9, 3)?;
+    let mut parcel = BufParcel::new(alloc, 9, 3)?;
     count_bytes(rt, &mut parcel, &mut large, &mut small);
     Ok(())
 }
@@ -177,7 +177,7 @@ fn a_parcel_knows_its_bytes(rt: HostRuntime) {
 }
 
 // The eight buffers were packed from the last slot to the first.
-fn take_back(rt: &impl Abort, parcel: &mut Parcel<'_>) {
+fn take_back(rt: &impl Abort, parcel: &mut BufParcel<'_>) {
     for index in 0..8 {
         let buf = parcel.pop().expect(rt, "a buffer");
         same(rt, "the index", u64::from(buf.slot().index), index);
@@ -188,7 +188,7 @@ fn take_back(rt: &impl Abort, parcel: &mut Parcel<'_>) {
 fn pack_and_take(rt: &impl Abort, alloc: Global) -> Result<(), NoMemory> {
     let mut region = Vec::from_elem(alloc, 0u8, 2 * CHUNK)?;
     let (first, _second) = chains(rt, alloc, &mut region)?;
-    let mut parcel = Parcel::new(alloc, 7, 8)?;
+    let mut parcel = BufParcel::new(alloc, 7, 8)?;
     put_all(rt, &mut parcel, first);
     take_back(rt, &mut parcel);
     Ok(())
@@ -205,7 +205,7 @@ fn a_parcel_gives_the_last_first(rt: HostRuntime) {
 fn unpack(rt: &impl Abort, alloc: Global) -> Result<(), NoMemory> {
     let mut region = Vec::from_elem(alloc, 0u8, 2 * CHUNK)?;
     let (first, _second) = chains(rt, alloc, &mut region)?;
-    let mut parcel = Parcel::new(alloc, 7, 8)?;
+    let mut parcel = BufParcel::new(alloc, 7, 8)?;
     put_all(rt, &mut parcel, first);
     let last = parcel.pop().expect(rt, "a buffer");
     same(rt, "the last index", u64::from(last.slot().index), 0);
@@ -225,9 +225,9 @@ fn a_parcel_becomes_an_array_in_order(rt: HostRuntime) {
 fn pack_after_a_refusal(rt: &impl Abort, alloc: Global) -> Result<(), NoMemory> {
     let mut region = Vec::from_elem(alloc, 0u8, 2 * CHUNK)?;
     let (first, _second) = chains(rt, alloc, &mut region)?;
-    assert!(rt; Parcel::new(alloc, 7, usize::MAX).err() == Some(NoMemory));
+    assert!(rt; BufParcel::new(alloc, 7, usize::MAX).err() == Some(NoMemory));
     same(rt, "the buffers", first.len(), 8);
-    let mut parcel = Parcel::new(alloc, 7, 8)?;
+    let mut parcel = BufParcel::new(alloc, 7, 8)?;
     put_all(rt, &mut parcel, first);
     check_buffers(rt, parcel.buffers(), &[7, 6, 5, 4, 3, 2, 1, 0]);
     Ok(())
@@ -244,10 +244,10 @@ fn nothing_is_lost_where_a_parcel_is_refused(rt: HostRuntime) {
 fn print(rt: &impl Abort, alloc: Global) -> Result<(), NoMemory> {
     let mut region = Vec::from_elem(alloc, 0u8, 2 * CHUNK)?;
     let (first, _second) = chains(rt, alloc, &mut region)?;
-    let mut parcel = Parcel::new(alloc, 7, 8)?;
+    let mut parcel = BufParcel::new(alloc, 7, 8)?;
     put_all(rt, &mut parcel, first);
     let text = format!(in alloc; "{parcel:?}")?;
-    assert!(rt; text.as_str() == "Parcel(8 buffers of 7)");
+    assert!(rt; text.as_str() == "BufParcel(8 buffers of 7)");
     Ok(())
 }
 

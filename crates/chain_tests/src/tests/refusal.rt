@@ -1,5 +1,5 @@
 //! Want of memory.
-use slot_chain::{NoMemory, Parcel, Room};
+use slot_chain::{BufParcel, NoMemory, Room};
 use std::alloc::AllocError;
 
 // The words, also where memory for them is refused once.
@@ -27,9 +27,9 @@ fn is_all_that_a_room_can_lack(rt: HostRuntime) {
 // refused.
 #[test]
 fn is_all_that_a_parcel_can_lack(rt: HostRuntime) {
-    if let Err(refused) = Parcel::new(rt.alloc(), 7, 100) {
+    if let Err(refused) = BufParcel::new(rt.alloc(), 7, 100) {
         assert_eq!(rt; refused, NoMemory);
-        assert!(rt; Parcel::new(rt.alloc(), 7, 100).is_ok());
+        assert!(rt; BufParcel::new(rt.alloc(), 7, 100).is_ok());
     }
-    assert!(rt; Parcel::new(rt.alloc(), 7, usize::MAX).err() == Some(NoMemory));
+    assert!(rt; BufParcel::new(rt.alloc(), 7, usize::MAX).err() == Some(NoMemory));
 }

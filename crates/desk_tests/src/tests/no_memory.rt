@@ -13,7 +13,7 @@ use memory_marks::{Mark, set};
 use pool_desk::{Desk, DeskError, Freed};
 use region_cut::Part;
 use region_cut::endings::Endings;
-use slot_chain::{Chain, Parcel};
+use slot_chain::{BufParcel, Chain};
 use std::alloc::Global;
 use std::process::Abort;
 
@@ -139,7 +139,7 @@ fn what_is_cached_takes_none(rt: HostRuntime) {
 }
 
 // An own parcel comes home, and the next one lies over its array.
-fn go_home<'r>(rt: &impl Abort, alloc: Global, owner: &mut Desk<'r>, parcel: Parcel<'r>) {
+fn go_home<'r>(rt: &impl Abort, alloc: Global, owner: &mut Desk<'r>, parcel: BufParcel<'r>) {
     free_all_is(rt, owner, parcel, Freed::Home);
     counts_are(rt, owner, 8, 0);
     let next = packed(rt, alloc, owner, 512, 3);
@@ -168,7 +168,7 @@ fn cross_as_one<'r>(
     rt: &impl Abort,
     owner: &mut Desk<'r>,
     other: &mut Desk<'r>,
-    parcel: Parcel<'r>,
+    parcel: BufParcel<'r>,
 ) {
     free_all_is(rt, other, parcel, Freed::Cached);
     counts_are(rt, other, 0, 3);

@@ -2,7 +2,7 @@
 use super::{Play, alloc_from, claim, class, counts_are, handle, lend, plays};
 use pool_desk::{Desk, Freed};
 use region_cut::{Part, Profile, Slot};
-use slot_chain::{Chain, Parcel};
+use slot_chain::{BufParcel, Chain};
 use std::alloc::Global;
 use std::process::Abort;
 
@@ -12,7 +12,7 @@ pub(super) fn empty<'r>(
     alloc: Global,
     owner: &mut Desk<'r>,
     places: u32,
-) -> Parcel<'r> {
+) -> BufParcel<'r> {
     let parcel = match owner.parcel(alloc, places as usize) {
         Ok(parcel) => parcel,
         Err(_) => owner
@@ -31,7 +31,7 @@ pub(super) fn packed<'r>(
     owner: &mut Desk<'r>,
     size: usize,
     count: u32,
-) -> Parcel<'r> {
+) -> BufParcel<'r> {
     let mut parcel = empty(rt, alloc, owner, count);
     for _ in 0..count {
         let buf = lend(rt, alloc, owner, size);
@@ -44,7 +44,7 @@ pub(super) fn packed<'r>(
 pub(super) fn free_all_is<'r>(
     rt: &impl Abort,
     desk: &mut Desk<'r>,
-    parcel: Parcel<'r>,
+    parcel: BufParcel<'r>,
     want: Freed,
 ) {
     let _number = desk.number();

@@ -3,7 +3,7 @@ use super::parcels::{all_go_home, empty, free_all_is};
 use super::{Play, claim, class, free_is, lend, plays};
 use pool_desk::{Desk, Freed};
 use region_cut::Part;
-use slot_chain::Parcel;
+use slot_chain::BufParcel;
 use std::alloc::Global;
 use std::process::Abort;
 
@@ -12,7 +12,7 @@ fn takes_one<'r>(
     rt: &impl Abort,
     alloc: Global,
     owner: &mut Desk<'r>,
-    parcel: &mut Parcel<'r>,
+    parcel: &mut BufParcel<'r>,
 ) -> bool {
     let buf = lend(rt, alloc, owner, 100);
     match parcel.push(buf) {

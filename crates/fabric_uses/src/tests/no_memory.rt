@@ -11,7 +11,7 @@ use memory_marks::{Mark, set};
 use pool_desk::Freed;
 use pool_fabric::{Naming, Shelf};
 use region_cut::{Class, Profile};
-use slot_chain::{Buf, Parcel};
+use slot_chain::{Buf, BufParcel};
 use std::alloc::Global;
 use std::marker::Brand;
 use std::process::Abort;
@@ -38,7 +38,7 @@ fn free_is<'r, J: Naming>(rt: &impl Abort, station: &mut Held<'r, J>, buf: Buf<'
 fn free_all_is<'r, J: Naming>(
     rt: &impl Abort,
     station: &mut Held<'r, J>,
-    parcel: Parcel<'r>,
+    parcel: BufParcel<'r>,
     want: Freed,
 ) {
     match station.digits().profile() {
@@ -89,7 +89,7 @@ fn packed<'r, J: Naming, R: Abort + Wait>(
     alloc: Global,
     fabric: &Over<'r, J>,
     station: &mut Held<'r, J>,
-) -> Option<Parcel<'r>> {
+) -> Option<BufParcel<'r>> {
     let mut parcel = station.parcel(alloc, 1).ok()?;
     let buf = lend(rt, alloc, fabric, station, 16)?;
     assert!(rt; parcel.push(buf).is_ok());

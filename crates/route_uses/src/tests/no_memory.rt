@@ -5,7 +5,7 @@ use crate::tests::rounds::{Want, check_all, check_left, put_third_back, set_firs
 use crate::tests::samples::{filled_in, next_of_1, put_each, same, take, turned};
 use digit_route::{Batch, Cache, RouteError};
 use memory_marks::{Mark, set};
-use slot_chain::{NoMemory, Parcel};
+use slot_chain::{BufParcel, NoMemory};
 use std::alloc::Global;
 use std::process::Abort;
 
@@ -88,8 +88,8 @@ fn packed<'r>(
     rt: &impl Abort,
     alloc: Global,
     cache: &mut Cache<'r>,
-) -> Result<Parcel<'r>, NoMemory> {
-    let mut parcel = Parcel::new(alloc, 1, 40)?;
+) -> Result<BufParcel<'r>, NoMemory> {
+    let mut parcel = BufParcel::new(alloc, 1, 40)?;
     let mut magazine = next_of_1(rt, cache, 40).into_magazine();
     for _ in 0..40 {
         let buf = magazine.pop().expect(rt, "a buffer");
@@ -99,7 +99,7 @@ fn packed<'r>(
 }
 
 // The cache is desk 0's, and the parcel 1's.
-fn put_parcel<'r>(rt: &impl Abort, cache: &mut Cache<'r>, parcel: Parcel<'r>) {
+fn put_parcel<'r>(rt: &impl Abort, cache: &mut Cache<'r>, parcel: BufParcel<'r>) {
     assert!(rt; parcel.owner() == 1 && cache.number() == 0);
     let bits = cache.digits().profile().bits();
     assert!(rt; u32::from(parcel.owner()) < 1 << bits);
