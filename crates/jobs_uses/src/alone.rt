@@ -1,10 +1,10 @@
 //! One worker, alone.
 ghost use Rattle.std.specs.Prelude.{◌≡◌, IfOk};
-ghost use Rattle.pool_fabric.specs.Whole.{IsWhole, IsEachDesk, AreNoted};
+ghost use Rattle.pool_jobs.specs.Ends.{IsAccounted};
 
 use batch_inbox::{Inbox, SendSeat, TakeSeat};
 use pool_fabric::{Fabric, HeldStation, Naming, Opening};
-use pool_jobs::{Allocator, BufferCounts, Ended, Entrance, JobError, NoGate, settle};
+use pool_jobs::{Allocator, BufferCounts, Entrance, JobError, NoGate, WorkReport, settle};
 use std::alloc::{AllocError, Global};
 use std::marker::Brand;
 use std::sync::Wait;
@@ -72,12 +72,9 @@ fn worked<'r, J: Naming, R: Wait>(
     opening: Opening<'r, Inbox<'r>, TakeSeat<'r>, SendSeat<'r>>,
     count: u32,
     size: usize,
-) -> Result<Ended<'r>, JobError>
+) -> Result<WorkReport<'r>, JobError>
     requires { J.names ≡ opening }
-    ensures whole { IfOk result (λ e. IsWhole e.found.desks.items e.found.batches.items e.found.lent.items
-        e.found.freed.items e.found.parts.items opening.entry.chunks) }
-    ensures desks { IfOk result (λ e. IsEachDesk opening.entry.count e.found.desks.items) }
-    ensures drawn { IfOk result (λ e. AreNoted e.found.desks.items e.found.drawn) }
+    ensures accounted { let n = opening.entry in IfOk result (λ e. IsAccounted n.chunks n.count e.found e.tally.audit) }
 {
     let fabric = Fabric::<'r, Inbox<'r>, TakeSeat<'r>, SendSeat<'r>, J>::open(alloc, opening)?;
     let Left { held, counts } = at_work(rt, alloc, &fabric, &NoGate, count, size)?;
@@ -91,11 +88,8 @@ pub fn work_alone<'r, R: Wait>(
     opening: Opening<'r, Inbox<'r>, TakeSeat<'r>, SendSeat<'r>>,
     count: u32,
     size: usize,
-) -> Result<Ended<'r>, JobError>
-    ensures whole { IfOk result (λ e. IsWhole e.found.desks.items e.found.batches.items e.found.lent.items
-        e.found.freed.items e.found.parts.items opening.entry.chunks) }
-    ensures desks { IfOk result (λ e. IsEachDesk opening.entry.count e.found.desks.items) }
-    ensures drawn { IfOk result (λ e. AreNoted e.found.desks.items e.found.drawn) }
+) -> Result<WorkReport<'r>, JobError>
+    ensures accounted { let n = opening.entry in IfOk result (λ e. IsAccounted n.chunks n.count e.found e.tally.audit) }
 {
     worked::<Brand, R>(rt, alloc, opening, count, size)
 }

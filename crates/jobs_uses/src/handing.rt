@@ -1,14 +1,12 @@
 //! Parcels that one thread packs, and another frees as a whole.
 ghost use Rattle.std.specs.Prelude.{◌≡◌, IfOk};
-ghost use Rattle.pool_fabric.specs.Audited.{Audited};
-ghost use Rattle.pool_fabric.specs.Whole.{IsWhole, IsEachDesk, AreNoted};
-ghost use Rattle.pool_jobs.specs.Ends.{slots_found};
+ghost use Rattle.pool_jobs.specs.Ends.{IsAccounted};
 
 use batch_inbox::{Inbox, SendSeat, TakeSeat};
 use crossbeam_channel::{Receiver, Sender};
 use inbox_uses::{Worker, run_beside};
 use pool_fabric::{Fabric, HeldStation, Naming, Opening};
-use pool_jobs::{Allocator, BufferCounts, Ended, Entrance, JobError, NoGate, Parcel, settle};
+use pool_jobs::{Allocator, BufferCounts, Entrance, JobError, NoGate, Parcel, WorkReport, settle};
 use std::alloc::{AllocError, Global};
 use std::marker::Brand;
 use std::sync::Wait;
@@ -256,7 +254,7 @@ fn taken_in<'r, J: Naming>(
 /// What there is when both threads have ended.
 #[derive(Drop)]
 pub struct Handed<'r> {
-    pub ended: Ended<'r>,
+    pub report: WorkReport<'r>,
     /// The marks that the second thread read, added up.
     pub marks: u64,
 }
@@ -269,12 +267,8 @@ fn at_fabric<'r, J: Naming + Send + Sync, R: Threads + Wait + Sync>(
     parcels: u8,
 ) -> Result<Handed<'r>, JobError>
     requires { J.names ≡ opening }
-    ensures whole { IfOk result (λ h. let f = h.ended.found in IsWhole f.desks.items f.batches.items
-        f.lent.items f.freed.items f.parts.items opening.entry.chunks) }
-    ensures desks { IfOk result (λ h. IsEachDesk opening.entry.count h.ended.found.desks.items) }
-    ensures drawn { IfOk result (λ h. AreNoted h.ended.found.desks.items h.ended.found.drawn) }
-    ensures audit { IfOk result (λ h. let f = h.ended.found in
-        Audited (slots_found f.desks.items f.batches.items) f.drawn h.ended.tally.audit) }
+    ensures accounted { let n = opening.entry in
+        IfOk result (λ h. IsAccounted n.chunks n.count h.report.found h.report.tally.audit) }
 {
     let fabric = Shared::<'r, J>::open(alloc, opening)?;
     let (packed, freed) = both_threads(rt, alloc, &fabric, &NoGate, parcels)?;
@@ -283,8 +277,8 @@ fn at_fabric<'r, J: Naming + Send + Sync, R: Threads + Wait + Sync>(
         counts,
         marks,
     } = taken_in(alloc, packed, freed)?;
-    let ended = settle(rt, alloc, fabric, held, counts)?;
-    Ok(Handed { ended, marks })
+    let report = settle(rt, alloc, fabric, held, counts)?;
+    Ok(Handed { report, marks })
 }
 
 /// One thread packs so many parcels of 64 buffers of mixed sizes, marks each buffer with the parcel's
@@ -298,12 +292,8 @@ pub fn hand_parcels<'r, R: Threads + Wait + Sync>(
     opening: Opening<'r, Inbox<'r>, TakeSeat<'r>, SendSeat<'r>>,
     parcels: u8,
 ) -> Result<Handed<'r>, JobError>
-    ensures whole { IfOk result (λ h. let f = h.ended.found in IsWhole f.desks.items f.batches.items
-        f.lent.items f.freed.items f.parts.items opening.entry.chunks) }
-    ensures desks { IfOk result (λ h. IsEachDesk opening.entry.count h.ended.found.desks.items) }
-    ensures drawn { IfOk result (λ h. AreNoted h.ended.found.desks.items h.ended.found.drawn) }
-    ensures audit { IfOk result (λ h. let f = h.ended.found in
-        Audited (slots_found f.desks.items f.batches.items) f.drawn h.ended.tally.audit) }
+    ensures accounted { let n = opening.entry in
+        IfOk result (λ h. IsAccounted n.chunks n.count h.report.found h.report.tally.audit) }
 {
     at_fabric::<Brand, R>(rt, alloc, opening, parcels)
 }

@@ -1,15 +1,13 @@
 //! A workload over an inbox of a user's own: a queue that counts its posts.
 ghost use Rattle.std.specs.Prelude.{◌≡◌, IfOk};
-ghost use Rattle.pool_fabric.specs.Audited.{Audited};
-ghost use Rattle.pool_fabric.specs.Whole.{IsWhole, IsEachDesk, AreNoted};
-ghost use Rattle.pool_jobs.specs.Ends.{slots_found};
+ghost use Rattle.pool_jobs.specs.Ends.{IsAccounted};
 
 use crate::watch::{Hold, Watch};
 use crate::watched::{Seen, Watched};
 use batch_inbox::{Inbox, SendSeat, TakeSeat};
 use inbox_uses::Counting;
 use pool_fabric::{Fabric, Naming, Opening};
-use pool_jobs::crossing::{Back, Rounds, one_round};
+use pool_jobs::crossing::{CrewResult, Rounds, run_round};
 use pool_jobs::{Gate, JobError, MOST_THREADS, Plan, Workload, settle};
 use rand_core::{Rng, SeedableRng};
 use std::alloc::Global;
@@ -23,7 +21,7 @@ fn all_rounds<'a, 'r, G, N, J, R>(
     rt: &R,
     alloc: Global,
     rounds: Rounds<'a, 'r, Counting<Inbox<'r>>, TakeSeat<'r>, SendSeat<'r>, G, J>,
-) -> Result<Back<'r, TakeSeat<'r>, SendSeat<'r>, J>, JobError>
+) -> Result<CrewResult<'r, TakeSeat<'r>, SendSeat<'r>, J>, JobError>
 where
     G: Gate + Sync,
     N: Rng + SeedableRng + Send + Drop,
@@ -32,9 +30,9 @@ where
 {
     let mut rounds = rounds;
     for number in 0..rounds.count() {
-        let begun = rounds.begin::<N>(number)?;
-        let spent = one_round(rt, alloc, begun)?;
-        rounds.take_in(spent)?;
+        let start = rounds.begin::<N>(number)?;
+        let results = run_round(rt, alloc, start)?;
+        rounds.take_in(results)?;
     }
     Ok(rounds.end())
 }
@@ -56,9 +54,9 @@ where
 {
     let watch = Watch::over(alloc, fabric, workers, hold)?;
     let rounds = Rounds::new(alloc, fabric, &watch, workload, plan, u32::from(workers));
-    let back = all_rounds::<Watch, N, J, R>(rt, alloc, rounds)?;
+    let crew = all_rounds::<Watch, N, J, R>(rt, alloc, rounds)?;
     Ok(Seen {
-        back,
+        crew,
         posts: watch.posts(),
         calls: watch.calls(),
         calls_held: watch.calls_held(),
@@ -80,25 +78,21 @@ where
     J: Naming + Send + Sync,
     R: Threads + Wait + Clock + Sync,
     requires { J.names ≡ opening }
-    ensures whole { IfOk result (λ w. let f = w.ended.found in IsWhole f.desks.items f.batches.items
-        f.lent.items f.freed.items f.parts.items opening.entry.chunks) }
-    ensures desks { IfOk result (λ w. IsEachDesk opening.entry.count w.ended.found.desks.items) }
-    ensures drawn { IfOk result (λ w. AreNoted w.ended.found.desks.items w.ended.found.drawn) }
-    ensures audit { IfOk result (λ w. let f = w.ended.found in
-        Audited (slots_found f.desks.items f.batches.items) f.drawn w.ended.tally.audit) }
+    ensures accounted { let n = opening.entry in
+        IfOk result (λ w. IsAccounted n.chunks n.count w.report.found w.report.tally.audit) }
 {
     let workers = opening.desks().min(MOST_THREADS as usize) as u16;
     let fabric = Fabric::open(alloc, opening)?;
     let Seen {
-        back,
+        crew,
         posts,
         calls,
         calls_held,
         gave_up,
     } = seen::<N, J, R>(rt, alloc, &fabric, hold, workload, plan, workers)?;
-    let ended = settle(rt, alloc, fabric, back.held, back.counts)?;
+    let report = settle(rt, alloc, fabric, crew.held, crew.counts)?;
     Ok(Watched {
-        ended,
+        report,
         posts,
         calls,
         calls_held,
@@ -120,12 +114,8 @@ pub fn work_counting<'r, N, R>(
 where
     N: Rng + SeedableRng + Send + Drop,
     R: Threads + Wait + Clock + Sync,
-    ensures whole { IfOk result (λ w. let f = w.ended.found in IsWhole f.desks.items f.batches.items
-        f.lent.items f.freed.items f.parts.items opening.entry.chunks) }
-    ensures desks { IfOk result (λ w. IsEachDesk opening.entry.count w.ended.found.desks.items) }
-    ensures drawn { IfOk result (λ w. AreNoted w.ended.found.desks.items w.ended.found.drawn) }
-    ensures audit { IfOk result (λ w. let f = w.ended.found in
-        Audited (slots_found f.desks.items f.batches.items) f.drawn w.ended.tally.audit) }
+    ensures accounted { let n = opening.entry in
+        IfOk result (λ w. IsAccounted n.chunks n.count w.report.found w.report.tally.audit) }
 {
     worked::<N, Brand, R>(rt, alloc, opening, hold, workload, plan)
 }

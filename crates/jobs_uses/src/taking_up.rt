@@ -1,13 +1,11 @@
 //! A worker takes up the desk of one that has left.
 ghost use Rattle.std.specs.Prelude.{◌≡◌, IfOk};
-ghost use Rattle.pool_fabric.specs.Audited.{Audited};
-ghost use Rattle.pool_fabric.specs.Whole.{IsWhole, IsEachDesk, AreNoted};
-ghost use Rattle.pool_jobs.specs.Ends.{slots_found};
+ghost use Rattle.pool_jobs.specs.Ends.{IsAccounted};
 
 use crate::pair::{Held, Over, Worker, both_retire, two_workers};
 use link_inbox::{LinkInbox, SendSeat, TakeSeat};
 use pool_fabric::{Naming, Opening};
-use pool_jobs::{BufferCounts, Ended, Entrance, JobError, NoGate, PoolError, settle};
+use pool_jobs::{BufferCounts, Entrance, JobError, NoGate, PoolError, WorkReport, settle};
 use std::alloc::Global;
 use std::marker::Brand;
 use std::sync::Wait;
@@ -28,7 +26,7 @@ pub struct Answers {
 #[derive(Drop)]
 pub struct TakenUp<'r> {
     pub answers: Answers,
-    pub ended: Ended<'r>,
+    pub report: WorkReport<'r>,
 }
 
 // Allocates a buffer and frees it at once.
@@ -92,19 +90,15 @@ fn at_fabric<'r, J: Naming, R: Wait>(
     opening: Opening<'r, LinkInbox<'r>, TakeSeat<'r>, SendSeat<'r>>,
 ) -> Result<TakenUp<'r>, JobError>
     requires { J.names ≡ opening }
-    ensures whole { IfOk result (λ t. let f = t.ended.found in IsWhole f.desks.items f.batches.items
-        f.lent.items f.freed.items f.parts.items opening.entry.chunks) }
-    ensures desks { IfOk result (λ t. IsEachDesk opening.entry.count t.ended.found.desks.items) }
-    ensures drawn { IfOk result (λ t. AreNoted t.ended.found.desks.items t.ended.found.drawn) }
-    ensures audit { IfOk result (λ t. let f = t.ended.found in
-        Audited (slots_found f.desks.items f.batches.items) f.drawn t.ended.tally.audit) }
+    ensures accounted { let n = opening.entry in
+        IfOk result (λ t. IsAccounted n.chunks n.count t.report.found t.report.tally.audit) }
 {
     let fabric = Over::<'r, J>::open(alloc, opening)?;
     let Some((answers, held)) = at_work(rt, alloc, &fabric, &NoGate) else {
         return Err(JobError::NoMemory);
     };
-    let ended = settle(rt, alloc, fabric, held, BufferCounts::none())?;
-    Ok(TakenUp { answers, ended })
+    let report = settle(rt, alloc, fabric, held, BufferCounts::none())?;
+    Ok(TakenUp { answers, report })
 }
 
 /// A worker draws the only chunk of a pool of two desks, frees what it lent, and leaves. No chunk goes
@@ -115,12 +109,8 @@ pub fn take_up_desk<'r, R: Wait>(
     alloc: Global,
     opening: Opening<'r, LinkInbox<'r>, TakeSeat<'r>, SendSeat<'r>>,
 ) -> Result<TakenUp<'r>, JobError>
-    ensures whole { IfOk result (λ t. let f = t.ended.found in IsWhole f.desks.items f.batches.items
-        f.lent.items f.freed.items f.parts.items opening.entry.chunks) }
-    ensures desks { IfOk result (λ t. IsEachDesk opening.entry.count t.ended.found.desks.items) }
-    ensures drawn { IfOk result (λ t. AreNoted t.ended.found.desks.items t.ended.found.drawn) }
-    ensures audit { IfOk result (λ t. let f = t.ended.found in
-        Audited (slots_found f.desks.items f.batches.items) f.drawn t.ended.tally.audit) }
+    ensures accounted { let n = opening.entry in
+        IfOk result (λ t. IsAccounted n.chunks n.count t.report.found t.report.tally.audit) }
 {
     at_fabric::<Brand, R>(rt, alloc, opening)
 }

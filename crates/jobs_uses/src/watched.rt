@@ -2,13 +2,13 @@
 
 use batch_inbox::{Receiver, Sender};
 use pool_fabric::Naming;
-use pool_jobs::Ended;
-use pool_jobs::crossing::Back;
+use pool_jobs::WorkReport;
+use pool_jobs::crossing::CrewResult;
 
 /// What there is when all workers have ended, and what their gate saw.
 #[derive(Drop)]
 pub struct Watched<'r> {
-    pub ended: Ended<'r>,
+    pub report: WorkReport<'r>,
     /// How many posts were answered `Ok`, at all inboxes.
     pub posts: u64,
     /// How many calls of worker 0 were answered.
@@ -22,7 +22,7 @@ pub struct Watched<'r> {
 /// What came back of all workers, and what their gate saw.
 #[derive(Drop)]
 pub struct Seen<'r, T: Receiver, S: Sender, J: Naming> {
-    pub back: Back<'r, T, S, J>,
+    pub crew: CrewResult<'r, T, S, J>,
     pub posts: u64,
     pub calls: u64,
     pub calls_held: u64,

@@ -1,25 +1,25 @@
--- What workers left, and what they counted together.
+-- What workers gave back, and what they counted together.
 use Rattle.std.specs.Prelude.{◌≡◌, ℕ, ◌+◌, ◌<◌, ◌≤◌, List, Option, Some, None, length, slice_index_or, sum_by, filter_map, Result, Ok, Err}
 use Rattle.slot_chain.specs.Counts.{capped}
 use Rattle.pool_fabric.specs.Stations.{StationState}
-use Rattle.pool_jobs.specs.declared.counting.Done.{Done}
+use Rattle.pool_jobs.specs.declared.counting_heap.WorkerResult.{WorkerResult}
 use Rattle.pool_jobs.specs.declared.tally.BufferCounts.{BufferCounts}
 
 -- nothing was counted
 abbrev pub none_counted : BufferCounts
 none_counted = record { allocated = 0; freed = 0; starved = 0; lost = 0 }
 
--- who got no allocator left no station and counted nothing
-abbrev pub station_of : {T S J : Type 0} → Option (Done T S J) → Option StationState
+-- who got no allocator gave back no station and counted nothing
+abbrev pub station_of : {T S J : Type 0} → Option (WorkerResult T S J) → Option StationState
 station_of None = None
 station_of (Some d) = d.station
 
-abbrev pub counts_of : {T S J : Type 0} → Option (Done T S J) → BufferCounts
+abbrev pub counts_of : {T S J : Type 0} → Option (WorkerResult T S J) → BufferCounts
 counts_of None = none_counted
 counts_of (Some d) = d.counts
 
-abbrev pub stations_of : {T S J : Type 0} → List (Option (Done T S J)) → List StationState
-stations_of lefts = filter_map station_of lefts
+abbrev pub stations_of : {T S J : Type 0} → List (Option (WorkerResult T S J)) → List StationState
+stations_of outcomes = filter_map station_of outcomes
 
 -- the station at this place has the least number of a desk
 abbrev pub IsLeastAt : List StationState → ℕ → Type 0
@@ -41,10 +41,10 @@ both a b = record {
 }
 
 -- what all of these counted
-abbrev pub counted_by : {T S J : Type 0} → List (Option (Done T S J)) → BufferCounts
-counted_by lefts = record {
-  allocated = capped (sum_by (λ left. (counts_of left).allocated) lefts);
-  freed = capped (sum_by (λ left. (counts_of left).freed) lefts);
-  starved = capped (sum_by (λ left. (counts_of left).starved) lefts);
-  lost = capped (sum_by (λ left. (counts_of left).lost) lefts);
+abbrev pub counted_by : {T S J : Type 0} → List (Option (WorkerResult T S J)) → BufferCounts
+counted_by outcomes = record {
+  allocated = capped (sum_by (λ o. (counts_of o).allocated) outcomes);
+  freed = capped (sum_by (λ o. (counts_of o).freed) outcomes);
+  starved = capped (sum_by (λ o. (counts_of o).starved) outcomes);
+  lost = capped (sum_by (λ o. (counts_of o).lost) outcomes);
 }

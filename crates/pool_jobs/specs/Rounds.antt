@@ -1,9 +1,9 @@
 -- The rounds of a workload.
 use Rattle.std.specs.Prelude.{ℕ}
-use Rattle.pool_jobs.specs.declared.plan.Plan.{Plan}
+use Rattle.pool_jobs.specs.declared.workloads.plan.Plan.{Plan}
 use Rattle.pool_jobs.specs.declared.tally.BufferCounts.{BufferCounts}
-use Rattle.pool_jobs.specs.declared.workload.Workload.{Workload}
-use Rattle.pool_jobs.specs.declared.workload.Workload.TheVariants.{ProdCons, Ring, Replace}
+use Rattle.pool_jobs.specs.declared.workloads.workload.Workload.{Workload}
+use Rattle.pool_jobs.specs.declared.workloads.workload.Workload.TheVariants.{ProdCons, Ring, Replace}
 
 -- how many rounds a workload has
 abbrev pub rounds_of : Workload → Plan → ℕ

@@ -1,16 +1,15 @@
 //! The allocator that a worker holds.
-ghost use Rattle.std.specs.Prelude.{◌≡◌, ◌≢◌, ◌<◌, ◌≤◌, ◌↔◌, [], ◌∷◌, ◌++◌, length, IsTrue, IfSome, IfOk, MatchOption};
+ghost use Rattle.std.specs.Prelude.{◌≡◌, ◌≢◌, ◌<◌, ◌≤◌, ◌^◌, ◌↔◌, [], ◌∷◌, ◌++◌, length, IsTrue, IfSome, IfOk, MatchOption};
 ghost use Rattle.region_cut.specs.Classes.{size_of, classes_of, largest_of, NoClassFor};
 ghost use Rattle.digit_route.specs.Profiles.{profile_of};
 ghost use Rattle.pool_fabric.specs.Limits.{most_taken};
 ghost use Rattle.pool_jobs.specs.Serving.{IsClassFor, Keeps, SameDesk, Serves, ServesClass};
 ghost use Rattle.pool_jobs.specs.declared.error.PoolError.TheVariants.{TooLarge, UsedUp};
 
-use crate::buffer::Buffer;
+use crate::buffers::buffer::Buffer;
+use crate::buffers::parcel::Parcel;
 use crate::error::PoolError;
 use crate::gate::Gate;
-use crate::heap::Heap;
-use crate::parcel::Parcel;
 use crate::waiting::Pauses;
 use batch_inbox::{Mail, Mailbox, Receiver, Sender};
 use pool_desk::{DeskError, Freed};
@@ -50,11 +49,48 @@ pub struct Allocator<'a, 'r, M: Mailbox, T: Receiver, S: Sender, G: Gate, J: Nam
 
 impl<'a, 'r, M: Mailbox, T: Receiver, S: Sender, G: Gate, J: Naming> Model
     for Allocator<'a, 'r, M, T, S, G, J> {
+    ghost use Rattle.std.specs.Prelude.{◌≡◌, ◌<◌, ◌^◌};
     ghost use Rattle.pool_fabric.specs.Stations.{StationState};
 
     ghost Value = { StationState };
 
     ghost view = { λ a. a.station };
+
+    ghost invariant = { λ a. (a.station.desk.digits ≡ J.names.digits)
+        × (a.station.desk.number < 2 ^ J.names.digits.bits) };
+}
+
+impl<'a, 'r, M: Mailbox, T: Receiver, S: Sender, G: Gate, J: Naming> Allocator<
+    'a,
+    'r,
+    M,
+    T,
+    S,
+    G,
+    J,
+> {
+    /// The allocator over this station, as the worker of this number.
+    pub(crate) fn new(
+        fabric: &'a Fabric<'r, M, T, S, J>,
+        gate: &'a G,
+        alloc: Global,
+        worker: u32,
+        station: HeldStation<'r, T, S, J>,
+    ) -> Allocator<'a, 'r, M, T, S, G, J>
+        ensures { result ≡ station.entry }
+    {
+        recall(&station);
+        Allocator {
+            fabric,
+            gate,
+            alloc,
+            worker,
+            looked: 0,
+            since: 0,
+            post_from: 0,
+            station,
+        }
+    }
 }
 
 impl<
@@ -66,9 +102,6 @@ impl<
     G: Gate,
     J: Naming,
 > Allocator<'a, 'r, M, T, S, G, J> {
-    // Where a station is asked for its number and nothing done with it, its answer's contract tells what
-    // the station's type keeps: that the number is in range, and that the digits are the fabric's.
-
     // The number of the call that comes next.
     fn next_call(&mut self) -> u64
         ensures { self.new ≡ self.old }
@@ -95,7 +128,6 @@ impl<
         ensures { MatchOption result (NoClassFor (profile_of J.names.digits.bits) size)
             (λ class. IsClassFor J.names size class) }
     {
-        let _number = self.station.number();
         self.station.digits().profile().class_for(size)
     }
 
@@ -106,7 +138,7 @@ impl<
         ensures most { result ≤ most_taken }
     {
         let taken = self.station.take(rt, self.fabric);
-        let _number = self.station.number();
+        recall(&self.station);
         taken
     }
 
@@ -116,9 +148,7 @@ impl<
         requires { class < classes_of (profile_of J.names.digits.bits) }
         ensures { ServesClass J.names self.old class result self.new }
     {
-        let _number = self.station.number();
         let answer = self.station.alloc_class(self.alloc, class);
-        let _number = self.station.number();
         match answer {
             Ok(buf) => Ok(Buffer::new(buf)),
             Err(DeskError::NeedChunk(_)) => Err(PoolError::UsedUp),
@@ -136,7 +166,6 @@ impl<
         ensures { Keeps J.names self.old self.new }
     {
         let _taken = self.collect(rt);
-        let _number = self.station.number();
         if !self.station.has_home(class) {
             self.post_from = 0;
             let _claimed = self.station.claim(rt, self.fabric, class);
@@ -149,7 +178,6 @@ impl<
         requires { class < classes_of (profile_of J.names.digits.bits) }
         ensures { Keeps J.names self.old self.new }
     {
-        let _number = self.station.number();
         // It answers nothing: memory for an answer would be cleared before anything is done.
         if self.is_to_look() || !self.station.has_home(class) {
             self.fetch(rt, class);
@@ -161,7 +189,7 @@ impl<
     fn serve<R: Wait>(&mut self, rt: &R, size: usize) -> Result<Buffer<'r, J>, PoolError>
         ensures { Serves J.names self.old size result self.new }
     {
-        let _number = self.station.number();
+        recall(&self.station);
         match self.class_for(size) {
             None => Err(PoolError::TooLarge),
             Some(class) => {
@@ -258,7 +286,6 @@ impl<
         ensures keeps { Keeps J.names self.old self.new }
         ensures all { IsTrue result → self.new.desk.cached ≡ [] }
     {
-        let _number = self.station.number();
         let all = self.station.post(rt, self.fabric);
         // there is room again for the pointers to what will be freed
         self.station.make_room(self.alloc);
@@ -275,7 +302,6 @@ impl<
     fn post_again<R: Wait>(&mut self, rt: &R)
         ensures { Keeps J.names self.old self.new }
     {
-        let _number = self.station.number();
         if self.station.cached_bytes() < self.post_from {
             return;
         }
@@ -296,7 +322,6 @@ impl<
         ensures freed { self.new.freed ≡ self.old.freed ++ buffer.entry ∷ [] }
     {
         let buf = buffer.into_buf();
-        let _number = self.station.number();
         let call = self.next_call();
         self.gate.before(self.worker, call);
         let freed = self.station.free(buf);
@@ -314,7 +339,6 @@ impl<
         ensures value { IfOk result (λ p.
             (p ≡ record { owner = self.old.desk.number; places = p.places; items = [] }) × (places ≤ p.places)) }
     {
-        let _number = self.station.number();
         let parcel = self.station.parcel(self.alloc, places)?;
         Ok(Parcel::new(parcel))
     }
@@ -328,7 +352,6 @@ impl<
         ensures freed { self.new.freed ≡ self.old.freed ++ parcel.entry.items }
     {
         let packed = parcel.into_packed();
-        let _number = self.station.number();
         let call = self.next_call();
         self.gate.before(self.worker, call);
         let freed = self.station.free_all(packed);
@@ -364,6 +387,16 @@ impl<
     }
 }
 
+// Tells a proof what the type of a station keeps: its number is one of the fabric's, and its digits are the
+// fabric's. It does nothing.
+#[inline(always)]
+fn recall<'r, T: Receiver, S: Sender, J: Naming>(station: &HeldStation<'r, T, S, J>)
+    ensures digits { station.now.desk.digits ≡ J.names.digits }
+    ensures number { station.now.desk.number < 2 ^ J.names.digits.bits }
+{
+    let _number = station.number();
+}
+
 // Whether the pool is used up, for now.
 fn is_used_up<J: Naming>(answer: &Result<Buffer<'_, J>, PoolError>) -> bool
     ensures { IsTrue result ↔ (answer.now ≡ Err UsedUp) }
@@ -382,174 +415,6 @@ fn is_within(clock: &impl Clock, began: &io::Result<Instant>, limit: Duration) -
             Err(_) => false,
         },
         Err(_) => false,
-    }
-}
-
-/// One who is about to take up work at a fabric.
-#[derive(Drop)]
-pub struct Entrance<'a, 'r, M: Mailbox, T: Receiver, S: Sender, G: Gate, J: Naming> {
-    fabric: &'a Fabric<'r, M, T, S, J>,
-    gate: &'a G,
-    alloc: Global,
-    worker: u32,
-}
-
-impl<'a, 'r, M: Mailbox, T: Receiver, S: Sender, G: Gate, J: Naming> Entrance<
-    'a,
-    'r,
-    M,
-    T,
-    S,
-    G,
-    J,
-> {
-    /// The worker of this number, before the fabric.
-    pub fn new(
-        alloc: Global,
-        fabric: &'a Fabric<'r, M, T, S, J>,
-        gate: &'a G,
-        worker: u32,
-    ) -> Entrance<'a, 'r, M, T, S, G, J> {
-        Entrance {
-            fabric,
-            gate,
-            alloc,
-            worker,
-        }
-    }
-}
-
-impl<
-    'a,
-    'r,
-    T: Receiver,
-    S: Sender,
-    M: Mail<'r, TakeSeat = T, SendSeat = S>,
-    G: Gate,
-    J: Naming,
-> Entrance<'a, 'r, M, T, S, G, J> {
-    /// Takes a station off the shelf, or says that the shelf is empty.
-    pub fn enter<R: Wait>(self, rt: &R) -> Option<Allocator<'a, 'r, M, T, S, G, J>> {
-        let worker = self.worker;
-        let station = self.fabric.station(rt)?;
-        Some(self.resume(station.adopt(worker)))
-    }
-
-    /// Goes on with a station that [`Allocator::retire`] gave back, with what it has in its cache.
-    pub fn resume(self, station: HeldStation<'r, T, S, J>) -> Allocator<'a, 'r, M, T, S, G, J>
-        ensures { result ≡ station.entry }
-    {
-        let Entrance {
-            fabric,
-            gate,
-            alloc,
-            worker,
-        } = self;
-        Allocator {
-            fabric,
-            gate,
-            alloc,
-            worker,
-            looked: 0,
-            since: 0,
-            post_from: 0,
-            station,
-        }
-    }
-}
-
-impl<
-    'a,
-    'r,
-    T: Receiver,
-    S: Sender,
-    M: Mail<'r, TakeSeat = T, SendSeat = S>,
-    G: Gate,
-    J: Naming,
-> Heap for Allocator<'a, 'r, M, T, S, G, J> {
-    ghost use Rattle.region_cut.specs.Classes.{largest_of};
-    ghost use Rattle.digit_route.specs.Profiles.{profile_of};
-
-    type Buffer = Buffer<'r, J>;
-
-    type Parcel = Parcel<'r, J>;
-
-    ghost largest = { λ _. largest_of (profile_of J.names.digits.bits) };
-
-    #[inline]
-    fn alloc<R: Wait>(&mut self, rt: &R, size: usize) -> Result<Buffer<'r, J>, PoolError>
-        ensures large_enough { IfOk result (λ b. size ≤ size_of b.class) }
-        ensures too_large { (result ≡ Err TooLarge) ↔ (largest_of (profile_of J.names.digits.bits) < size) }
-        ensures serves { Serves J.names self.old size result self.new }
-    {
-        self.alloc(rt, size)
-    }
-
-    #[inline]
-    fn alloc_waiting<R: Wait + Clock>(
-        &mut self,
-        rt: &R,
-        size: usize,
-    ) -> Result<Buffer<'r, J>, PoolError>
-        ensures large_enough { IfOk result (λ b. size ≤ size_of b.class) }
-        ensures too_large { (result ≡ Err TooLarge) ↔ (largest_of (profile_of J.names.digits.bits) < size) }
-        ensures waits { result ≢ Err UsedUp }
-        ensures serves { Serves J.names self.old size result self.new }
-    {
-        self.alloc_waiting(rt, size)
-    }
-
-    fn alloc_within<R: Wait + Clock>(
-        &mut self,
-        rt: &R,
-        size: usize,
-        limit: Duration,
-    ) -> Result<Buffer<'r, J>, PoolError>
-        ensures large_enough { IfOk result (λ b. size ≤ size_of b.class) }
-        ensures too_large { (result ≡ Err TooLarge) ↔ (largest_of (profile_of J.names.digits.bits) < size) }
-        ensures serves { Serves J.names self.old size result self.new }
-    {
-        self.alloc_within(rt, size, limit)
-    }
-
-    fn parcel(&mut self, places: usize) -> Result<Parcel<'r, J>, NoMemory>
-        ensures places { IfOk result (λ p. places ≤ p.places) }
-        ensures empty { IfOk result (λ p. length p.items ≡ 0) }
-        ensures same { self.new ≡ self.old }
-    {
-        self.parcel(places)
-    }
-
-    #[inline]
-    fn free_all<R: Wait>(&mut self, rt: &R, parcel: Parcel<'r, J>)
-        ensures desk { SameDesk J.names self.old self.new }
-        ensures lent { self.new.lent ≡ self.old.lent }
-        ensures freed { self.new.freed ≡ self.old.freed ++ parcel.entry.items }
-    {
-        self.free_all(rt, parcel);
-    }
-
-    #[inline]
-    fn free<R: Wait>(&mut self, rt: &R, buffer: Buffer<'r, J>)
-        ensures desk { SameDesk J.names self.old self.new }
-        ensures lent { self.new.lent ≡ self.old.lent }
-        ensures freed { self.new.freed ≡ self.old.freed ++ buffer.entry ∷ [] }
-    {
-        self.free(rt, buffer);
-    }
-
-    fn flush<R: Wait>(&mut self, rt: &R) -> bool
-        ensures keeps { Keeps J.names self.old self.new }
-        ensures all { IsTrue result → self.new.desk.cached ≡ [] }
-    {
-        self.flush(rt)
-    }
-
-    fn collect<R: Wait>(&mut self, rt: &R) -> u32
-        ensures keeps { Keeps J.names self.old self.new }
-        ensures most { result ≤ most_taken }
-    {
-        self.collect(rt)
     }
 }
 

@@ -2,8 +2,8 @@
 //!
 //! Threads start only in a free function that names the inbox: in one that is generic over it, or in a
 //! method, the check can't tell that what a thread is given may cross to it. So a program whose desks
-//! have an inbox of another type writes two such functions itself, one around [`one_round`] and one
-//! around [`all_served`], and proves there that its inbox may be shared and its seats may cross
+//! have an inbox of another type writes two such functions itself, one around [`run_round`] and one
+//! around [`run_tasks`], and proves there that its inbox may be shared and its seats may cross
 //! (`proofs/Travels.antt` has the lemmas for the rest). All else is here.
 //!
 //! For a workload:
@@ -11,27 +11,27 @@
 //! ```text
 //! let mut rounds = Rounds::new(alloc, &fabric, gate, workload, plan, workers);
 //! for number in 0..rounds.count() {
-//!     let begun = rounds.begin::<N>(number)?;
-//!     let spent = one_round(rt, alloc, begun)?;   // in threads
-//!     rounds.take_in(spent)?;
+//!     let start = rounds.begin::<N>(number)?;
+//!     let results = run_round(rt, alloc, start)?;   // in threads
+//!     rounds.take_in(results)?;
 //! }
-//! let Back { held, counts } = rounds.end();
+//! let CrewResult { held, counts } = rounds.end();
 //! settle(rt, alloc, fabric, held, counts)
 //! ```
 //!
 //! For a program's own tasks:
 //!
 //! ```text
-//! let hands = hands(rt, alloc, &fabric, gate, wanted)?;
-//! let served = all_served(rt, alloc, hands, tasks)?;   // in threads
-//! let reported = report_of(alloc, served)?;
-//! settle_tasks(rt, alloc, fabric, reported)
+//! let workers = task_workers(rt, alloc, &fabric, gate, wanted)?;
+//! let results = run_tasks(rt, alloc, workers, tasks)?;   // in threads
+//! let report = report_tasks(alloc, results)?;
+//! settle_tasks(rt, alloc, fabric, report)
 //! ```
 
-pub use crate::back::Back;
-pub use crate::client::Applicant;
-pub use crate::counting::{Counting, Done};
-pub use crate::ended::settle_tasks;
-pub use crate::hand::{Reported, Served, all_served, hands, report_of};
-pub use crate::rounds::{Begun, Rounds, one_round};
-pub use crate::rows::Spent;
+pub use crate::counting_heap::{CountingHeap, WorkerResult};
+pub use crate::crew_result::CrewResult;
+pub use crate::report::settle_tasks;
+pub use crate::tasks::worker::{TaskReport, TaskResult, report_tasks, run_tasks, task_workers};
+pub use crate::workloads::rounds::{RoundStart, Rounds, run_round};
+pub use crate::workloads::rows::RoundResult;
+pub use crate::workloads::worker::WorkerBuilder;

@@ -1,19 +1,17 @@
 //! Tasks and workloads over the inbox of a queue.
 ghost use Rattle.std.specs.Prelude.{◌≡◌, ◌-◌, length, IfOk};
-ghost use Rattle.pool_fabric.specs.Whole.{IsWhole, IsEachDesk, AreNoted};
-ghost use Rattle.pool_fabric.specs.Audited.{Audited};
-ghost use Rattle.pool_jobs.specs.Ends.{slots_found};
+ghost use Rattle.pool_jobs.specs.Ends.{IsAccounted};
 
-use crate::back::Back;
-use crate::counting::Counting;
-use crate::ended::{Ended, Finished, settle, settle_tasks};
+use crate::counting_heap::CountingHeap;
+use crate::crew_result::CrewResult;
 use crate::error::JobError;
 use crate::gate::Gate;
-use crate::hand::{Reported, all_served, hands, report_of};
-use crate::plan::{MOST_THREADS, Plan};
-use crate::rounds::{Rounds, one_round};
-use crate::task::Task;
-use crate::workload::Workload;
+use crate::report::{RunReport, WorkReport, settle, settle_tasks};
+use crate::tasks::task::Task;
+use crate::tasks::worker::{TaskReport, report_tasks, run_tasks, task_workers};
+use crate::workloads::plan::{MOST_THREADS, Plan};
+use crate::workloads::rounds::{Rounds, run_round};
+use crate::workloads::workload::Workload;
 use batch_inbox::{Inbox, SendSeat, TakeSeat};
 use pool_fabric::{Fabric, Naming, Opening};
 use rand_core::{Rng, SeedableRng};
@@ -28,7 +26,7 @@ fn all_rounds<'a, 'r, G, N, J, R>(
     rt: &R,
     alloc: Global,
     rounds: Rounds<'a, 'r, Inbox<'r>, TakeSeat<'r>, SendSeat<'r>, G, J>,
-) -> Result<Back<'r, TakeSeat<'r>, SendSeat<'r>, J>, JobError>
+) -> Result<CrewResult<'r, TakeSeat<'r>, SendSeat<'r>, J>, JobError>
 where
     G: Gate + Sync,
     N: Rng + SeedableRng + Send + Drop,
@@ -37,40 +35,35 @@ where
 {
     let mut rounds = rounds;
     for number in 0..rounds.count() {
-        let begun = rounds.begin::<N>(number)?;
-        let spent = one_round(rt, alloc, begun)?;
-        rounds.take_in(spent)?;
+        let start = rounds.begin::<N>(number)?;
+        let results = run_round(rt, alloc, start)?;
+        rounds.take_in(results)?;
     }
     Ok(rounds.end())
 }
 
 // The same at a fabric that `J` names, and its end.
 #[inline(never)]
-fn worked<'r, G, N, J, R>(
+fn work_named<'r, G, N, J, R>(
     rt: &R,
     alloc: Global,
     opening: Opening<'r, Inbox<'r>, TakeSeat<'r>, SendSeat<'r>>,
     gate: &G,
     workload: Workload,
     plan: &Plan,
-) -> Result<Ended<'r>, JobError>
+) -> Result<WorkReport<'r>, JobError>
 where
     G: Gate + Sync,
     N: Rng + SeedableRng + Send + Drop,
     J: Naming + Send + Sync,
     R: Threads + Wait + Clock + Sync,
     requires { J.names ≡ opening }
-    ensures whole { IfOk result (λ e. IsWhole e.found.desks.items e.found.batches.items e.found.lent.items
-        e.found.freed.items e.found.parts.items opening.entry.chunks) }
-    ensures desks { IfOk result (λ e. IsEachDesk opening.entry.count e.found.desks.items) }
-    ensures drawn { IfOk result (λ e. AreNoted e.found.desks.items e.found.drawn) }
-    ensures audit { IfOk result (λ e. Audited (slots_found e.found.desks.items e.found.batches.items)
-        e.found.drawn e.tally.audit) }
+    ensures accounted { IfOk result (λ e. IsAccounted opening.entry.chunks opening.entry.count e.found e.tally.audit) }
 {
     let workers = opening.desks().min(MOST_THREADS as usize) as u32;
     let fabric = Fabric::open(alloc, opening)?;
     let rounds = Rounds::new(alloc, &fabric, gate, workload, plan, workers);
-    let Back { held, counts } = all_rounds::<G, N, J, R>(rt, alloc, rounds)?;
+    let CrewResult { held, counts } = all_rounds::<G, N, J, R>(rt, alloc, rounds)?;
     Ok(settle(rt, alloc, fabric, held, counts)?)
 }
 
@@ -90,28 +83,23 @@ pub fn work<'r, G, N, R>(
     gate: &G,
     workload: Workload,
     plan: &Plan,
-) -> Result<Ended<'r>, JobError>
+) -> Result<WorkReport<'r>, JobError>
 where
     G: Gate + Sync,
     N: Rng + SeedableRng + Send + Drop,
     R: Threads + Wait + Clock + Sync,
-    ensures whole { IfOk result (λ e. IsWhole e.found.desks.items e.found.batches.items e.found.lent.items
-        e.found.freed.items e.found.parts.items opening.entry.chunks) }
-    ensures desks { IfOk result (λ e. IsEachDesk opening.entry.count e.found.desks.items) }
-    ensures drawn { IfOk result (λ e. AreNoted e.found.desks.items e.found.drawn) }
-    ensures audit { IfOk result (λ e. Audited (slots_found e.found.desks.items e.found.batches.items)
-        e.found.drawn e.tally.audit) }
+    ensures accounted { IfOk result (λ e. IsAccounted opening.entry.chunks opening.entry.count e.found e.tally.audit) }
 {
-    worked::<G, N, Brand, R>(rt, alloc, opening, gate, workload, plan)
+    work_named::<G, N, Brand, R>(rt, alloc, opening, gate, workload, plan)
 }
 
 // All tasks, whose threads are all joined.
 fn all_tasks<'a, 'r, G, K, J, R>(
     rt: &R,
     alloc: Global,
-    hands: Vec<Counting<'a, 'r, Inbox<'r>, TakeSeat<'r>, SendSeat<'r>, G, J>>,
+    workers: Vec<CountingHeap<'a, 'r, Inbox<'r>, TakeSeat<'r>, SendSeat<'r>, G, J>>,
     tasks: Vec<K>,
-) -> Result<Reported<'r, TakeSeat<'r>, SendSeat<'r>, J, K::Answer>, JobError>
+) -> Result<TaskReport<'r, TakeSeat<'r>, SendSeat<'r>, J, K::Answer>, JobError>
 where
     G: Gate + Sync,
     K: Task + Send,
@@ -120,18 +108,18 @@ where
     K::Answer: Send,
     ensures each { IfOk result (λ r. length r.answers.items ≡ length tasks.items) }
 {
-    let served = all_served(rt, alloc, hands, tasks)?;
-    report_of(alloc, served)
+    let results = run_tasks(rt, alloc, workers, tasks)?;
+    report_tasks(alloc, results)
 }
 
 // The same at a fabric that `J` names, and its end.
-fn ran<'r, G, K, J, R>(
+fn run_named<'r, G, K, J, R>(
     rt: &R,
     alloc: Global,
     opening: Opening<'r, Inbox<'r>, TakeSeat<'r>, SendSeat<'r>>,
     gate: &G,
     tasks: Vec<K>,
-) -> Result<Finished<'r, K::Answer>, JobError>
+) -> Result<RunReport<'r, K::Answer>, JobError>
 where
     G: Gate + Sync,
     K: Task + Send,
@@ -139,20 +127,15 @@ where
     R: Threads + Wait + Clock + Sync,
     K::Answer: Send,
     requires { J.names ≡ opening }
-    ensures whole { IfOk result (λ e. IsWhole e.found.desks.items e.found.batches.items e.found.lent.items
-        e.found.freed.items e.found.parts.items opening.entry.chunks) }
-    ensures desks { IfOk result (λ e. IsEachDesk opening.entry.count e.found.desks.items) }
-    ensures drawn { IfOk result (λ e. AreNoted e.found.desks.items e.found.drawn) }
-    ensures audit { IfOk result (λ e. Audited (slots_found e.found.desks.items e.found.batches.items)
-        e.found.drawn e.tally.audit) }
+    ensures accounted { IfOk result (λ e. IsAccounted opening.entry.chunks opening.entry.count e.found e.tally.audit) }
     ensures answers { IfOk result (λ e. length e.answers.items ≡ length tasks.items) }
     ensures lost { IfOk result (λ e. e.tally.counts.lost ≡ e.tally.counts.allocated - e.tally.counts.freed) }
 {
     let wanted = tasks.len().min(MOST_THREADS as usize) as u32;
     let fabric = Fabric::open(alloc, opening)?;
-    let hands = hands(rt, alloc, &fabric, gate, wanted)?;
-    let reported = all_tasks::<G, K, J, R>(rt, alloc, hands, tasks)?;
-    settle_tasks(rt, alloc, fabric, reported)
+    let workers = task_workers(rt, alloc, &fabric, gate, wanted)?;
+    let report = all_tasks::<G, K, J, R>(rt, alloc, workers, tasks)?;
+    settle_tasks(rt, alloc, fabric, report)
 }
 
 /// Runs a program's own tasks, each in a thread of its own, and accounts for all that there is when
@@ -172,20 +155,15 @@ pub fn run<'r, G, K, R>(
     opening: Opening<'r, Inbox<'r>, TakeSeat<'r>, SendSeat<'r>>,
     gate: &G,
     tasks: Vec<K>,
-) -> Result<Finished<'r, K::Answer>, JobError>
+) -> Result<RunReport<'r, K::Answer>, JobError>
 where
     G: Gate + Sync,
     K: Task + Send,
     R: Threads + Wait + Clock + Sync,
     K::Answer: Send,
-    ensures whole { IfOk result (λ e. IsWhole e.found.desks.items e.found.batches.items e.found.lent.items
-        e.found.freed.items e.found.parts.items opening.entry.chunks) }
-    ensures desks { IfOk result (λ e. IsEachDesk opening.entry.count e.found.desks.items) }
-    ensures drawn { IfOk result (λ e. AreNoted e.found.desks.items e.found.drawn) }
-    ensures audit { IfOk result (λ e. Audited (slots_found e.found.desks.items e.found.batches.items)
-        e.found.drawn e.tally.audit) }
+    ensures accounted { IfOk result (λ e. IsAccounted opening.entry.chunks opening.entry.count e.found e.tally.audit) }
     ensures answers { IfOk result (λ e. length e.answers.items ≡ length tasks.items) }
     ensures lost { IfOk result (λ e. e.tally.counts.lost ≡ e.tally.counts.allocated - e.tally.counts.freed) }
 {
-    ran::<G, K, Brand, R>(rt, alloc, opening, gate, tasks)
+    run_named::<G, K, Brand, R>(rt, alloc, opening, gate, tasks)
 }

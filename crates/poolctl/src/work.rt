@@ -108,7 +108,7 @@ fn tally_over<'r, H: Threads + Wait + Clock + Sync>(
         seed: asked.seed,
         drop_first: asked.drop_first,
     };
-    let ended = work_linked::<NoGate, Pcg32, H>(
+    let report = work_linked::<NoGate, Pcg32, H>(
         rt,
         alloc,
         opening,
@@ -116,7 +116,7 @@ fn tally_over<'r, H: Threads + Wait + Clock + Sync>(
         asked.workload,
         &plan,
     )?;
-    Ok(ended.tally)
+    Ok(report.tally)
 }
 
 // Runs a workload over a region of its own.

@@ -7,8 +7,8 @@ use Rattle.clap.proofs.WalkLemmas.{one_text-rows}
 use Rattle.poolctl_words.specs.Asked.{AskedBy, CanRun, HasFlag, Reads, workload_name}
 use Rattle.poolctl_words.specs.declared.asked.Work as declared_work
 use Rattle.poolctl_words.specs.declared.asked.Asked.TheVariants.{Work}
-use Rattle.pool_jobs.specs.declared.workload.Workload.{Workload}
-use Rattle.pool_jobs.specs.declared.workload.Workload.TheVariants.{ProdCons, Ring, Replace}
+use Rattle.pool_jobs.specs.declared.workloads.workload.Workload.{Workload}
+use Rattle.pool_jobs.specs.declared.workloads.workload.Workload.TheVariants.{ProdCons, Ring, Replace}
 
 pub reads : (E : Type 0) (G : List ℕ → Result ℕ E → Type 0) (m : ArgMatches) (name : Text) (o : Option Text) (r : Option ℕ) → one_text (found_of m) name ≡ o
     → (o ≡ None → r ≡ None) → ((t : Text) → o ≡ Some t → ReadsOne G t r) → ((u : Text) (x : Result ℕ E) → G u x → ParsesUnsigned 32 10 u x)

@@ -10,8 +10,8 @@ use Rattle.poolctl_words.specs.declared.asked.Asked.{Asked}
 use Rattle.poolctl_words.specs.declared.asked.Asked.TheVariants.{Classes, Route, Replay, AuditedReplay, Work}
 use Rattle.poolctl_words.specs.declared.asked.Route as declared_route
 use Rattle.poolctl_words.specs.declared.asked.Work as declared_work
-use Rattle.pool_jobs.specs.declared.workload.Workload.{Workload}
-use Rattle.pool_jobs.specs.declared.workload.Workload.TheVariants.{ProdCons, Ring, Replace}
+use Rattle.pool_jobs.specs.declared.workloads.workload.Workload.{Workload}
+use Rattle.pool_jobs.specs.declared.workloads.workload.Workload.TheVariants.{ProdCons, Ring, Replace}
 
 -- the value of this name reads as the number: decimal digits, before which a plus may stand
 abbrev pub Reads : List Row → Text → ℕ → Type 0

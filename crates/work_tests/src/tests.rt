@@ -18,7 +18,8 @@ use batch_inbox::{NewMail, Receiver, Sender};
 use digit_route::Digits;
 use pool_fabric::Opening;
 use pool_jobs::{
-    Ended, Finished, Gate, NoGate, Plan, Tally, Task, Workload, run, run_linked, work, work_linked,
+    Gate, NoGate, Plan, RunReport, Tally, Task, WorkReport, Workload, run, run_linked, work,
+    work_linked,
 };
 use rand_core::{Rng, SeedableRng};
 use rand_pcg::Pcg32;
@@ -70,7 +71,7 @@ fn ended_over<'r, N, G, R>(
     ground: Ground,
     workload: Workload,
     plan: &Plan,
-) -> Result<Ended<'r>, Fail>
+) -> Result<WorkReport<'r>, Fail>
 where
     N: Rng + SeedableRng + Send + Drop,
     G: Gate + Sync,
@@ -131,7 +132,7 @@ where
             run_linked(rt, alloc, opening, &NoGate, tasks)?
         }
     };
-    let Finished {
+    let RunReport {
         answers,
         tally,
         found,

@@ -11,8 +11,8 @@ fn told<R: AllocGlobal + Wait>(rt: &R, bytes: usize) -> Result<Tally, Fail> {
     let alloc = rt.alloc();
     let mut region = Vec::from_elem(alloc, 0u8, bytes)?;
     let opening = opening_over(alloc, &mut region, 1, 4_096)?;
-    let ended = work_alone(rt, alloc, opening, 10, 512)?;
-    Ok(ended.tally)
+    let report = work_alone(rt, alloc, opening, 10, 512)?;
+    Ok(report.tally)
 }
 
 #[test]

@@ -66,7 +66,7 @@ fn outcome_of<R: AllocGlobal + Threads + Wait + Clock + Sync>(
     let mut region = Vec::from_elem(rt.alloc(), 0u8, CHUNK)?;
     let watched = watched_over(rt, &mut region, inner)?;
     Ok(Outcome {
-        tally: watched.ended.tally,
+        tally: watched.report.tally,
         posts: watched.posts,
         calls: watched.calls,
         calls_held: watched.calls_held,

@@ -24,11 +24,11 @@ fn outcome_of<R: AllocGlobal + Threads + Wait + Sync>(rt: &R) -> Result<Outcome,
     let alloc = rt.alloc();
     let mut region = Vec::from_elem(alloc, 0u8, CHUNKS * CHUNK)?;
     let opening = opening_over(alloc, &mut region, 2, 1_024)?;
-    let Handed { ended, marks } = hand_parcels(rt, alloc, opening, PARCELS)?;
+    let Handed { report, marks } = hand_parcels(rt, alloc, opening, PARCELS)?;
     Ok(Outcome {
-        counts: ended.tally.counts,
+        counts: report.tally.counts,
         marks,
-        is_whole: ended.tally.audit.is_ok(),
+        is_whole: report.tally.audit.is_ok(),
     })
 }
 

@@ -3,7 +3,7 @@
 use crate::work_alone;
 use digit_route::Digits;
 use pool_fabric::Opening;
-use pool_jobs::{Ended, NoGate, Plan, Tally, Workload, work};
+use pool_jobs::{NoGate, Plan, Tally, WorkReport, Workload, work};
 use rand_pcg::Pcg32;
 use region_cut::{CHUNK, cut};
 use slot_audit::Fault;
@@ -28,7 +28,7 @@ fn alone_over<R: Wait>(rt: &R, alloc: Global, region: &mut [u8]) -> Option<Tally
     let parts = cut(alloc, region).ok()?;
     let digits = Digits::new(2)?;
     let opening = Opening::new(alloc, parts, 1, digits, 4_096).ok()?;
-    let Ended { tally, found } = work_alone(rt, alloc, opening, 10, 512).ok()?;
+    let WorkReport { tally, found } = work_alone(rt, alloc, opening, 10, 512).ok()?;
     drop(found);
     Some(tally)
 }
@@ -49,7 +49,7 @@ fn prodcons_over<R: Threads + Wait + Clock + Sync>(
         seed: 1,
         drop_first: false,
     };
-    let ended = work::<NoGate, Pcg32, R>(
+    let report = work::<NoGate, Pcg32, R>(
         rt,
         alloc,
         opening,
@@ -57,7 +57,7 @@ fn prodcons_over<R: Threads + Wait + Clock + Sync>(
         Workload::ProdCons,
         &plan,
     ).ok()?;
-    Some(ended.tally)
+    Some(report.tally)
 }
 
 // Ten buffers were asked for. One may have found no memory, or the audit itself.

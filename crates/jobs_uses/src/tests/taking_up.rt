@@ -11,8 +11,8 @@ fn answers<R: AllocGlobal + Wait>(rt: &R) -> Result<Answers, Fail> {
     let alloc = rt.alloc();
     let mut region = Vec::from_elem(alloc, 0u8, CHUNK)?;
     let opening = opening_over(alloc, &mut region, 2, 4_096)?;
-    let TakenUp { answers, ended } = take_up_desk(rt, alloc, opening)?;
-    ended.tally.audit.ok().ok_or("an audit")?;
+    let TakenUp { answers, report } = take_up_desk(rt, alloc, opening)?;
+    report.tally.audit.ok().ok_or("an audit")?;
     Ok(answers)
 }
 

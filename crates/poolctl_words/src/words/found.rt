@@ -3,7 +3,7 @@ ghost use Rattle.std.specs.Prelude.{◌≡◌, ◌≢◌, ◌≤◌, true, codes
 ghost use Rattle.clap.specs.Words.{first_of, found_of, rows_of, subcommand_rows_of};
 ghost use Rattle.poolctl_words.specs.Asked.{AskedBy, HasFlag, IsReplay, IsRoute, IsWork, NamesWorkload, Reads};
 ghost use Rattle.poolctl_words.specs.Asked.{workload_name};
-ghost use Rattle.pool_jobs.specs.declared.workload.Workload.{Workload};
+ghost use Rattle.pool_jobs.specs.declared.workloads.workload.Workload.{Workload};
 
 use super::limits::{LEAST_THREADS, MOST_CHUNKS, MOST_LIMIT};
 use super::subcommands::{AUDIT, DROP, NAME};

@@ -7,17 +7,17 @@ use denote.Param.Send.{IsSend, IsSync, AllSend, sendable, struct_send, view_send
 use Rattle.std.specs.contracts.alloc.Global as Heap
 use Rattle.std.specs.contracts.impls.GlobalAllocator.TheImpl.{ghosts}
 use Rattle.std.proofs.Crossing.{crosses, frees, send, sync}
-use Rattle.slot_chain.specs.contracts.parcel.Parcel as Packed
+use Rattle.slot_chain.specs.contracts.parcel.BufParcel as Packed
 use Rattle.digit_route.proofs.Travels.{buf_send}
 use Rattle.batch_inbox.specs.declared.mail.Mailbox as Mailbox
 use Rattle.batch_inbox.specs.declared.mail.Receiver as Receiver
 use Rattle.batch_inbox.specs.declared.mail.Sender as Sender
 use Rattle.pool_fabric.specs.declared.naming.Naming as Naming
 use Rattle.pool_fabric.proofs.Travels.{fabric_sync, held_send, send_fields, inbox_sync, take_send, seat_send}
-use Rattle.pool_jobs.specs.contracts.allocator.Entrance as Entrance
+use Rattle.pool_jobs.specs.contracts.entrance.Entrance as Entrance
 use Rattle.pool_jobs.specs.contracts.gate.NoGate as NoGate
-use Rattle.pool_jobs.specs.contracts.parcel.Parcel as Parcel
-use Rattle.pool_jobs.specs.contracts.parcel.Parcel.TheInside as InParcel
+use Rattle.pool_jobs.specs.contracts.buffers.parcel.Parcel as Parcel
+use Rattle.pool_jobs.specs.contracts.buffers.parcel.Parcel.TheInside as InParcel
 use Rattle.crossbeam_channel.proofs.channel.Sender.TheSendSync.{the_send as to_send}
 use Rattle.crossbeam_channel.proofs.channel.Receiver.TheSendSync.{the_send as from_send}
 use Rattle.jobs_uses.specs.contracts.handing.Packing as Packing

@@ -1,4 +1,4 @@
 use Rattle.pool_jobs.proofs.over_link.run_linked.Given as goal
 
-abbrev pub ghosts-ran : goal.ghosts-ran
-ghosts-ran g a = record { names = a.opening }
+abbrev pub ghosts-run_named : goal.ghosts-run_named
+ghosts-run_named g a = record { names = a.opening }

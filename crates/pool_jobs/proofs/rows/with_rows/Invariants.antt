@@ -1,5 +1,0 @@
-use Rattle.std.proofs.Common.{◌≡◌, length}
-use Rattle.pool_jobs.proofs.rows.with_rows.Given as goal
-
-abbrev pub invariant-loop-starter : goal.invariant-loop-starter
-invariant-loop-starter g l = length l.turns.items ≡ length l.yielded

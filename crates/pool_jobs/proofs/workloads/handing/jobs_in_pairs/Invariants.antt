@@ -1,0 +1,5 @@
+use Rattle.std.proofs.Common.{◌≡◌, length}
+use Rattle.pool_jobs.proofs.workloads.handing.jobs_in_pairs.Given as goal
+
+abbrev pub invariant-loop-builder : goal.invariant-loop-builder
+invariant-loop-builder g l = length l.jobs.items ≡ length l.yielded

@@ -1,0 +1,199 @@
+//! A heap that counts its calls.
+ghost use Rattle.std.specs.Prelude.{◌≡◌, ◌≢◌, ◌<◌, ◌≤◌, ◌↔◌, ◌+◌, [], ◌∷◌, ◌++◌, length, IsTrue, IfOk, IfSome};
+ghost use Rattle.region_cut.specs.Classes.{size_of, largest_of};
+ghost use Rattle.digit_route.specs.Profiles.{profile_of};
+ghost use Rattle.pool_fabric.specs.Limits.{most_taken};
+ghost use Rattle.pool_jobs.specs.declared.error.PoolError.TheVariants.{TooLarge, UsedUp};
+ghost use Rattle.slot_chain.specs.Counts.{capped};
+ghost use Rattle.pool_jobs.specs.Counted.{Counts, none_counted};
+ghost use Rattle.pool_jobs.specs.Serving.{Keeps, SameDesk, Serves};
+
+use crate::allocator::Allocator;
+use crate::buffers::buffer::Buffer;
+use crate::buffers::parcel::Parcel;
+use crate::error::PoolError;
+use crate::gate::Gate;
+use crate::tally::BufferCounts;
+use crate::tasks::heap::Heap;
+use batch_inbox::{Mail, Mailbox, Receiver, Sender};
+use pool_fabric::{HeldStation, Naming};
+use slot_chain::NoMemory;
+use std::sync::Wait;
+use std::time::{Clock, Duration};
+
+/// What a worker gives back: its station, where the shelf didn't take it, and its counts.
+#[derive(Drop)]
+pub struct WorkerResult<'r, T: Receiver, S: Sender, J: Naming> {
+    pub(crate) station: Option<HeldStation<'r, T, S, J>>,
+    pub(crate) counts: BufferCounts,
+}
+
+/// An allocator that counts its calls, as [`run`](crate::run) gives it to a task.
+#[derive(Drop)]
+pub struct CountingHeap<'a, 'r, M: Mailbox, T: Receiver, S: Sender, G: Gate, J: Naming> {
+    allocator: Allocator<'a, 'r, M, T, S, G, J>,
+    counts: BufferCounts,
+}
+
+impl<'a, 'r, M: Mailbox, T: Receiver, S: Sender, G: Gate, J: Naming> CountingHeap<
+    'a,
+    'r,
+    M,
+    T,
+    S,
+    G,
+    J,
+> {
+    /// Nothing is counted yet.
+    pub(crate) fn new(
+        allocator: Allocator<'a, 'r, M, T, S, G, J>,
+    ) -> CountingHeap<'a, 'r, M, T, S, G, J>
+        ensures same { result.allocator ≡ allocator.entry }
+        ensures counts { result.counts ≡ none_counted }
+    {
+        CountingHeap {
+            allocator,
+            counts: BufferCounts::none(),
+        }
+    }
+
+    /// Drops a buffer, and counts it.
+    pub(crate) fn lose(&mut self, buffer: Buffer<'r, J>)
+        ensures same { self.new.allocator ≡ self.old.allocator }
+        ensures counted { self.new.counts ≡ record self.old.counts { lost = capped (self.old.counts.lost + 1) } }
+    {
+        self.counts.lost = self.counts.lost.saturating_add(1);
+        drop(buffer);
+    }
+}
+
+impl<
+    'a,
+    'r,
+    T: Receiver,
+    S: Sender,
+    M: Mail<'r, TakeSeat = T, SendSeat = S>,
+    G: Gate,
+    J: Naming,
+> CountingHeap<'a, 'r, M, T, S, G, J> {
+    /// Ends the work.
+    pub(crate) fn end<R: Wait>(self, rt: &R) -> WorkerResult<'r, T, S, J>
+        ensures counts { result.counts ≡ self.entry.counts }
+        ensures station { IfSome result.station (λ s. Keeps J.names self.entry.allocator s) }
+    {
+        let CountingHeap { allocator, counts } = self;
+        let station = allocator.retire(rt);
+        WorkerResult { station, counts }
+    }
+}
+
+impl<
+    'a,
+    'r,
+    T: Receiver,
+    S: Sender,
+    M: Mail<'r, TakeSeat = T, SendSeat = S>,
+    G: Gate,
+    J: Naming,
+> Heap for CountingHeap<'a, 'r, M, T, S, G, J> {
+    ghost use Rattle.region_cut.specs.Classes.{largest_of};
+    ghost use Rattle.digit_route.specs.Profiles.{profile_of};
+
+    type Buffer = Buffer<'r, J>;
+
+    type Parcel = Parcel<'r, J>;
+
+    ghost largest = { λ _. largest_of (profile_of J.names.digits.bits) };
+
+    #[inline]
+    fn alloc<R: Wait>(&mut self, rt: &R, size: usize) -> Result<Buffer<'r, J>, PoolError>
+        ensures large_enough { IfOk result (λ b. size ≤ size_of b.class) }
+        ensures too_large { (result ≡ Err TooLarge) ↔ (largest_of (profile_of J.names.digits.bits) < size) }
+        ensures serves { Serves J.names self.old.allocator size result self.new.allocator }
+        ensures counted { Counts self.old.counts result self.new.counts }
+    {
+        let answer = self.allocator.alloc(rt, size);
+        self.counts.count(answer.is_ok());
+        answer
+    }
+
+    #[inline]
+    fn alloc_waiting<R: Wait + Clock>(
+        &mut self,
+        rt: &R,
+        size: usize,
+    ) -> Result<Buffer<'r, J>, PoolError>
+        ensures large_enough { IfOk result (λ b. size ≤ size_of b.class) }
+        ensures too_large { (result ≡ Err TooLarge) ↔ (largest_of (profile_of J.names.digits.bits) < size) }
+        ensures waits { result ≢ Err UsedUp }
+        ensures serves { Serves J.names self.old.allocator size result self.new.allocator }
+        ensures counted { Counts self.old.counts result self.new.counts }
+    {
+        let answer = self.allocator.alloc_waiting(rt, size);
+        self.counts.count(answer.is_ok());
+        answer
+    }
+
+    fn alloc_within<R: Wait + Clock>(
+        &mut self,
+        rt: &R,
+        size: usize,
+        limit: Duration,
+    ) -> Result<Buffer<'r, J>, PoolError>
+        ensures large_enough { IfOk result (λ b. size ≤ size_of b.class) }
+        ensures too_large { (result ≡ Err TooLarge) ↔ (largest_of (profile_of J.names.digits.bits) < size) }
+        ensures serves { Serves J.names self.old.allocator size result self.new.allocator }
+        ensures counted { Counts self.old.counts result self.new.counts }
+    {
+        let answer = self.allocator.alloc_within(rt, size, limit);
+        self.counts.count(answer.is_ok());
+        answer
+    }
+
+    #[inline]
+    fn free<R: Wait>(&mut self, rt: &R, buffer: Buffer<'r, J>)
+        ensures desk { SameDesk J.names self.old.allocator self.new.allocator }
+        ensures lent { self.new.allocator.lent ≡ self.old.allocator.lent }
+        ensures freed { self.new.allocator.freed ≡ self.old.allocator.freed ++ buffer.entry ∷ [] }
+        ensures counted { self.new.counts ≡ record self.old.counts { freed = capped (self.old.counts.freed + 1) } }
+    {
+        self.counts.freed = self.counts.freed.saturating_add(1);
+        self.allocator.free(rt, buffer);
+    }
+
+    fn parcel(&mut self, places: usize) -> Result<Parcel<'r, J>, NoMemory>
+        ensures places { IfOk result (λ p. places ≤ p.places) }
+        ensures empty { IfOk result (λ p. length p.items ≡ 0) }
+        ensures same { self.new ≡ self.old }
+    {
+        self.allocator.parcel(places)
+    }
+
+    #[inline]
+    fn free_all<R: Wait>(&mut self, rt: &R, parcel: Parcel<'r, J>)
+        ensures desk { SameDesk J.names self.old.allocator self.new.allocator }
+        ensures lent { self.new.allocator.lent ≡ self.old.allocator.lent }
+        ensures freed { self.new.allocator.freed ≡ self.old.allocator.freed ++ parcel.entry.items }
+        ensures counted { self.new.counts
+            ≡ record self.old.counts { freed = capped (self.old.counts.freed + length parcel.entry.items) } }
+    {
+        self.counts.freed = self.counts.freed.saturating_add(parcel.len() as u64);
+        self.allocator.free_all(rt, parcel);
+    }
+
+    fn flush<R: Wait>(&mut self, rt: &R) -> bool
+        ensures keeps { Keeps J.names self.old.allocator self.new.allocator }
+        ensures all { IsTrue result → self.new.allocator.desk.cached ≡ [] }
+        ensures counted { self.new.counts ≡ self.old.counts }
+    {
+        self.allocator.flush(rt)
+    }
+
+    fn collect<R: Wait>(&mut self, rt: &R) -> u32
+        ensures keeps { Keeps J.names self.old.allocator self.new.allocator }
+        ensures most { result ≤ most_taken }
+        ensures counted { self.new.counts ≡ self.old.counts }
+    {
+        self.allocator.collect(rt)
+    }
+}

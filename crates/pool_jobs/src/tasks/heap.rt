@@ -1,0 +1,77 @@
+//! What a task sees of its allocator. These traits name no lifetime, so a thread may run over them.
+ghost use Rattle.std.specs.Prelude.{◌≡◌, ◌≢◌, ◌+◌, ◌<◌, ◌≤◌, ◌↔◌, length, IfOk};
+ghost use Rattle.pool_jobs.specs.declared.error.PoolError.TheVariants.{TooLarge, UsedUp};
+
+use crate::buffers::burst::Burst;
+use crate::buffers::bytes::Bytes;
+use crate::error::PoolError;
+use slot_chain::NoMemory;
+use std::sync::Wait;
+use std::time::{Clock, Duration};
+
+/// An allocator in the hands of a task.
+pub trait Heap: Drop {
+    ghost use Rattle.std.specs.Prelude.{ℕ};
+
+    type Buffer: Bytes;
+
+    type Parcel: Burst<Self::Buffer>;
+
+    /// The greatest size that it gives.
+    ghost largest: { Self → ℕ };
+
+    /// A buffer of at least `size` bytes, of which nothing is filled. It is [`PoolError::TooLarge`] where
+    /// no class has as many, and only there.
+    fn alloc<R: Wait>(&mut self, rt: &R, size: usize) -> Result<Self::Buffer, PoolError>
+        ensures large_enough { IfOk result (λ b. size ≤ Self.Buffer.size b) }
+        ensures too_large { (result ≡ Err TooLarge) ↔ (largest self.old < size) }
+        ensures largest { largest self.new ≡ largest self.old };
+
+    /// The same, and where the pool is used up it waits until a slot comes home: it posts what it keeps of
+    /// others, takes what came, yields, and then sleeps, so that it uses little of a core.
+    ///
+    /// A task that waits while it holds back what others need can wait for ever, as one does that waits
+    /// for more buffers than the pool has.
+    fn alloc_waiting<R: Wait + Clock>(
+        &mut self,
+        rt: &R,
+        size: usize,
+    ) -> Result<Self::Buffer, PoolError>
+        ensures large_enough { IfOk result (λ b. size ≤ Self.Buffer.size b) }
+        ensures too_large { (result ≡ Err TooLarge) ↔ (largest self.old < size) }
+        ensures waits { result ≢ Err UsedUp }
+        ensures largest { largest self.new ≡ largest self.old };
+
+    /// The same, but it waits no longer than `limit`, or a millisecond more: it is [`PoolError::UsedUp`]
+    /// then. Where the clock can't be read it doesn't wait.
+    fn alloc_within<R: Wait + Clock>(
+        &mut self,
+        rt: &R,
+        size: usize,
+        limit: Duration,
+    ) -> Result<Self::Buffer, PoolError>
+        ensures large_enough { IfOk result (λ b. size ≤ Self.Buffer.size b) }
+        ensures too_large { (result ≡ Err TooLarge) ↔ (largest self.old < size) }
+        ensures largest { largest self.new ≡ largest self.old };
+
+    /// Takes a buffer back, whichever allocator of the pool gave it.
+    fn free<R: Wait>(&mut self, rt: &R, buffer: Self::Buffer);
+
+    /// An empty parcel for buffers of this allocator, with room for at least so many.
+    fn parcel(&mut self, places: usize) -> Result<Self::Parcel, NoMemory>
+        ensures places { IfOk result (λ p. places ≤ Self.Parcel.places p) }
+        ensures empty { IfOk result (λ p. Self.Parcel.count p ≡ 0) }
+        ensures largest { largest self.new ≡ largest self.old };
+
+    /// Takes all buffers of a parcel back, whichever allocator of the pool made it.
+    fn free_all<R: Wait>(&mut self, rt: &R, parcel: Self::Parcel);
+
+    /// Posts all of others' buffers that are cached here, so that they come home, and says whether all
+    /// went. To be called before a task waits for others: they may need those slots.
+    fn flush<R: Wait>(&mut self, rt: &R) -> bool
+        ensures largest { largest self.new ≡ largest self.old };
+
+    /// Takes what came home, at most 64 batches, and says how many it took.
+    fn collect<R: Wait>(&mut self, rt: &R) -> u32
+        ensures largest { largest self.new ≡ largest self.old };
+}

@@ -1,0 +1,34 @@
+//! What a program does at a pool, in threads of its own.
+use crate::tasks::channels::Channels;
+use crate::tasks::heap::Heap;
+use std::sync::Wait;
+use std::time::Clock;
+
+/// How many messages may wait at the end of an edge, where a task doesn't say otherwise.
+pub const DEFAULT_BOUND: usize = 64;
+
+/// What one thread of a program does, at an allocator of its own.
+///
+/// The trait names no lifetime and no inbox, so that a thread may own a task. A task answers with a
+/// value that holds no buffer: what it neither freed nor handed on is dropped, and its slot is lost
+/// until the region's borrow ends.
+pub trait Task: Drop {
+    /// What it answers at its end, as a sum or a fault of its own.
+    type Answer: Drop;
+
+    /// Whether it hands buffers or parcels to the task of this number. It is asked before any task runs.
+    fn sends_to(&self, task: usize) -> bool;
+
+    /// How many messages may wait at the end of the edge to this task, before a send waits.
+    fn bound(&self, _task: usize) -> usize {
+        DEFAULT_BOUND
+    }
+
+    /// Does the work. The ends of its channels are closed when it returns, at the latest.
+    fn run<H: Heap, R: Wait + Clock>(
+        self,
+        rt: &R,
+        heap: &mut H,
+        channels: Channels<H::Buffer, H::Parcel>,
+    ) -> Self::Answer;
+}
