@@ -9,13 +9,14 @@
 //! This crate has what a program names; `pool_jobs` and the crates below it have the parts.
 #![tactic(auto)]
 
+pub mod own_threads;
 mod pool;
 
 pub use digit_route::Digits;
 pub use pool::{InboxKind, Pool};
 pub use pool_jobs::{
-    BufferCounts, Burst, Bytes, Channels, DEFAULT_BOUND, Data, Finished, Heap, JobError, Message,
-    PoolError, Tally, Task, Unsent,
+    Allocator, Buffer, BufferCounts, Burst, Bytes, Channels, DEFAULT_BOUND, Data, Heap, JobError,
+    Message, Parcel, PoolError, RunReport, Tally, Task, Unsent,
 };
 pub use region_cut::{CHUNK, CutError, MAX_CHUNKS};
 pub use slot_chain::{Full, NoMemory};

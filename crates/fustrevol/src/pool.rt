@@ -5,9 +5,7 @@ ghost use Rattle.region_cut.specs.Parts.{numbers_from};
 ghost use Rattle.region_cut.specs.declared.error.CutError.TheVariants.{TooMany};
 ghost use Rattle.digit_route.specs.Limits.{largest_limit};
 ghost use Rattle.pool_fabric.specs.Opened.{most_desks};
-ghost use Rattle.pool_fabric.specs.Whole.{IsWhole, IsEachDesk, AreNoted};
-ghost use Rattle.pool_fabric.specs.Audited.{Audited};
-ghost use Rattle.pool_jobs.specs.Ends.{slots_found};
+ghost use Rattle.pool_jobs.specs.Ends.{IsAccounted};
 ghost use Rattle.fustrevol.specs.Pools.{desks_for};
 ghost use Rattle.fustrevol.specs.declared.pool.InboxKind.TheVariants.{Linked};
 
@@ -15,7 +13,7 @@ use batch_inbox::Inbox;
 use digit_route::Digits;
 use link_inbox::LinkInbox;
 use pool_fabric::Opening;
-use pool_jobs::{Finished, JobError, MOST_THREADS, NoGate, Task, run, run_linked};
+use pool_jobs::{JobError, MOST_THREADS, NoGate, RunReport, Task, run, run_linked};
 use region_cut::{CHUNK, CutError, Part, cut};
 use std::alloc::Global;
 use std::fmt;
@@ -133,7 +131,7 @@ impl<'r> Pool<'r> {
     }
 
     // How many bytes of others' buffers each of so many threads keeps.
-    #[tactic(auto, using(crate::proofs::Numbers::numbered_few))]
+    #[tactic(auto, using(region_cut::proofs::Numbered::numbered_few))]
     fn limit_for(&self, desks: u16) -> u64
         requires { 1 ≤ desks }
         ensures { result ≤ largest_limit }
@@ -156,17 +154,13 @@ impl<'r> Pool<'r> {
     /// [`JobError::NoThread`] is answered where a thread could not be started, and
     /// [`JobError::NoMemory`] where memory was refused outside the pool. The threads that were started have
     /// ended then, and the pool is given up.
-    pub fn run<K, R>(self, rt: &R, tasks: Vec<K>) -> Result<Finished<'r, K::Answer>, JobError>
+    pub fn run<K, R>(self, rt: &R, tasks: Vec<K>) -> Result<RunReport<'r, K::Answer>, JobError>
     where
         K: Task + Send,
         R: Threads + Wait + Clock + Sync,
         K::Answer: Send,
-        ensures whole { IfOk result (λ e. IsWhole e.found.desks.items e.found.batches.items e.found.lent.items
-            e.found.freed.items e.found.parts.items self.entry.chunks) }
-        ensures desks { IfOk result (λ e. IsEachDesk (desks_for (length tasks.items)) e.found.desks.items) }
-        ensures drawn { IfOk result (λ e. AreNoted e.found.desks.items e.found.drawn) }
-        ensures audit { IfOk result (λ e. Audited (slots_found e.found.desks.items e.found.batches.items)
-            e.found.drawn e.tally.audit) }
+        ensures accounted { IfOk result (λ e.
+            IsAccounted self.entry.chunks (desks_for (length tasks.items)) e.found e.tally.audit) }
         ensures answers { IfOk result (λ e. length e.answers.items ≡ length tasks.items) }
         ensures lost { IfOk result (λ e. e.tally.counts.lost ≡ e.tally.counts.allocated - e.tally.counts.freed) }
     {

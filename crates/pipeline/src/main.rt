@@ -1,8 +1,7 @@
 //! A packet pipeline: the first thread fills buffers, the second one looks at them, the third one looks again and frees
-//! them. A thousand packets go in parcels, a thousand one by one. Each edge holds eight messages.
+//! them. A thousand packets go in parcels, a thousand one by one. Each edge holds eight messages. Two packets are spoiled
+//! on purpose, for the other stages to find.
 #![tactic(auto)]
-
-ghost use Rattle.std.specs.Prelude.{◌≡◌, ◌↔◌, All, IsTrue};
 
 use anyhow::Context;
 use fustrevol::{Burst, Bytes, CHUNK, Data, Edges, Heap, Message, Pool, PoolError, Task};
@@ -46,16 +45,11 @@ fn byte_of(number: u32) -> u8 {
     (number % 251) as u8
 }
 
-fn holds_only(data: &[u8], byte: u8) -> bool
-    ensures { IsTrue result ↔ All (λ b. b ≡ byte) data.now }
-{
-    data.iter().all(|b| *b == byte)
-}
-
-// A buffer with the packet of this number. Where the pool is used up it waits until a slot comes home.
+// A buffer with the packet of this number. Where the pool is used up it waits until a slot comes home. Each
+// thousandth packet is spoiled.
 fn packet<H: Heap, R: Wait + Clock>(rt: &R, heap: &mut H, n: u32) -> Result<H::Buffer, PoolError> {
     let mut buffer = heap.alloc_waiting(rt, length_of(n))?;
-    buffer.fill(byte_of(n));
+    buffer.fill(if n % 1_000 == 999 { 255 } else { byte_of(n) });
     buffer.truncate(length_of(n));
     Ok(buffer)
 }
@@ -72,12 +66,13 @@ fn fill<H: Heap, R: Wait + Clock>(rt: &R, heap: &mut H, to: &Edges<H>) -> <Stage
         let buffer = packet(rt, heap, n)?;
         let _ended = to.send_buffer(rt, heap, 1, buffer);
     }
-    Ok((2_000, 2_000))
+    Ok((2_000, 1_998))
 }
 
 // Counts the next packet, and whether it has the length and the bytes of its number.
 fn see(seen: &mut (u32, u32), data: &[u8]) {
-    let whole = data.len() == length_of(seen.0) && holds_only(data, byte_of(seen.0));
+    let byte = byte_of(seen.0);
+    let whole = data.len() == length_of(seen.0) && data.iter().all(|b| *b == byte);
     seen.0 = seen.0.wrapping_add(1);
     seen.1 = seen.1.wrapping_add(u32::from(whole));
 }
