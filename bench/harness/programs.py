@@ -77,9 +77,13 @@ def listed(file):
     return {line.partition(":")[0].split()[0]: line for line in lines if line.strip() and not line.startswith("#")}
 
 
+# Those that a table is of, or that go by another name.
+OF_TABLES = ["desk_bench", "jobs_bench", "road_bench", "defaults_bench", "idle_bench", "edges_bench"]
+
+
 def further():
-    """The programs of crates.txt.in beside those that the tables are of: each prints a table of its own."""
-    return [name for name in listed(HERE / "crates.txt.in") if name not in ("desk_bench", "jobs_bench", "road_bench")]
+    """The programs of crates.txt.in beside these: each prints a table of its own."""
+    return [name for name in listed(HERE / "crates.txt.in") if name not in OF_TABLES]
 
 
 def needed(name, lines):
@@ -149,6 +153,14 @@ def jobs_bench():
 
 def road_bench():
     return rattle_program("road_bench", ["1000", "64"])
+
+
+def defaults_bench():
+    return rattle_program("defaults_bench", ["prodcons", "64", "1000", "0", "default", "0"])
+
+
+def idle_bench():
+    return rattle_program("idle_bench", ["receive", "1"])
 
 
 def poolctl():
