@@ -2,10 +2,8 @@
 """Reads off the built program `poolctl` how much stack each of its functions takes for its locals.
 
 Disassembles it with `objdump`, and follows how far each function moves the stack's pointer down. Prints the functions
-above `WANTED` bytes, the largest first. The exit status is 1 where one is above `HOLDS` bytes, and 2 where the program
-can't be read, or has a frame whose size stands in a register.
-
-No frame above `WANTED` is the aim: what is large lies on the heap. `HOLDS` is what holds so far, and only falls.
+above `TOLD` bytes, the largest first. The exit status is 1 where one is above `MOST` bytes, and 2 where the program
+can't be read, or has a frame whose size stands in a register. What is large lies on the heap.
 """
 import pathlib
 import re
@@ -15,8 +13,8 @@ import sys
 TOP = pathlib.Path(__file__).resolve().parent.parent
 PROGRAM = TOP / "crates" / "poolctl" / "out" / "poolctl"
 
-WANTED = 16 << 10
-HOLDS = 20 << 10
+TOLD = 12 << 10
+MOST = 16 << 10
 
 FUNCTION = re.compile(r"^[0-9a-f]+ <(.+)>:$")
 INSTRUCTION = re.compile(r"^ *[0-9a-f]+:\t(.*)$")
@@ -84,11 +82,11 @@ def main():
     if unknown or len(found) < 100:
         print(f"the frames of {PROGRAM} can't be read: {len(found)} functions, of unknown size {unknown[:3]}")
         sys.exit(2)
-    large = sorted(((frame.most, name) for name, frame in found.items() if frame.most > WANTED), reverse=True)
+    large = sorted(((frame.most, name) for name, frame in found.items() if frame.most > TOLD), reverse=True)
     for size, name in large:
-        print(f"{'TOO LARGE' if size > HOLDS else 'large'}: {size} bytes of stack: {name}")
-    print(f"{len(found)} functions, {len(large)} with a frame above {WANTED} bytes")
-    sys.exit(1 if large and large[0][0] > HOLDS else 0)
+        print(f"{'TOO LARGE' if size > MOST else 'large'}: {size} bytes of stack: {name}")
+    print(f"{len(found)} functions, {len(large)} with a frame above {TOLD} bytes")
+    sys.exit(1 if large and large[0][0] > MOST else 0)
 
 
 main()

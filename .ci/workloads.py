@@ -8,7 +8,8 @@ counts, rounds, widths of a digit, limits and regions that change from run to ru
 among them. A run has to end within a minute, with an audit that is `yes`. It frees whatever it allocated, loses
 nothing, and each buffer that was asked for was allocated or is told as starved; where the region has chunks enough
 for all sizes at each worker, none is. Each tenth run drops one buffer: then one is lost, and the audit names a slot
-that is missing.
+that is missing. Of a region of one chunk, no more buffers are allocated than it has slots where a cache may keep all of
+its bytes, and many more where a cache may keep none.
 
 The program is `crates/poolctl/out/poolctl`, which `rt ci` and `rt run` leave. Prints a line for each workload and
 count of threads, and each run that went otherwise. The exit status is 1 where one did, and 2 with no program.
@@ -33,6 +34,10 @@ LIMITS = (0, 64, 4096, 1_048_576)
 CHUNKS = (1024, 1, 64, 0)
 CLASSES = 16
 PLACES = 16
+CHUNK = 4096
+
+# The most slots that a chunk is cut into.
+SLOTS = 256
 
 
 def asked(workload, threads, count, rounds):
@@ -80,6 +85,17 @@ def wrong(workload, threads, number, choice):
     return None if good else f"{' '.join(words)}: status {run.returncode}: {run.stdout!r} {run.stderr!r}"
 
 
+def ignored_limit():
+    """What is wrong with how the limit is used, or None."""
+    def allocated(limit):
+        words = ["work", "prodcons", "--threads=2", "--count=20000", "--chunks=1", f"--limit={limit}"]
+        run = subprocess.run([PROGRAM, *words], capture_output=True, text=True, timeout=SECONDS)
+        return int(re.search(r"^allocated (\d+)$", run.stdout, re.MULTILINE)[1])
+
+    kept, posted = allocated(CHUNK), allocated(0)
+    return None if kept <= SLOTS < posted else f"of one chunk {kept} and {posted} buffers, with limits of a chunk and of 0"
+
+
 def main():
     parser = argparse.ArgumentParser(description="Runs each workload of `poolctl work` many times.")
     parser.add_argument("--times", type=int, default=200, help="runs of each workload at each count of threads")
@@ -100,6 +116,9 @@ def main():
             print(f"{workload} with {threads} threads: {times} runs, {len(said)} failed, "
                   f"{time.monotonic() - start:.0f} s", flush=True)
             failed += len(said)
+    if said := ignored_limit():
+        print(f"NOT AS IT SHOULD BE: {said}")
+        failed += 1
     return 1 if failed else 0
 
 

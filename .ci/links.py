@@ -1,0 +1,26 @@
+#!/usr/bin/env python3
+"""Whether each link of a document to a file of this repository leads to one.
+
+Prints each that doesn't, and how many there are. The exit status is 1 where one leads nowhere.
+"""
+import pathlib
+import re
+import subprocess
+import sys
+
+TOP = pathlib.Path(__file__).resolve().parent.parent
+LINK = re.compile(r"\[[^\]]*\]\(([^)#\s]+)[^)]*\)")
+
+
+def main():
+    listed = subprocess.run(["git", "ls-files", "*.md"], cwd=TOP, stdout=subprocess.PIPE, text=True, check=True).stdout
+    links = [(page, link) for page in listed.split() for link in LINK.findall((TOP / page).read_text()) if "://" not in link]
+    lost = [(page, link) for page, link in links if not ((TOP / page).parent / link).exists()]
+    for page, link in lost:
+        print(f"{page}: {link} is not there")
+    print(f"{len(links)} links, {len(lost)} lead nowhere")
+    return 1 if lost else 0
+
+
+if __name__ == "__main__":
+    sys.exit(main())
