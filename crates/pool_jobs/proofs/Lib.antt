@@ -3,3 +3,4 @@ pub mod Looking
 pub mod Largest
 pub mod Travels
 pub mod Waits
+pub mod Fillings

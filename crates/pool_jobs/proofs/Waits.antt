@@ -22,6 +22,7 @@ serves_since names old mid n (Ok b) new s h = (
   record {
     desk = record { number = h.1.desk.number ∙ s.number; digits = h.1.desk.digits };
     owner = h.1.owner ∙ s.number;
+    empty = h.1.empty;
     lent = h.1.lent ∙ ap (λ bs. bs ++ b ∷ []) s.lent;
     freed = h.1.freed ∙ s.freed;
   },

@@ -21,10 +21,11 @@ pub record Keeps (names : Names) (old new : StationState) : Type 0 where
   pub lent : new.lent ≡ old.lent
   pub freed : new.freed ≡ old.freed
 
--- this buffer of the desk's own was lent out, and none was freed
+-- this buffer of the desk's own was lent out, of which nothing is filled, and none was freed
 pub record LendsOut (names : Names) (old : StationState) (b : Buffer) (new : StationState) : Type 0 where
   pub desk : SameDesk names old new
   pub owner : b.owner ≡ old.desk.number
+  pub empty : b.filled ≡ 0
   pub lent : new.lent ≡ old.lent ++ b ∷ []
   pub freed : new.freed ≡ old.freed
 

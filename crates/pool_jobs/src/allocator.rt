@@ -144,6 +144,7 @@ impl<
 
     // Asks the desk.
     #[inline(always)]
+    #[tactic(auto, using(crate::proofs::Fillings::lent_empty))]
     fn ask(&mut self, class: Class) -> Result<Buffer<'r, J>, PoolError>
         requires { class < classes_of (profile_of J.names.digits.bits) }
         ensures { ServesClass J.names self.old class result self.new }

@@ -1,10 +1,11 @@
 //! A heap that counts its calls.
-ghost use Rattle.std.specs.Prelude.{◌≡◌, ◌≢◌, ◌<◌, ◌≤◌, ◌↔◌, ◌+◌, [], ◌∷◌, ◌++◌, length, IsTrue, IfOk, IfSome};
+ghost use Rattle.std.specs.Prelude.{◌≡◌, ◌≢◌, ◌<◌, ◌≤◌, ◌↔◌, ◌+◌, [], ◌∷◌, ◌++◌, length, map, IsTrue, IfOk, IfSome};
 ghost use Rattle.region_cut.specs.Classes.{size_of, largest_of};
 ghost use Rattle.digit_route.specs.Profiles.{profile_of};
 ghost use Rattle.pool_fabric.specs.Limits.{most_taken};
 ghost use Rattle.pool_jobs.specs.declared.error.PoolError.TheVariants.{TooLarge, UsedUp};
 ghost use Rattle.slot_chain.specs.Counts.{capped};
+ghost use Rattle.slot_chain.specs.Filling.{data_of};
 ghost use Rattle.pool_jobs.specs.Counted.{Counts, none_counted};
 ghost use Rattle.pool_jobs.specs.Serving.{Keeps, SameDesk, Serves};
 
@@ -108,6 +109,7 @@ impl<
     #[inline]
     fn alloc<R: Wait>(&mut self, rt: &R, size: usize) -> Result<Buffer<'r, J>, PoolError>
         ensures large_enough { IfOk result (λ b. size ≤ size_of b.class) }
+        ensures empty { IfOk result (λ b. b.filled ≡ 0) }
         ensures too_large { (result ≡ Err TooLarge) ↔ (largest_of (profile_of J.names.digits.bits) < size) }
         ensures serves { Serves J.names self.old.allocator size result self.new.allocator }
         ensures counted { Counts self.old.counts result self.new.counts }
@@ -124,6 +126,7 @@ impl<
         size: usize,
     ) -> Result<Buffer<'r, J>, PoolError>
         ensures large_enough { IfOk result (λ b. size ≤ size_of b.class) }
+        ensures empty { IfOk result (λ b. b.filled ≡ 0) }
         ensures too_large { (result ≡ Err TooLarge) ↔ (largest_of (profile_of J.names.digits.bits) < size) }
         ensures waits { result ≢ Err UsedUp }
         ensures serves { Serves J.names self.old.allocator size result self.new.allocator }
@@ -141,6 +144,7 @@ impl<
         limit: Duration,
     ) -> Result<Buffer<'r, J>, PoolError>
         ensures large_enough { IfOk result (λ b. size ≤ size_of b.class) }
+        ensures empty { IfOk result (λ b. b.filled ≡ 0) }
         ensures too_large { (result ≡ Err TooLarge) ↔ (largest_of (profile_of J.names.digits.bits) < size) }
         ensures serves { Serves J.names self.old.allocator size result self.new.allocator }
         ensures counted { Counts self.old.counts result self.new.counts }
@@ -163,7 +167,7 @@ impl<
 
     fn parcel(&mut self, places: usize) -> Result<Parcel<'r, J>, NoMemory>
         ensures places { IfOk result (λ p. places ≤ p.places) }
-        ensures empty { IfOk result (λ p. length p.items ≡ 0) }
+        ensures empty { IfOk result (λ p. map data_of p.items ≡ []) }
         ensures same { self.new ≡ self.old }
     {
         self.allocator.parcel(places)

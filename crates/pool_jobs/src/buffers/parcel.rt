@@ -1,9 +1,9 @@
 //! Buffers of one allocator of a pool.
-ghost use Rattle.std.specs.Prelude.{◌≡◌, ◌<◌, ◌≤◌, ◌^◌, ◌↔◌, [], ◌∷◌, ◌++◌, length, IsTrue, MatchOption, MatchResult};
+ghost use Rattle.std.specs.Prelude.{◌≡◌, ◌<◌, ◌≤◌, ◌^◌, ◌↔◌, [], ◌∷◌, ◌++◌, length, map, IsTrue, MatchOption, MatchResult};
 ghost use Rattle.std.specs.Prelude.{Some, slice_get};
 ghost use Rattle.std.specs.Fn.{FnOnceReturnsAtMut};
 ghost use Rattle.region_cut.specs.Classes.{size_of};
-ghost use Rattle.slot_chain.specs.Filling.{holding};
+ghost use Rattle.slot_chain.specs.Filling.{data_of, holding};
 ghost use Rattle.slot_chain.specs.Parcels.{EditsAt, KeepsOut, Packs};
 
 use crate::buffers::buffer::Buffer;
@@ -142,14 +142,16 @@ impl<'r, J: Naming> Parcel<'r, J> {
 impl<'r, J: Naming> Burst<Buffer<'r, J>> for Parcel<'r, J> {
     type Item = Buf<'r>;
 
-    ghost count = { λ p. length p.items };
+    ghost fillings = { λ p. map data_of p.items };
 
     ghost places = { λ p. p.places };
 
+    #[tactic(auto, using(crate::proofs::Fillings::fillings_length))]
     fn len(&self) -> usize {
         self.len()
     }
 
+    #[tactic(auto, using(crate::proofs::Fillings::fillings_none))]
     fn is_empty(&self) -> bool {
         self.is_empty()
     }
@@ -158,15 +160,18 @@ impl<'r, J: Naming> Burst<Buffer<'r, J>> for Parcel<'r, J> {
         self.places()
     }
 
+    #[tactic(auto, using(crate::proofs::Fillings::fillings_length))]
     fn is_full(&self) -> bool {
         self.is_full()
     }
 
     #[inline]
+    #[tactic(auto, using(crate::proofs::Fillings::fillings_append))]
     fn push(&mut self, buffer: Buffer<'r, J>) -> Result<(), Buffer<'r, J>> {
         self.push(buffer)
     }
 
+    #[tactic(auto, using(crate::proofs::Fillings::fillings_append))]
     fn pop(&mut self) -> Option<Buffer<'r, J>> {
         self.pop()
     }
@@ -175,6 +180,7 @@ impl<'r, J: Naming> Burst<Buffer<'r, J>> for Parcel<'r, J> {
         self.buffers()
     }
 
+    #[tactic(auto, using(crate::proofs::Fillings::fillings_length))]
     fn edit_at<T, F: FnOnce(&mut [u8]) -> T>(&mut self, at: usize, edit: F) -> T {
         self.edit_at(at, edit)
     }

@@ -1,7 +1,8 @@
 //! An allocator as the heap of a task.
-ghost use Rattle.std.specs.Prelude.{◌≡◌, ◌≢◌, ◌<◌, ◌≤◌, ◌↔◌, [], ◌∷◌, ◌++◌, length, IsTrue, IfOk};
+ghost use Rattle.std.specs.Prelude.{◌≡◌, ◌≢◌, ◌<◌, ◌≤◌, ◌↔◌, [], ◌∷◌, ◌++◌, map, IsTrue, IfOk};
 ghost use Rattle.region_cut.specs.Classes.{size_of, largest_of};
 ghost use Rattle.digit_route.specs.Profiles.{profile_of};
+ghost use Rattle.slot_chain.specs.Filling.{data_of};
 ghost use Rattle.pool_fabric.specs.Limits.{most_taken};
 ghost use Rattle.pool_jobs.specs.Serving.{Keeps, SameDesk, Serves};
 ghost use Rattle.pool_jobs.specs.declared.error.PoolError.TheVariants.{TooLarge, UsedUp};
@@ -39,6 +40,7 @@ impl<
     #[inline]
     fn alloc<R: Wait>(&mut self, rt: &R, size: usize) -> Result<Buffer<'r, J>, PoolError>
         ensures large_enough { IfOk result (λ b. size ≤ size_of b.class) }
+        ensures empty { IfOk result (λ b. b.filled ≡ 0) }
         ensures too_large { (result ≡ Err TooLarge) ↔ (largest_of (profile_of J.names.digits.bits) < size) }
         ensures serves { Serves J.names self.old size result self.new }
     {
@@ -52,6 +54,7 @@ impl<
         size: usize,
     ) -> Result<Buffer<'r, J>, PoolError>
         ensures large_enough { IfOk result (λ b. size ≤ size_of b.class) }
+        ensures empty { IfOk result (λ b. b.filled ≡ 0) }
         ensures too_large { (result ≡ Err TooLarge) ↔ (largest_of (profile_of J.names.digits.bits) < size) }
         ensures waits { result ≢ Err UsedUp }
         ensures serves { Serves J.names self.old size result self.new }
@@ -66,6 +69,7 @@ impl<
         limit: Duration,
     ) -> Result<Buffer<'r, J>, PoolError>
         ensures large_enough { IfOk result (λ b. size ≤ size_of b.class) }
+        ensures empty { IfOk result (λ b. b.filled ≡ 0) }
         ensures too_large { (result ≡ Err TooLarge) ↔ (largest_of (profile_of J.names.digits.bits) < size) }
         ensures serves { Serves J.names self.old size result self.new }
     {
@@ -74,7 +78,7 @@ impl<
 
     fn parcel(&mut self, places: usize) -> Result<Parcel<'r, J>, NoMemory>
         ensures places { IfOk result (λ p. places ≤ p.places) }
-        ensures empty { IfOk result (λ p. length p.items ≡ 0) }
+        ensures empty { IfOk result (λ p. map data_of p.items ≡ []) }
         ensures same { self.new ≡ self.old }
     {
         self.parcel(places)

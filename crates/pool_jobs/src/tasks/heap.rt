@@ -1,5 +1,5 @@
 //! What a task sees of its allocator. These traits name no lifetime, so a thread may run over them.
-ghost use Rattle.std.specs.Prelude.{◌≡◌, ◌≢◌, ◌+◌, ◌<◌, ◌≤◌, ◌↔◌, length, IfOk};
+ghost use Rattle.std.specs.Prelude.{◌≡◌, ◌≢◌, ◌+◌, ◌<◌, ◌≤◌, ◌↔◌, [], IfOk};
 ghost use Rattle.pool_jobs.specs.declared.error.PoolError.TheVariants.{TooLarge, UsedUp};
 
 use crate::buffers::burst::Burst;
@@ -24,6 +24,7 @@ pub trait Heap: Drop {
     /// no class has as many, and only there.
     fn alloc<R: Wait>(&mut self, rt: &R, size: usize) -> Result<Self::Buffer, PoolError>
         ensures large_enough { IfOk result (λ b. size ≤ Self.Buffer.size b) }
+        ensures empty { IfOk result (λ b. Self.Buffer.filled b ≡ 0) }
         ensures too_large { (result ≡ Err TooLarge) ↔ (largest self.old < size) }
         ensures largest { largest self.new ≡ largest self.old };
 
@@ -38,6 +39,7 @@ pub trait Heap: Drop {
         size: usize,
     ) -> Result<Self::Buffer, PoolError>
         ensures large_enough { IfOk result (λ b. size ≤ Self.Buffer.size b) }
+        ensures empty { IfOk result (λ b. Self.Buffer.filled b ≡ 0) }
         ensures too_large { (result ≡ Err TooLarge) ↔ (largest self.old < size) }
         ensures waits { result ≢ Err UsedUp }
         ensures largest { largest self.new ≡ largest self.old };
@@ -51,6 +53,7 @@ pub trait Heap: Drop {
         limit: Duration,
     ) -> Result<Self::Buffer, PoolError>
         ensures large_enough { IfOk result (λ b. size ≤ Self.Buffer.size b) }
+        ensures empty { IfOk result (λ b. Self.Buffer.filled b ≡ 0) }
         ensures too_large { (result ≡ Err TooLarge) ↔ (largest self.old < size) }
         ensures largest { largest self.new ≡ largest self.old };
 
@@ -60,7 +63,7 @@ pub trait Heap: Drop {
     /// An empty parcel for buffers of this allocator, with room for at least so many.
     fn parcel(&mut self, places: usize) -> Result<Self::Parcel, NoMemory>
         ensures places { IfOk result (λ p. places ≤ Self.Parcel.places p) }
-        ensures empty { IfOk result (λ p. Self.Parcel.count p ≡ 0) }
+        ensures empty { IfOk result (λ p. Self.Parcel.fillings p ≡ []) }
         ensures largest { largest self.new ≡ largest self.old };
 
     /// Takes all buffers of a parcel back, whichever allocator of the pool made it.
