@@ -1,21 +1,22 @@
 /* Where the library takes memory: malloc, realloc and free of the program.
  *
- * The proved library calls these three. A block is `size` bytes, aligned to `align`, a power of two. Both are told again
- * when it is given back. An answer is a pair: whether the memory was granted, and where it is; where it was refused, the
- * address is one that may not be used, and is not null. A block of no bytes is one of `align` bytes here. */
+ * The proved library calls these three. A block is `size` bytes, aligned to `align`, a power of two. An answer is a pair: whether the
+ * memory was granted, and where it is; where it was refused, the address may not be used, and is not null. A block of no bytes is one
+ * of `align` bytes here. */
+#include <stdbool.h>
 #include <stddef.h>
 #include <stdint.h>
 #include <stdlib.h>
 #include <string.h>
 
 struct heap_answer {
-  uint64_t granted;
+  bool granted;
   void *at;
 };
 
 struct heap_answer rattle_alloc(size_t size, size_t align);
 struct heap_answer rattle_realloc(void *at, size_t old_size, size_t size, size_t align);
-void rattle_dealloc(void *at, size_t size, size_t align);
+void rattle_dealloc(void *at);
 
 static unsigned char nowhere;
 
@@ -48,8 +49,4 @@ struct heap_answer rattle_realloc(void *at, size_t old_size, size_t size, size_t
   return answer(moved);
 }
 
-void rattle_dealloc(void *at, size_t size, size_t align) {
-  (void)size;
-  (void)align;
-  free(at);
-}
+void rattle_dealloc(void *at) { free(at); }

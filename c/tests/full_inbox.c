@@ -40,7 +40,8 @@ int main(void) {
     ANSWERS(fv_free(&other, &bufs[i]), FV_OK);
     ANSWERS(fv_flush(&other), FV_OK);
   }
-  CHECK(fv_allocator_stat(&other, FV_ALLOCATOR_CACHED) == BUFFERS - BATCHES);
+  /* The last batch that was taken keeps its place until the next one is: room for 15 more. */
+  CHECK(fv_allocator_stat(&other, FV_ALLOCATOR_CACHED) == BUFFERS - (BATCHES - 1));
   ANSWERS(fv_pool_detach(&pool, &other), FV_OK);
   ANSWERS(fv_pool_detach(&pool, &owner), FV_OK);
   ANSWERS(fv_pool_close(&pool), FV_OK);

@@ -3,7 +3,7 @@
 #include "holders.h"
 #include <string.h>
 
-enum { MOST = 8, PLACES = 48, BURSTS = 6, BURST = 12 };
+enum { MOST = 8, PLACES = 48, BURSTS = 6, BURST = 12, CHUNKS = 256 };
 
 /* A buffer as the model knows it; capacity 0: none. */
 typedef struct {
@@ -210,7 +210,7 @@ static void step(void) {
   place *p = &places[below(&state, PLACES)];
   parcel *b = &parcels[below(&state, BURSTS)];
   size_t what = below(&state, 100);
-  if (what < 34) one_alloc(h, p);
+  if (what < 30) one_alloc(h, p);
   else if (what < 58) one_free(h, p);
   else if (what < 62) one_len(p);
   else if (what < 66) one_move(p, &places[below(&state, PLACES)]);
@@ -235,6 +235,7 @@ static void begin(uint64_t seed) {
   allocators = 1 + (uint32_t)below(&state, MOST);
   uint32_t bits = 1 + (uint32_t)below(&state, 6);
   uint64_t limit = below(&state, 2) ? below(&state, 4096) : 65536;
+  chunks = (size_t[]){4, 40, CHUNKS}[below(&state, 3)];
   memset(lent, 0, sizeof lent);
   memset(freed, 0, sizeof freed);
   ANSWERS(fv_pool_open(&pool, region, chunks * FV_CHUNK, allocators, bits, limit), FV_OK);
@@ -271,10 +272,9 @@ static void end(int forgets) {
 
 int main(int argc, char **argv) {
   uint64_t first = argc > 1 ? strtoull(argv[1], NULL, 10) : 1, seeds = argc > 2 ? strtoull(argv[2], NULL, 10) : 200;
-  size_t steps = argc > 3 ? strtoul(argv[3], NULL, 10) : 5000, made = 0;
-  chunks = 40;
-  region = new_region(chunks);
-  held = new_holders(region, chunks * FV_CHUNK);
+  size_t steps = argc > 3 ? strtoul(argv[3], NULL, 10) : 10000, made = 0;
+  region = new_region(CHUNKS);
+  held = new_holders(region, (size_t)CHUNKS * FV_CHUNK);
   fv_pool_init(&pool);
   for (size_t i = 0; i < MOST; i++) fv_allocator_init(&holder_of[i].allocator);
   for (size_t i = 0; i < PLACES; i++) fv_buf_init(&places[i].buf);

@@ -1,6 +1,6 @@
 /* A pool that is used up most of the time: the producer waits for a signal, and does not spin. The consumer flushes and counts that
    under one lock, so a producer that sees the count change finds something. */
-#include "check.h"
+#include "holders.h"
 #include <pthread.h>
 
 enum { SLOTS = 8, COUNT = 4000 };
@@ -9,6 +9,7 @@ static pthread_mutex_t lock = PTHREAD_MUTEX_INITIALIZER;
 static pthread_cond_t moved = PTHREAD_COND_INITIALIZER;
 static fv_buf queue[SLOTS];
 static size_t sent, received, flushed;
+static holders held;
 
 static void *consume(void *argument) {
   fv_allocator *mine = argument;
@@ -18,7 +19,7 @@ static void *consume(void *argument) {
     while (sent == received) pthread_cond_wait(&moved, &lock);
     buf = queue[received++ % SLOTS];
     pthread_mutex_unlock(&lock);
-    CHECK(buf.at[0] == (unsigned char)i && buf.at[511] == (unsigned char)i);
+    unlend(&held, buf.at, 512, (uint32_t)i);
     ANSWERS(fv_free(mine, &buf), FV_OK);
     pthread_mutex_lock(&lock);
     ANSWERS(fv_flush(mine), FV_OK);
@@ -51,6 +52,7 @@ int main(void) {
   static fv_allocator producer, consumer;
   pthread_t thread;
   size_t waits = 0;
+  held = new_holders(region, FV_CHUNK);
   fv_pool_init(&pool);
   fv_allocator_init(&producer);
   fv_allocator_init(&consumer);
@@ -62,7 +64,7 @@ int main(void) {
     fv_buf buf;
     fv_buf_init(&buf);
     alloc_waiting(&producer, &buf, &waits);
-    buf.at[0] = buf.at[511] = (unsigned char)i;
+    lend(&held, buf.at, 512, (uint32_t)i);
     pthread_mutex_lock(&lock);
     CHECK(sent - received < SLOTS);
     queue[sent++ % SLOTS] = buf;
@@ -75,7 +77,9 @@ int main(void) {
   ANSWERS(fv_pool_detach(&pool, &producer), FV_OK);
   ANSWERS(fv_pool_detach(&pool, &consumer), FV_OK);
   ANSWERS(fv_pool_close(&pool), FV_OK);
+  CHECK(count_held(&held) == 0 && waits > 0);
+  free(held.marks);
   free(region);
-  printf("waiting: %d buffers through eight slots, and whoever was woken found one: audit 0\n", COUNT);
+  printf("waiting: %d buffers through eight slots, %zu waits, each ended by a buffer: audit 0\n", COUNT, waits);
   return 0;
 }
