@@ -42,6 +42,8 @@ static place places[PLACES];
 static parcel parcels[BURSTS];
 static uint64_t lent[MOST], freed[MOST]; /* by an allocator's number */
 static uint64_t state;
+fv_buf forgotten_bufs[4096]; /* not static, so that it is kept, and a leak detector sees other leaks alone */
+static size_t forgotten_count;
 
 static void check_counts(void) {
   uint64_t drawn = 0;
@@ -268,6 +270,7 @@ static void end(int forgets) {
   ANSWERS(fv_pool_close(&pool), FV_AUDIT_MISSING);
   CHECK(fv_pool_stat(&pool, FV_POOL_FAULT) == 256 * (offset / FV_CHUNK) + offset % FV_CHUNK / forgotten.is.capacity);
   unlend(&held, forgotten.is.at, forgotten.is.capacity, forgotten.is.seed);
+  forgotten_bufs[forgotten_count++ % 4096] = forgotten.buf;
 }
 
 int main(int argc, char **argv) {

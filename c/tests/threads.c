@@ -12,11 +12,14 @@ static lane lanes[LANES];
 static size_t count, in_bursts;
 static atomic_ullong lent, freed;
 
+/* An allocator's counts go on where another thread left it. */
 static void attach(fv_allocator *mine) {
   fv_allocator_init(mine);
   pthread_mutex_lock(&pool_lock);
   ANSWERS(fv_pool_attach(&pool, mine), FV_OK);
   pthread_mutex_unlock(&pool_lock);
+  atomic_fetch_sub(&lent, fv_allocator_stat(mine, FV_ALLOCATOR_LENT));
+  atomic_fetch_sub(&freed, fv_allocator_stat(mine, FV_ALLOCATOR_FREED));
 }
 
 static void detach(fv_allocator *mine) {
