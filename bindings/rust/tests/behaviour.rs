@@ -277,7 +277,7 @@ fn a_leaked_pool_serves_threads_of_any_lifetime() {
     let consumer = thread::spawn(move || {
         let allocator = pool.attach().unwrap();
         drop(bufs.recv().unwrap());
-        assert_eq!(allocator.counts().cached, 1);
+        assert_eq!(allocator.counts().freed, 1);
     });
     producer.join().unwrap();
     consumer.join().unwrap();
