@@ -2,9 +2,10 @@
  *
  * For who calls the pool from C or C++. README.md beside this file has the commands and the limits.
  *
- * A program lends the pool one region of bytes. Each thread attaches an allocator, and allocates and frees there. A buffer
- * is a slice of the region, of 16 to 512 bytes, and no two buffers share a byte. A buffer may be freed at any allocator of its
- * pool: it goes home to the one that lent it, in batches, without a copy. No call waits for another thread or takes a lock.
+ * A program lends the pool one region of bytes. Each thread attaches an allocator, and allocates and frees
+ * there. A buffer is a slice of the region, of 16 to 512 bytes, and no two buffers share a byte. A buffer
+ * may be freed at any allocator of its pool: it goes home to the one that lent it, in batches, without a
+ * copy. No call waits for another thread or takes a lock.
  *
  *     #include <fustrevol.h>
  *     #include <stdio.h>
@@ -38,41 +39,52 @@
  *       return answer != FV_OK;
  *     }
  *
- * OBJECTS. Pools, allocators, buffers and bursts lie in storage of the caller, as a pthread_mutex_t does. What an object holds
- * is moved by copying the object's bytes, by `=` or memcpy; from then on only the new copy may be used. An object that
- * was initialised may be used in any order of calls: a call that makes no sense is refused, and changes nothing.
+ * OBJECTS. Pools, allocators, buffers and bursts lie in storage of the caller, as a pthread_mutex_t does.
+ * What an object holds is moved by copying the object's bytes, by `=` or memcpy; from then on only the new
+ * copy may be used. An object that was initialised may be used in any order of calls: a call that makes no
+ * sense is refused, and changes nothing.
  *
- * ANSWERS. Calls that can fail answer an uint32_t, which is FV_OK (0) or says why nothing was done. Each is listed with its call.
+ * ANSWERS. Calls that can fail answer an uint32_t, which is FV_OK (0) or says why nothing was done. Each is
+ * listed with its call.
  *
- * THREADS. Calls on different objects may be made at the same time. A call uses the objects that its arguments point to, and
- * nothing else that a program can see; in particular, fv_free uses the allocator that frees and not the one that lent.
- * fv_pool_ calls of one pool are one at a time, so a program whose threads come and go has a lock around them; the allocators
- * of the pool may be used meanwhile.
+ * THREADS. Calls on different objects may be made at the same time. A call uses just the objects that its
+ * arguments point to: fv_free uses the allocator that frees, and not the one that lent. fv_pool_ calls of
+ * one pool are one at a time. A program whose threads come and go has a lock around them. The allocators of
+ * the pool may be used meanwhile.
  *
- * WAITING. An allocator caches what it frees for others, until its cache has more than the pool's limit. A thread that is about
- * to wait for another one calls fv_flush first: the other may need just these buffers. A thread that is answered FV_USED_UP
- * calls fv_collect from time to time, or waits until another thread tells it that it flushed. Chunks of 4,096 bytes stay with the
- * allocator and the size class that drew them, until the pool is closed.
+ * WAITING. An allocator caches what it frees for others, until its cache has more than the pool's limit. A
+ * thread that is about to wait for another one calls fv_flush first: the other may need just these buffers.
+ * A thread that is answered FV_USED_UP calls fv_collect from time to time, or waits until another thread
+ * tells it that it flushed. Chunks of 4,096 bytes stay with the allocator and the size class that drew
+ * them, until the pool is closed.
  *
- * WHAT THE LIBRARY PROMISES. It is written in Rattle, and these are proved of every call, where the caller keeps the rules below:
+ * WHAT THE LIBRARY PROMISES. It is written in Rattle, and these are proved of every call, where the caller
+ * keeps the rules below:
  *   - it returns, it has no undefined behaviour, and leaves in each object a valid value of its type;
- *   - fv_alloc: after FV_OK, `buf` holds a buffer of at least `size` bytes; after any other answer, `buf` is as it was;
+ *   - fv_alloc: after FV_OK, `buf` holds a buffer of at least `size` bytes; after any other answer, `buf`
+ *     is as it was;
  *   - fv_free: after FV_OK, `buf` holds no buffer; after any other answer, it holds the same buffer;
  *   - a buffer's bytes are lent to nobody else until it is freed.
- * These are true by how the library is built, and tested: that nothing is lost; that fv_pool_close finds what was not freed; and that
- * the region is the caller's again once fv_pool_close has closed the pool and all buffers were freed.
  *
- * WHAT THE CALLER KEEPS. No proof sees these rules, and breaking one of them is undefined behaviour, except for the last two:
- *   - Each object is initialised before its first use, in storage of the type's size, aligned to 16 bytes (fv_buf: 8 bytes).
- *   - One call at a time on one object. An object goes to another thread by a mutex, by starting or joining a thread,
- *     or by a sequentially consistent atomic. This holds for calls whose argument is `const` too.
- *   - One copy of an object is used: the latest. A buffer's bytes are used only until it is freed, pushed or lent onwards.
+ * These are true by how the library is built, and tested:
+ *   - `at` and fv_burst_at tell where a buffer's bytes lie;
+ *   - nothing is lost, and fv_pool_close finds what was not freed;
+ *   - the region is the caller's again once fv_pool_close has closed the pool and all buffers were freed.
+ *
+ * WHAT THE CALLER KEEPS. No proof sees these rules, and breaking one of them is undefined behaviour, except
+ * for the last two:
+ *   - Each object is initialised before its first use, in storage of the type's size, aligned to 16 bytes
+ *     (fv_buf: 8 bytes).
+ *   - One call at a time on one object. An object goes to another thread by a mutex, by starting or joining
+ *     a thread, or by a sequentially consistent atomic. This holds for calls whose argument is `const` too.
+ *   - One copy of an object is used: the latest. A buffer's bytes are used only until it is freed.
  *   - The region is used only through its buffers, from fv_pool_open on.
- *   - malloc, realloc and free are not replaced by others while a pool is open. No call comes from a signal handler, nor
- *     from a forked child of a process with threads.
- *   - A buffer, a burst and an allocator go back to the pool they are of. Else a slot goes to a wrong allocator. The audits tell.
- *   - An object that holds something is neither initialised again nor let go. Else what it holds is lost. The audit tells.
- */
+ *   - malloc, realloc and free are not replaced by others while a pool is open. No call comes from a signal
+ *     handler, nor from a forked child of a process with threads.
+ *   - A buffer, a burst and an allocator go back to the pool they are of. Else a slot goes to a wrong
+ *     allocator. The audits tell.
+ *   - An object that holds something is neither initialised again nor let go. Else what it holds is lost.
+ *     The audit tells. */
 #ifndef FUSTREVOL_H
 #define FUSTREVOL_H
 
@@ -109,7 +121,7 @@ enum fv_answer {
   FV_BAD_ARGUMENT = 8, /* a number is out of its range */
 
   /* Answers of fv_pool_close alone. The pool is closed. fv_pool_stat(pool, FV_POOL_FAULT) names the slot. */
-  FV_AUDIT_STRANGER = 101, /* a slot was found of a chunk that was never drawn: a buffer of another pool came here */
+  FV_AUDIT_STRANGER = 101, /* a slot was found of a chunk that nobody drew: another pool's buffer */
   FV_AUDIT_DOUBLED = 102,  /* a slot was found twice */
   FV_AUDIT_MISSING = 103,  /* a slot was not found: its buffer was not freed */
   FV_AUDIT_NO_MEMORY = 104 /* malloc refused what the audit needs: it says nothing */
@@ -127,11 +139,11 @@ const char *fv_version(void) FV_NOEXCEPT;
 #define FV_ALLOCATOR_BYTES 8192
 #define FV_BURST_BYTES 64
 
-#define FV_LARGEST 512         /* bytes of the largest buffer */
-#define FV_CHUNK 4096          /* bytes of a chunk, of which a region has 1 to FV_MOST_CHUNKS */
-#define FV_MOST_CHUNKS 1024    /* what is behind the last whole chunk is not used */
-#define FV_MOST_ALLOCATORS 64  /* of one pool */
-#define FV_MOST_LIMIT 1048576  /* bytes */
+#define FV_LARGEST 512        /* bytes of the largest buffer */
+#define FV_CHUNK 4096         /* bytes of a chunk, of which a region has 1 to FV_MOST_CHUNKS */
+#define FV_MOST_CHUNKS 1024   /* what is behind the last whole chunk is not used */
+#define FV_MOST_ALLOCATORS 64 /* of one pool */
+#define FV_MOST_LIMIT 1048576 /* bytes */
 
 /* A pool, open or closed. */
 typedef struct fv_pool {
@@ -143,7 +155,8 @@ typedef struct fv_allocator {
   FV_ALIGNED unsigned char own_[FV_ALLOCATOR_BYTES];
 } fv_allocator;
 
-/* A buffer, or none. Its fv_buf_capacity() bytes lie at `at`. They start at a multiple of 16 from the region's start. */
+/* A buffer, or none. Its fv_buf_capacity() bytes lie at `at`. They start at a multiple of 16 from the
+ * region's start. */
 typedef struct fv_buf {
   unsigned char *at;
   void *own_[2];
@@ -160,14 +173,15 @@ typedef struct fv_span {
   size_t len;
 } fv_span;
 
-/* The bytes that the library that is linked uses of each: at most the size of the type. For other languages' bindings. */
+/* The bytes that the library that is linked uses of each: at most the size of the type. For other
+ * languages' bindings. */
 size_t fv_pool_size(void) FV_NOEXCEPT;
 size_t fv_allocator_size(void) FV_NOEXCEPT;
 size_t fv_buf_size(void) FV_NOEXCEPT;
 size_t fv_burst_size(void) FV_NOEXCEPT;
 
-/* Each makes an object in storage that holds none: a closed pool, no allocator, no buffer, no burst. They take no memory, and what
-   they made needn't be ended where it holds nothing. */
+/* Each makes an object in storage that holds none: a closed pool, no allocator, no buffer, no burst. They
+ * take no memory, and what they made needn't be ended where it holds nothing. */
 void fv_pool_init(fv_pool *pool) FV_NOEXCEPT;
 void fv_allocator_init(fv_allocator *allocator) FV_NOEXCEPT;
 void fv_buf_init(fv_buf *buf) FV_NOEXCEPT;
@@ -175,31 +189,37 @@ void fv_burst_init(fv_burst *burst) FV_NOEXCEPT;
 
 /* ---- Pools: one call at a time on one pool ---- */
 
-/* Opens a pool over the `len` bytes at `region`. It has `allocators` allocators, 1 to 64, none of them attached.
+/* Opens a pool over the `len` bytes at `region`. It has `allocators` allocators, 1 to 64, none of them
+ * attached.
  *
- * `limit`: how many bytes an allocator caches for others before it posts them, at most 1,048,576. 65,536 is a good one.
- * `bits`: how an allocator's number is read on a buffer's way home, in digits of 1 to 6 bits. With 6, every buffer goes home directly.
- * With fewer, allocators pass batches on for others, so that each sends fewer and larger ones.
+ * `limit`: how many bytes an allocator caches for others before it posts them, at most 1,048,576. 65,536 is
+ * a good one.
  *
- * Takes 300 KB of memory for each 8 allocators squared, about: 17 MB for 64. No byte of the region is written.
+ * `bits`: how an allocator's number is read on a buffer's way home, in digits of 1 to 6 bits. With 6, every
+ * buffer goes home directly. With fewer, allocators pass batches on for others, so that each sends fewer and
+ * larger ones.
+ *
+ * Takes some 50 bytes of memory for each chunk, 3 KB for each allocator, and 1.6 KB for each pair of them:
+ * 7 MB for 64 allocators. No byte of the region is written.
  *
  * FV_OK
  * FV_HOLDS         the pool is open
- * FV_BAD_ARGUMENT  allocators, bits or limit are out of range, or the region has less than one chunk or more than 1,024
+ * FV_BAD_ARGUMENT  allocators, bits or limit are out of range, or the region has no whole chunk, or over 1,024
  * FV_NO_MEMORY     the pool is closed, and the region is the caller's */
-uint32_t fv_pool_open(fv_pool *FV_RESTRICT pool, void *FV_RESTRICT region, size_t len, uint32_t allocators, uint32_t bits,
-                      uint64_t limit) FV_NOEXCEPT;
+uint32_t fv_pool_open(fv_pool *FV_RESTRICT pool, void *FV_RESTRICT region, size_t len, uint32_t allocators,
+                      uint32_t bits, uint64_t limit) FV_NOEXCEPT;
 
-/* Attaches one of the pool's allocators that nobody holds. It goes on where it was when it was detached: its chunks are its own.
- * A thread may hold more than one. An attached allocator may also be handed to another thread, as any object.
+/* Attaches one of the pool's allocators that nobody holds. It goes on where it was when it was detached:
+ * its chunks are its own. A thread may hold more than one. An attached allocator may also be handed to
+ * another thread, as any object.
  *
  * FV_OK
  * FV_HOLDS  `allocator` holds one
  * FV_EMPTY  all of the pool's allocators are attached, or the pool is closed */
 uint32_t fv_pool_attach(fv_pool *FV_RESTRICT pool, fv_allocator *FV_RESTRICT allocator) FV_NOEXCEPT;
 
-/* Gives an allocator back. It takes what came home, posts what it can, and keeps the rest of its cache for who attaches it next, or
- * for fv_pool_close. Its buffers stay lent.
+/* Gives an allocator back. It takes what came home, posts what it can, and keeps the rest of its cache for
+ * who attaches it next, or for fv_pool_close. Its buffers stay lent.
  *
  * FV_OK
  * FV_EMPTY      `allocator` holds none
@@ -207,10 +227,12 @@ uint32_t fv_pool_attach(fv_pool *FV_RESTRICT pool, fv_allocator *FV_RESTRICT all
  * FV_NO_MEMORY  `allocator` holds it still */
 uint32_t fv_pool_detach(fv_pool *FV_RESTRICT pool, fv_allocator *FV_RESTRICT allocator) FV_NOEXCEPT;
 
-/* Closes a pool whose allocators are all detached. What was freed goes home; then the audit looks for each slot of each chunk that was
- * drawn, once. All memory that the pool took is freed but the records of buffers that were not freed. A closed pool may be opened
- * again. The region is the caller's again where all buffers were freed, whatever the answer is. A buffer that was not freed may not be
- * freed any more. Takes time for each slot.
+/* Closes a pool whose allocators are all detached. What was freed goes home; then the audit looks for each
+ * slot of each chunk that was drawn, once. Takes time for each slot.
+ *
+ * After that the region is the caller's again, but for the bytes of buffers that were not freed. They can't
+ * be freed any more. All memory that the pool took is given back, but for the records of such buffers. A
+ * closed pool may be opened again.
  *
  * FV_OK                each slot was found once: all buffers were freed
  * FV_EMPTY             the pool is closed
@@ -222,15 +244,16 @@ uint32_t fv_pool_close(fv_pool *pool) FV_NOEXCEPT;
 enum fv_pool_number {
   FV_POOL_ALLOCATORS = 0, /* how many allocators it has; 0 where it is closed */
   FV_POOL_IDLE = 1,       /* how many of them nobody holds */
-  FV_POOL_FAULT = 2       /* the slot that the last audit named: 256 * chunk + the slot's index in the chunk */
+  FV_POOL_FAULT = 2 /* the slot that the last audit named: 256 * chunk + the slot's index in the chunk */
 };
 uint64_t fv_pool_stat(const fv_pool *pool, uint32_t which) FV_NOEXCEPT;
 
 /* ---- Allocators and buffers ---- */
 
-/* Lends a buffer of the least size class that has `size` bytes; of a size of 0, of the first. The classes are 16, 32, 48, 64, 80, 96, 112,
- * 128, 160, 192, 224, 256, 320, 384, 448 and 512 bytes. The bytes are as they were left; fv_buf_len() is 0. A slot's first use takes
- * memory, some 200 bytes, which it keeps until the pool is closed.
+/* Lends a buffer of the least size class that has `size` bytes; of a size of 0, of the first. The classes
+ * are 16, 32, 48, 64, 80, 96, 112, 128, 160, 192, 224, 256, 320, 384, 448 and 512 bytes. The bytes are as
+ * they were left; fv_buf_len() is 0. A slot's first use takes memory, some 200 bytes, which it keeps until
+ * the pool is closed.
  *
  * FV_OK
  * FV_TOO_LARGE  size is more than FV_LARGEST
@@ -240,16 +263,17 @@ uint64_t fv_pool_stat(const fv_pool *pool, uint32_t which) FV_NOEXCEPT;
  * FV_EMPTY      `allocator` holds none */
 uint32_t fv_alloc(fv_allocator *FV_RESTRICT allocator, fv_buf *FV_RESTRICT buf, size_t size) FV_NOEXCEPT;
 
-/* Frees a buffer of any allocator of the pool. One that this allocator lent is at home at once. One of another allocator is cached, and
- * posted with others once the cache has more than the limit.
+/* Frees a buffer of any allocator of the pool. One that this allocator lent is at home at once. One of
+ * another allocator is cached, and posted with others once the cache has more than the limit.
  *
  * FV_OK
  * FV_EMPTY     `allocator` holds none, or `buf` holds none: it was freed, pushed or never lent
  * FV_STRANGER  `buf` is of no allocator that this pool can have */
 uint32_t fv_free(fv_allocator *FV_RESTRICT allocator, fv_buf *FV_RESTRICT buf) FV_NOEXCEPT;
 
-/* Takes what came home, then posts all that is cached. Where the inbox of another allocator is full (15 or 16 batches of this one
- * that it has not taken), what is left stays cached: FV_ALLOCATOR_CACHED tells how much.
+/* Takes what came home, then posts all that is cached. Where the inbox of another allocator is full (15 or
+ * 16 batches of this one that it has not taken), what is left stays cached: FV_ALLOCATOR_CACHED tells how
+ * much.
  *
  * FV_OK
  * FV_EMPTY  `allocator` holds none */
@@ -261,7 +285,8 @@ uint32_t fv_flush(fv_allocator *allocator) FV_NOEXCEPT;
  * FV_EMPTY  nothing came, or `allocator` holds none */
 uint32_t fv_collect(fv_allocator *allocator) FV_NOEXCEPT;
 
-/* A number about an allocator; UINT64_MAX of any other `which`, and where `allocator` holds none. The counts begin at fv_pool_open. */
+/* A number about an allocator; UINT64_MAX of any other `which`, and where `allocator` holds none. The
+ * counts begin at fv_pool_open. */
 enum fv_allocator_number {
   FV_ALLOCATOR_NUMBER = 0,       /* its own, from 0 on */
   FV_ALLOCATOR_LENT = 1,         /* buffers lent here, bursts' among them */
@@ -279,8 +304,8 @@ uint64_t fv_allocator_stat(const fv_allocator *allocator, uint32_t which) FV_NOE
 /* The size of a buffer's class in bytes; 0 where `buf` holds none. */
 size_t fv_buf_capacity(const fv_buf *buf) FV_NOEXCEPT;
 
-/* How many bytes of a buffer are filled, as fv_buf_set_len said last. The number goes where the buffer goes, through bursts too. 0 where
-   `buf` holds none. */
+/* How many bytes of a buffer are filled, as fv_buf_set_len said last. The number goes where the buffer
+ * goes, through bursts too. 0 where `buf` holds none. */
 size_t fv_buf_len(const fv_buf *buf) FV_NOEXCEPT;
 
 /* Says how many bytes are filled, from the first on. No byte is written.
@@ -292,24 +317,26 @@ uint32_t fv_buf_set_len(fv_buf *buf, size_t len) FV_NOEXCEPT;
 
 /* ---- Bursts: to free a burst costs as much as to free one buffer ---- */
 
-/* Opens an empty burst for `places` buffers of this allocator, in a burst that holds none or is empty. Takes memory where no earlier burst's
- * came home.
+/* Opens an empty burst for at least `places` buffers of this allocator, in an object that holds no burst or
+ * an empty one. Takes memory where no earlier burst's can be used again.
  *
  * FV_OK
  * FV_HOLDS      the burst has a buffer
  * FV_NO_MEMORY
  * FV_EMPTY      `allocator` holds none */
-uint32_t fv_burst_open(fv_allocator *FV_RESTRICT allocator, fv_burst *FV_RESTRICT burst, size_t places) FV_NOEXCEPT;
+uint32_t fv_burst_open(fv_allocator *FV_RESTRICT allocator, fv_burst *FV_RESTRICT burst,
+                       size_t places) FV_NOEXCEPT;
 
-/* Lends `count` buffers more into a burst, each as fv_alloc does. Where it stops early, those that were lent until then are in the burst:
- * fv_burst_len() tells how many.
+/* Lends `count` buffers more into a burst, each as fv_alloc does. Where it stops early, those that were
+ * lent until then are in the burst: fv_burst_len() tells how many.
  *
  * FV_OK        all of them
  * FV_FULL      there was no place left
  * FV_TOO_LARGE, FV_USED_UP, FV_NO_MEMORY  as fv_alloc
  * FV_STRANGER  another allocator opened the burst
  * FV_EMPTY     the burst is not open, or `allocator` holds none */
-uint32_t fv_burst_fill(fv_allocator *FV_RESTRICT allocator, fv_burst *FV_RESTRICT burst, size_t size, size_t count) FV_NOEXCEPT;
+uint32_t fv_burst_fill(fv_allocator *FV_RESTRICT allocator, fv_burst *FV_RESTRICT burst, size_t size,
+                       size_t count) FV_NOEXCEPT;
 
 /* Frees all buffers of a burst, at any allocator of the pool, and ends the burst; an empty one too.
  *
@@ -336,12 +363,13 @@ uint32_t fv_burst_pop(fv_burst *FV_RESTRICT burst, fv_buf *FV_RESTRICT buf) FV_N
 /* How many buffers a burst has; 0 where it is not open. */
 uint64_t fv_burst_len(const fv_burst *burst) FV_NOEXCEPT;
 
-/* Tells where the bytes of a buffer of the burst lie, all of its class, to be read and written until the buffer is freed or popped.
- * `span` has a value before: fv_span span = {0};
+/* Tells where the bytes of a buffer of the burst lie, all of its class, to be read and written until the
+ * buffer is freed or popped. `span` has a value before: fv_span span = {0};
  *
  * FV_OK
  * FV_EMPTY  the burst has no buffer at `index`, or is not open: `span` is as it was */
-uint32_t fv_burst_at(const fv_burst *FV_RESTRICT burst, fv_span *FV_RESTRICT span, size_t index) FV_NOEXCEPT;
+uint32_t fv_burst_at(const fv_burst *FV_RESTRICT burst, fv_span *FV_RESTRICT span,
+                     size_t index) FV_NOEXCEPT;
 
 #ifdef __cplusplus
 }

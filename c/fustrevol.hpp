@@ -1,7 +1,7 @@
 // fustrevol.hpp: the pool of fustrevol.h for C++17 and later. Header only; no exception is thrown.
 //
-// For who calls the pool from C++. A pool lends the bytes of one region. Each thread makes an allocator of its own; buffers and bursts
-// own what they were lent, and may be destroyed on any thread.
+// For who calls the pool from C++. A pool lends the bytes of one region. Each thread makes an allocator of
+// its own; buffers and bursts own what they were lent, and may be destroyed on any thread.
 //
 //     #include <fustrevol.hpp>
 //     #include <cstdio>
@@ -18,15 +18,17 @@
 //       }).join();
 //       std::snprintf(reinterpret_cast<char *>(line.data()), line.size(), "a line of text");
 //       std::puts(reinterpret_cast<char *>(line.data()));
-//       line = {};                                             // no allocator here: the pool keeps it, until it is closed
+//       line = {};     // no allocator on this thread: the pool keeps the buffer, until it is closed
 //       std::printf("audit: %s\n", message(pool.close()));
 //     }
 //
-// WHERE A BUFFER GOES. One that is destroyed goes to an allocator of its pool that its thread has. Where the thread has none, the pool object
-// keeps it (under a lock, in memory from malloc) for the next allocator that is made, flushed or asked to collect, or for close().
+// WHERE A BUFFER GOES. One that is destroyed goes to an allocator of its pool that its thread has. Where
+// the thread has none, the pool object keeps it (under a lock, in memory from malloc) for the next
+// allocator that is made, flushed or asked to collect, or for close().
 //
-// RULES. A pool outlives its allocators, buffers and bursts. An allocator is used and destroyed on the thread that made it. Buffers and bursts
-// go from thread to thread, one thread at a time. The rules of fustrevol.h hold beside these.
+// RULES. A pool outlives its allocators, buffers and bursts. An allocator is used and destroyed on the
+// thread that made it. Buffers and bursts go from thread to thread, one thread at a time. The rules of
+// fustrevol.h hold beside these.
 #ifndef FUSTREVOL_HPP
 #define FUSTREVOL_HPP
 
@@ -74,8 +76,8 @@ public:
   explicit operator bool() const noexcept { return error_ == status::ok; }
   status error() const noexcept { return error_; }
   // Where there is none, these are an object that holds nothing.
-  T &operator*() & noexcept { return value_; }
-  T &&operator*() && noexcept { return std::move(value_); }
+  T &operator*() &noexcept { return value_; }
+  T &&operator*() &&noexcept { return std::move(value_); }
   T *operator->() noexcept { return &value_; }
 
 private:
@@ -107,9 +109,9 @@ class buffer;
 class burst;
 
 struct options {
-  std::uint32_t allocators = 1;   // 1 to 64: how many threads allocate and free at a time
-  std::uint64_t limit = 65536;    // bytes that an allocator caches for others
-  std::uint32_t bits = 6;         // see fv_pool_open
+  std::uint32_t allocators = 1; // 1 to 64: how many threads allocate and free at a time
+  std::uint64_t limit = 65536;  // bytes that an allocator caches for others
+  std::uint32_t bits = 6;       // see fv_pool_open
 };
 
 // One region that is lent in buffers. Its calls may be made on several threads at the same time.
@@ -117,12 +119,13 @@ class pool {
 public:
   pool(void *region, std::size_t size, options chosen = {}) noexcept {
     fv_pool_init(&pool_);
-    if (fv_pool_size() > sizeof(fv_pool) || fv_allocator_size() > sizeof(fv_allocator) || fv_buf_size() > sizeof(fv_buf) ||
-        fv_burst_size() > sizeof(fv_burst)) {
+    if (fv_pool_size() > sizeof(fv_pool) || fv_allocator_size() > sizeof(fv_allocator) ||
+        fv_buf_size() > sizeof(fv_buf) || fv_burst_size() > sizeof(fv_burst)) {
       opened_ = status::bad_argument; // the library that is linked is not this header's
       return;
     }
-    opened_ = static_cast<status>(fv_pool_open(&pool_, region, size, chosen.allocators, chosen.bits, chosen.limit));
+    opened_ = static_cast<status>(
+        fv_pool_open(&pool_, region, size, chosen.allocators, chosen.bits, chosen.limit));
   }
   pool(const pool &) = delete;
   pool &operator=(const pool &) = delete;
@@ -132,7 +135,8 @@ public:
   explicit operator bool() const noexcept { return opened_ == status::ok; }
   status error() const noexcept { return opened_; }
 
-  // Closes the pool: what the audit says, or `full` where an allocator is left, or `empty` where it is closed.
+  // Closes the pool: what the audit says, or `full` where an allocator is left, or `empty` where it is
+  // closed.
   status close() noexcept {
     std::lock_guard<std::mutex> held(lock_);
     if (kept_.load() > 0) free_kept_at_an_idle_one();
@@ -234,7 +238,8 @@ private:
 class buffer {
 public:
   buffer() noexcept { fv_buf_init(&buf_); }
-  buffer(buffer &&from) noexcept : buf_(from.buf_), pool_(std::exchange(from.pool_, nullptr)), size_(std::exchange(from.size_, 0)) {
+  buffer(buffer &&from) noexcept
+      : buf_(from.buf_), pool_(std::exchange(from.pool_, nullptr)), size_(std::exchange(from.size_, 0)) {
     fv_buf_init(&from.buf_);
   }
   buffer &operator=(buffer &&from) noexcept {
@@ -285,11 +290,14 @@ private:
   std::size_t size_ = 0;
 };
 
-// Buffers of one allocator that are handed over and freed as a whole, or none. It is moved and never copied.
+// Buffers of one allocator that are handed over and freed as a whole, or none. It is moved and never
+// copied.
 class burst {
 public:
   burst() noexcept { fv_burst_init(&burst_); }
-  burst(burst &&from) noexcept : burst_(from.burst_), pool_(std::exchange(from.pool_, nullptr)) { fv_burst_init(&from.burst_); }
+  burst(burst &&from) noexcept : burst_(from.burst_), pool_(std::exchange(from.pool_, nullptr)) {
+    fv_burst_init(&from.burst_);
+  }
   burst &operator=(burst &&from) noexcept {
     burst old(std::move(*this));
     std::swap(burst_, from.burst_);
@@ -364,7 +372,8 @@ public:
     if (lent != status::ok) return lent;
     return buffer(pool_, made, size);
   }
-  // As the destructor of a buffer, without a look for the allocator. Where it is refused, the caller has it still.
+  // As the destructor of a buffer, without a look for the allocator. Where it is refused, the caller has it
+  // still.
   status free(buffer &&from) noexcept {
     if (from.pool_ != &pool_) return from.pool_ ? status::stranger : status::empty;
     status freed = static_cast<status>(fv_free(&allocator_, &from.buf_));
@@ -389,7 +398,8 @@ public:
     made.pool_ = &pool_;
     return made;
   }
-  // Lends `count` buffers more into a burst of this allocator. Where it stops early, size() tells how many there are.
+  // Lends `count` buffers more into a burst of this allocator. Where it stops early, size() tells how many
+  // there are.
   status fill(burst &into, std::size_t size, std::size_t count) noexcept {
     if (into.pool_ != &pool_) return into.pool_ ? status::stranger : status::empty;
     return static_cast<status>(fv_burst_fill(&allocator_, &into.burst_, size, count));
@@ -405,7 +415,9 @@ public:
     pool_.free_kept(&allocator_);
     return fv_collect(&allocator_) == FV_OK;
   }
-  std::uint64_t stat(fv_allocator_number which) const noexcept { return fv_allocator_stat(&allocator_, which); }
+  std::uint64_t stat(fv_allocator_number which) const noexcept {
+    return fv_allocator_stat(&allocator_, which);
+  }
 
 private:
   friend class buffer;

@@ -1,8 +1,8 @@
 /* Where the library takes memory: malloc, realloc and free of the program.
  *
- * The proved library calls these three. A block is `size` bytes, aligned to `align`, a power of two. An answer is a pair: whether the
- * memory was granted, and where it is; where it was refused, the address may not be used, and is not null. A block of no bytes is one
- * of `align` bytes here. */
+ * The proved library calls these three. A block is `size` bytes, aligned to `align`, a power of two. An
+ * answer is a pair: whether the memory was granted, and where it is; where it was refused, the address may
+ * not be used, and is not null. A block of no bytes is one of `align` bytes here. */
 #include <stdbool.h>
 #include <stddef.h>
 #include <stdint.h>

@@ -1,9 +1,9 @@
 /* Two sources fill packets in bursts, two checkers look at them, and one sink adds up what they found.
  *
- *   source --burst--> checker --burst--> sink
+ * source --burst--> checker --burst--> sink
  *
- * Each arrow is a bounded queue. A packet's bytes are written once and never copied; whichever thread frees a burst, its buffers go home to
- * the source that lent them. Build: cc -pthread pipeline.c -lfustrevol */
+ * Each arrow is a bounded queue. A packet's bytes are written once and never copied; whichever thread frees
+ * a burst, its buffers go home to the source that lent them. Build: cc -pthread pipeline.c -lfustrevol */
 #include "fustrevol.h"
 #include <inttypes.h>
 #include <pthread.h>
@@ -97,7 +97,8 @@ static void *source(void *argument) {
     fv_burst burst;
     fv_burst_init(&burst);
     must(fv_burst_open(&mine, &burst, BURST));
-    must(fv_burst_fill(&mine, &burst, sizeof(packet), BURST)); /* the queues are so short that the region suffices */
+    must(fv_burst_fill(&mine, &burst, sizeof(packet),
+                       BURST)); /* the queues are so short that the region suffices */
     for (size_t i = 0; i < BURST; i++, number++) {
       packet *p = packet_at(&burst, i);
       p->number = number;
@@ -145,7 +146,8 @@ int main(void) {
   pthread_t threads[THREADS];
   uint64_t sums[2] = {0}, bursts = (PACKETS + BURST - 1) / BURST, expected = 0;
   fv_pool_init(&pool);
-  must(fv_pool_open(&pool, region, sizeof region, LINES + 1, 6, 65536)); /* checkers neither lend nor free */
+  must(
+      fv_pool_open(&pool, region, sizeof region, LINES + 1, 6, 65536)); /* checkers neither lend nor free */
   open_queue(&to_sink, LINES);
   for (size_t i = 0; i < LINES; i++) {
     open_queue(&to_checker[i], 1);
@@ -157,6 +159,7 @@ int main(void) {
 
   for (uint64_t number = 0; number < bursts * BURST; number++) expected += 48 * ('a' + number % 26) * LINES;
   uint32_t audit = fv_pool_close(&pool);
-  printf("packets %" PRIu64 ", checksums %s, audit: %s\n", sums[0], sums[1] == expected ? "right" : "WRONG", fv_strerror(audit));
+  printf("packets %" PRIu64 ", checksums %s, audit: %s\n", sums[0], sums[1] == expected ? "right" : "WRONG",
+         fv_strerror(audit));
   return sums[0] != bursts * BURST * LINES || sums[1] != expected || audit != FV_OK;
 }

@@ -1,7 +1,8 @@
-// Two readers write lines into buffers, one writer takes them from a bounded queue, checks them, and lets them go.
+// Two readers write lines into buffers, one writer takes them from a bounded queue, checks them, and lets
+// them go.
 //
-// A buffer owns what it was lent: where the writer's loop drops one, it goes home to the reader that lent it.
-// Build: c++ -std=c++17 -pthread pipeline.cpp -lfustrevol
+// A buffer owns what it was lent: where the writer's loop drops one, it goes home to the reader that lent
+// it. Build: c++ -std=c++17 -pthread pipeline.cpp -lfustrevol
 #include "fustrevol.hpp"
 
 #include <condition_variable>
@@ -60,7 +61,8 @@ bool read(fustrevol::pool &pool, bounded_queue &out, std::size_t reader) {
       std::fprintf(stderr, "pipeline: %s\n", message(line.error()));
       return false;
     }
-    int length = std::snprintf(reinterpret_cast<char *>(line->data()), line->size(), "reader %zu line %zu", reader, number);
+    int length = std::snprintf(reinterpret_cast<char *>(line->data()), line->size(), "reader %zu line %zu",
+                               reader, number);
     line->resize(static_cast<std::size_t>(length));
     out.send(std::move(*line));
   }
@@ -75,7 +77,9 @@ std::size_t write(fustrevol::pool &pool, bounded_queue &in) {
     std::size_t reader = line[7] - '0';
     char expected[48];
     int length = std::snprintf(expected, sizeof expected, "reader %zu line %zu", reader, next[reader]++);
-    if (line.size() == static_cast<std::size_t>(length) && std::memcmp(line.data(), expected, line.size()) == 0) right++;
+    if (line.size() == static_cast<std::size_t>(length) &&
+        std::memcmp(line.data(), expected, line.size()) == 0)
+      right++;
   }
   return right;
 }

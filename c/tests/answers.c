@@ -35,7 +35,8 @@ static void sizes_and_words(void) {
     CHECK(strcmp(fv_strerror(known[i]), "unknown answer") != 0);
     for (size_t j = 0; j < i; j++) CHECK(strcmp(fv_strerror(known[i]), fv_strerror(known[j])) != 0);
   }
-  CHECK(strcmp(fv_strerror(9), "unknown answer") == 0 && strcmp(fv_strerror(UINT32_MAX), "unknown answer") == 0);
+  CHECK(strcmp(fv_strerror(9), "unknown answer") == 0 &&
+        strcmp(fv_strerror(UINT32_MAX), "unknown answer") == 0);
 }
 
 /* Nothing is open, attached, lent. */
@@ -49,7 +50,8 @@ static void nothing_there(void) {
   ANSWERS(fv_free(&a, &buf), FV_EMPTY);
   ANSWERS(fv_flush(&a), FV_EMPTY);
   ANSWERS(fv_collect(&a), FV_EMPTY);
-  for (uint32_t which = 0; which <= FV_ALLOCATOR_STOCK; which++) CHECK(fv_allocator_stat(&a, which) == UINT64_MAX);
+  for (uint32_t which = 0; which <= FV_ALLOCATOR_STOCK; which++)
+    CHECK(fv_allocator_stat(&a, which) == UINT64_MAX);
   CHECK(fv_buf_capacity(&buf) == 0 && fv_buf_len(&buf) == 0);
   ANSWERS(fv_buf_set_len(&buf, 0), FV_EMPTY);
   ANSWERS(fv_burst_open(&a, &burst, 4), FV_EMPTY);
@@ -117,13 +119,15 @@ static void each_size(unsigned char *region) {
   for (size_t size = 0; size <= FV_LARGEST; size++) {
     ANSWERS(fv_alloc(&a, &buf, size), FV_OK);
     CHECK(fv_buf_capacity(&buf) == class_size(size) && fv_buf_len(&buf) == 0);
-    CHECK(buf.at >= region && buf.at + fv_buf_capacity(&buf) <= region + LEN && (size_t)(buf.at - region) % 16 == 0);
+    CHECK(buf.at >= region && buf.at + fv_buf_capacity(&buf) <= region + LEN &&
+          (size_t)(buf.at - region) % 16 == 0);
     memset(buf.at, (int)size, fv_buf_capacity(&buf));
     ANSWERS(fv_free(size % 2 ? &b : &a, &buf), FV_OK);
     ANSWERS(fv_flush(&b), FV_OK);
   }
   CHECK(fv_allocator_stat(&a, FV_ALLOCATOR_LENT) == FV_LARGEST + 1);
-  CHECK(fv_allocator_stat(&a, FV_ALLOCATOR_FREED) + fv_allocator_stat(&b, FV_ALLOCATOR_FREED) == FV_LARGEST + 1);
+  CHECK(fv_allocator_stat(&a, FV_ALLOCATOR_FREED) + fv_allocator_stat(&b, FV_ALLOCATOR_FREED) ==
+        FV_LARGEST + 1);
   close_two(FV_OK);
 }
 
@@ -150,13 +154,15 @@ static void buffers(unsigned char *region) {
   ANSWERS(fv_free(&none, &second), FV_EMPTY);
   ANSWERS(fv_free(&b, &second), FV_OK);
   ANSWERS(fv_free(&b, &second), FV_EMPTY);
-  CHECK(fv_allocator_stat(&b, FV_ALLOCATOR_CACHED) == 1 && fv_allocator_stat(&b, FV_ALLOCATOR_CACHED_BYTES) == 112);
+  CHECK(fv_allocator_stat(&b, FV_ALLOCATOR_CACHED) == 1 &&
+        fv_allocator_stat(&b, FV_ALLOCATOR_CACHED_BYTES) == 112);
   ANSWERS(fv_collect(&a), FV_EMPTY);
   ANSWERS(fv_flush(&b), FV_OK);
   CHECK(fv_allocator_stat(&b, FV_ALLOCATOR_CACHED) == 0 && fv_allocator_stat(&b, FV_ALLOCATOR_POSTED) == 1);
   ANSWERS(fv_collect(&a), FV_OK);
   ANSWERS(fv_collect(&a), FV_EMPTY);
-  CHECK(fv_allocator_stat(&a, FV_ALLOCATOR_TAKEN) == 1 && fv_allocator_stat(&a, FV_ALLOCATOR_HOME) == FV_CHUNK / 112);
+  CHECK(fv_allocator_stat(&a, FV_ALLOCATOR_TAKEN) == 1 &&
+        fv_allocator_stat(&a, FV_ALLOCATOR_HOME) == FV_CHUNK / 112);
   ANSWERS(fv_alloc(&a, &buf, 100), FV_OK); /* the slot that came home last, and nothing of it is filled */
   CHECK(buf.at == at && fv_buf_len(&buf) == 0);
   ANSWERS(fv_free(&a, &buf), FV_OK);
@@ -238,7 +244,8 @@ static void used_up(unsigned char *region) {
   close_two(FV_OK);
 }
 
-fv_buf kept[40]; /* the record of the lost one stays reachable here, so that a leak detector sees other leaks alone */
+fv_buf kept
+    [40]; /* the record of the lost one stays reachable here, so that a leak detector sees other leaks alone */
 
 /* What was not freed is named: the slot's place in the region. */
 static void missing(unsigned char *region) {

@@ -5,23 +5,23 @@
 #include <stdio.h>
 #include <stdlib.h>
 
-#define CHECK(condition)                                                                       \
-  do {                                                                                         \
-    if (!(condition)) {                                                                        \
-      fprintf(stderr, "%s:%d: not so: %s\n", __FILE__, __LINE__, #condition);                  \
-      exit(1);                                                                                 \
-    }                                                                                          \
+#define CHECK(condition)                                                                                   \
+  do {                                                                                                     \
+    if (!(condition)) {                                                                                    \
+      fprintf(stderr, "%s:%d: not so: %s\n", __FILE__, __LINE__, #condition);                              \
+      exit(1);                                                                                             \
+    }                                                                                                      \
   } while (0)
 
 /* Whether a call answers just this. */
-#define ANSWERS(call, expected)                                                                \
-  do {                                                                                         \
-    uint32_t got_ = (call);                                                                    \
-    if (got_ != (uint32_t)(expected)) {                                                        \
-      fprintf(stderr, "%s:%d: %s: %u (%s), and not %s\n", __FILE__, __LINE__, #call,           \
-              (unsigned)got_, fv_strerror(got_), #expected);                                   \
-      exit(1);                                                                                 \
-    }                                                                                          \
+#define ANSWERS(call, expected)                                                                            \
+  do {                                                                                                     \
+    uint32_t got_ = (call);                                                                                \
+    if (got_ != (uint32_t)(expected)) {                                                                    \
+      fprintf(stderr, "%s:%d: %s: %u (%s), and not %s\n", __FILE__, __LINE__, #call, (unsigned)got_,       \
+              fv_strerror(got_), #expected);                                                               \
+      exit(1);                                                                                             \
+    }                                                                                                      \
   } while (0)
 
 static inline unsigned char *new_region(size_t chunks) {
@@ -47,5 +47,7 @@ static inline uint64_t next_number(uint64_t *state) {
   return *state * 2685821657736338717u;
 }
 
-static inline size_t below(uint64_t *state, size_t bound) { return (size_t)(next_number(state) >> 33) % bound; }
+static inline size_t below(uint64_t *state, size_t bound) {
+  return (size_t)(next_number(state) >> 33) % bound;
+}
 #endif

@@ -1,6 +1,6 @@
-/* Threads that do what they like: each lends, fills, swaps with others, looks, frees, flushes, hands its allocator to another thread,
-   and takes up the allocator that another one gave back.
-   crowd [THREADS] [STEPS OF EACH] [BITS] */
+/* Threads that do what they like: each lends, fills, swaps with others, looks, frees, flushes, hands its
+ * allocator to another thread, and takes up the allocator that another one gave back. crowd [THREADS]
+ * [STEPS OF EACH] [BITS] */
 #include "holders.h"
 #include <pthread.h>
 #include <sched.h>
@@ -188,7 +188,8 @@ int main(int argc, char **argv) {
   free(workers);
   free(held.marks);
   free(region);
-  printf("crowd: %zu threads, %zu steps each, %u bits: %llu times another's allocator, %llu times used up, audit 0\n", threads,
-         steps, (unsigned)bits, (unsigned long long)reattached, (unsigned long long)refused);
+  printf("crowd: %zu threads, %zu steps each, %u bits: %llu times another's allocator, %llu times used up, "
+         "audit 0\n",
+         threads, steps, (unsigned)bits, (unsigned long long)reattached, (unsigned long long)refused);
   return 0;
 }

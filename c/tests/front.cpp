@@ -11,12 +11,12 @@
 #include <type_traits>
 #include <vector>
 
-#define CHECK(condition)                                                                       \
-  do {                                                                                         \
-    if (!(condition)) {                                                                        \
-      std::fprintf(stderr, "%s:%d: not so: %s\n", __FILE__, __LINE__, #condition);             \
-      std::exit(1);                                                                            \
-    }                                                                                          \
+#define CHECK(condition)                                                                                   \
+  do {                                                                                                     \
+    if (!(condition)) {                                                                                    \
+      std::fprintf(stderr, "%s:%d: not so: %s\n", __FILE__, __LINE__, #condition);                         \
+      std::exit(1);                                                                                        \
+    }                                                                                                      \
   } while (0)
 
 using fustrevol::allocator;
@@ -25,9 +25,12 @@ using fustrevol::burst;
 using fustrevol::pool;
 using fustrevol::status;
 
-static_assert(std::is_nothrow_move_constructible<buffer>::value && !std::is_copy_constructible<buffer>::value, "");
+static_assert(std::is_nothrow_move_constructible<buffer>::value &&
+                  !std::is_copy_constructible<buffer>::value,
+              "");
 static_assert(std::is_nothrow_move_assignable<burst>::value && !std::is_copy_assignable<burst>::value, "");
-static_assert(!std::is_move_constructible<allocator>::value && !std::is_move_constructible<pool>::value, "");
+static_assert(!std::is_move_constructible<allocator>::value && !std::is_move_constructible<pool>::value,
+              "");
 
 static constexpr std::size_t length = 1 << 20;
 alignas(4096) static unsigned char region[2 * length];
@@ -60,7 +63,8 @@ static void ownership() {
   {
     allocator mine(lines);
     buffer a = alloc(mine, 100), b;
-    CHECK(a.size() == 100 && a.capacity() == 112 && a.data() >= region && a.data() + 112 <= region + length);
+    CHECK(a.size() == 100 && a.capacity() == 112 && a.data() >= region &&
+          a.data() + 112 <= region + length);
     std::memset(a.data(), 7, a.size());
     unsigned char *at = a.data();
     b = std::move(a);
@@ -108,12 +112,15 @@ static void bursts() {
     auto opened = mine.open_burst(8);
     CHECK(opened);
     burst packets = std::move(*opened);
-    CHECK(mine.fill(packets, 64, 7) == status::ok && packets.size() == 7 && packets[6].size() == 64 && packets[7].data() == nullptr);
-    CHECK(second.fill(packets, 64, 1) == status::stranger && other.fill(packets, 64, 1) == status::stranger);
+    CHECK(mine.fill(packets, 64, 7) == status::ok && packets.size() == 7 && packets[6].size() == 64 &&
+          packets[7].data() == nullptr);
+    CHECK(second.fill(packets, 64, 1) == status::stranger &&
+          other.fill(packets, 64, 1) == status::stranger);
     buffer one = alloc(mine, 64), strange = alloc(other, 64);
     one[0] = 9;
     CHECK(one.resize(3));
-    CHECK(packets.push(std::move(strange)) == status::stranger && strange); // another pool's, of the same number
+    CHECK(packets.push(std::move(strange)) == status::stranger &&
+          strange); // another pool's, of the same number
     CHECK(packets.push(std::move(one)) == status::ok && !one && packets.size() == 8);
     buffer left = alloc(mine, 64);
     CHECK(packets.push(std::move(left)) == status::full && left);
@@ -223,6 +230,7 @@ int main() {
   bursts();
   kept();
   across_threads();
-  std::printf("front (C++%ld): buffers and bursts go home where they are destroyed: audit 0\n", __cplusplus / 100 % 100);
+  std::printf("front (C++%ld): buffers and bursts go home where they are destroyed: audit 0\n",
+              __cplusplus / 100 % 100);
   return 0;
 }

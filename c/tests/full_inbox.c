@@ -1,4 +1,5 @@
-/* An allocator that does not look into its inbox: what it cannot be sent stays cached with the sender, and comes later. */
+/* An allocator that does not look into its inbox: what it cannot be sent stays cached with the sender, and
+ * comes later. */
 #include "check.h"
 
 enum { CHUNKS = 16, BUFFERS = 64, BATCHES = 16 };
@@ -27,10 +28,12 @@ int main(void) {
     CHECK(fv_allocator_stat(&other, FV_ALLOCATOR_CACHED) == i + 1 - posted);
   }
   ANSWERS(fv_collect(&owner), FV_OK);
-  CHECK(fv_allocator_stat(&owner, FV_ALLOCATOR_TAKEN) == BATCHES && fv_allocator_stat(&owner, FV_ALLOCATOR_HOME) == BATCHES);
+  CHECK(fv_allocator_stat(&owner, FV_ALLOCATOR_TAKEN) == BATCHES &&
+        fv_allocator_stat(&owner, FV_ALLOCATOR_HOME) == BATCHES);
   ANSWERS(fv_collect(&owner), FV_EMPTY);
   ANSWERS(fv_flush(&other), FV_OK); /* now there is room */
-  CHECK(fv_allocator_stat(&other, FV_ALLOCATOR_CACHED) == 0 && fv_allocator_stat(&other, FV_ALLOCATOR_CACHED_BYTES) == 0);
+  CHECK(fv_allocator_stat(&other, FV_ALLOCATOR_CACHED) == 0 &&
+        fv_allocator_stat(&other, FV_ALLOCATOR_CACHED_BYTES) == 0);
   ANSWERS(fv_collect(&owner), FV_OK);
   CHECK(fv_allocator_stat(&owner, FV_ALLOCATOR_HOME) == BUFFERS);
 

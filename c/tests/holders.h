@@ -1,7 +1,9 @@
-/* Who holds which bytes of a region, on any thread: each step of 16 bytes is marked while a buffer with it is lent.
+/* Who holds which bytes of a region, on any thread: each step of 16 bytes is marked while a buffer with it
+ * is lent.
  *
- * A buffer is filled with a pattern of its own when it is lent, and the pattern is looked at before it is freed. The marks are sequentially
- * consistent atomics, so that a race detector sees the order in which a slot's holders follow one another. */
+ * A buffer is filled with a pattern of its own when it is lent, and the pattern is looked at before it is
+ * freed. The marks are sequentially consistent atomics, so that a race detector sees the order in which a
+ * slot's holders follow one another. */
 #ifndef HOLDERS_H
 #define HOLDERS_H
 #include "check.h"
@@ -19,7 +21,9 @@ static inline holders new_holders(unsigned char *region, size_t len) {
   return h;
 }
 
-static inline unsigned char pattern(uint32_t seed, size_t i) { return (unsigned char)(seed * 31u + i * 7u + (i >> 8)); }
+static inline unsigned char pattern(uint32_t seed, size_t i) {
+  return (unsigned char)(seed * 31u + i * 7u + (i >> 8));
+}
 
 static inline void fill(unsigned char *at, size_t size, uint32_t seed) {
   for (size_t i = 0; i < size; i++) at[i] = pattern(seed, i);

@@ -1,5 +1,5 @@
-/* A bounded queue between one producer and one consumer. It holds what a thread hands to another: a buffer or a burst, with what
-   its bytes should be. */
+/* A bounded queue between one producer and one consumer. It holds what a thread hands to another: a buffer
+ * or a burst, with what its bytes should be. */
 #ifndef LANE_H
 #define LANE_H
 #include "check.h"

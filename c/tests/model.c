@@ -1,5 +1,5 @@
-/* Random calls on one thread against a model: who holds which bytes, what each call has to answer, what was counted.
-   model [FIRST SEED] [SEEDS] [STEPS OF EACH] */
+/* Random calls on one thread against a model: who holds which bytes, what each call has to answer, what was
+ * counted. model [FIRST SEED] [SEEDS] [STEPS OF EACH] */
 #include "holders.h"
 #include <string.h>
 
@@ -42,7 +42,8 @@ static place places[PLACES];
 static parcel parcels[BURSTS];
 static uint64_t lent[MOST], freed[MOST]; /* by an allocator's number */
 static uint64_t state;
-fv_buf forgotten_bufs[4096]; /* not static, so that it is kept, and a leak detector sees other leaks alone */
+fv_buf
+    forgotten_bufs[4096]; /* not static, so that it is kept, and a leak detector sees other leaks alone */
 static size_t forgotten_count;
 
 static void check_counts(void) {
@@ -60,7 +61,8 @@ static void check_counts(void) {
   CHECK(drawn <= chunks && fv_pool_stat(&pool, FV_POOL_IDLE) == idle);
 }
 
-/* Whether the pool may say that it is used up: all chunks were drawn, by those attached and by those that are not. */
+/* Whether the pool may say that it is used up: all chunks were drawn, by those attached and by those that
+ * are not. */
 static void check_used_up(void) {
   uint64_t drawn = 0;
   for (uint32_t i = 0; i < allocators; i++) {
@@ -127,7 +129,8 @@ static void one_burst_open(holder *h, parcel *b) {
 }
 
 static void one_burst_fill(holder *h, parcel *b) {
-  size_t size = below(&state, FV_LARGEST + 1), room = b->places - b->count, wanted = b->open ? below(&state, room + 1) : 1;
+  size_t size = below(&state, FV_LARGEST + 1), room = b->places - b->count,
+         wanted = b->open ? below(&state, room + 1) : 1;
   uint32_t answer = fv_burst_fill(&h->allocator, &b->burst, size, wanted);
   if (!h->attached || !b->open) ANSWERS(answer, FV_EMPTY);
   else if (b->owner != h->number) ANSWERS(answer, FV_STRANGER);
@@ -165,7 +168,8 @@ static void one_burst_pop(parcel *b, place *p) {
 
 static void one_burst_free(holder *h, parcel *b) {
   int works = h->attached && b->open;
-  for (size_t i = 0; works && i < b->count; i++) unlend(&held, b->is[i].at, b->is[i].capacity, b->is[i].seed);
+  for (size_t i = 0; works && i < b->count; i++)
+    unlend(&held, b->is[i].at, b->is[i].capacity, b->is[i].seed);
   ANSWERS(fv_burst_free(&h->allocator, &b->burst), works ? FV_OK : FV_EMPTY);
   if (!works) return;
   freed[h->number] += b->count;
@@ -244,7 +248,8 @@ static void begin(uint64_t seed) {
   for (uint32_t i = 0; i < allocators; i++) one_attach(&holder_of[i]);
 }
 
-/* Frees all but one buffer, where one is to be forgotten, closes the pool, and looks at what the audit says. */
+/* Frees all but one buffer, where one is to be forgotten, closes the pool, and looks at what the audit
+ * says. */
 static void end(int forgets) {
   place forgotten = {0};
   for (uint32_t i = 0; i < allocators; i++) {
@@ -256,7 +261,8 @@ static void end(int forgets) {
   }
   for (size_t i = 0; i < PLACES; i++) {
     check_place(&places[i]);
-    if (forgets && forgotten.is.capacity == 0 && places[i].is.capacity > 0) one_move(&forgotten, &places[i]);
+    if (forgets && forgotten.is.capacity == 0 && places[i].is.capacity > 0)
+      one_move(&forgotten, &places[i]);
     one_free(&holder_of[below(&state, allocators)], &places[i]);
   }
   check_counts();
@@ -268,13 +274,15 @@ static void end(int forgets) {
   }
   size_t offset = (size_t)(forgotten.is.at - region);
   ANSWERS(fv_pool_close(&pool), FV_AUDIT_MISSING);
-  CHECK(fv_pool_stat(&pool, FV_POOL_FAULT) == 256 * (offset / FV_CHUNK) + offset % FV_CHUNK / forgotten.is.capacity);
+  CHECK(fv_pool_stat(&pool, FV_POOL_FAULT) ==
+        256 * (offset / FV_CHUNK) + offset % FV_CHUNK / forgotten.is.capacity);
   unlend(&held, forgotten.is.at, forgotten.is.capacity, forgotten.is.seed);
   forgotten_bufs[forgotten_count++ % 4096] = forgotten.buf;
 }
 
 int main(int argc, char **argv) {
-  uint64_t first = argc > 1 ? strtoull(argv[1], NULL, 10) : 1, seeds = argc > 2 ? strtoull(argv[2], NULL, 10) : 200;
+  uint64_t first = argc > 1 ? strtoull(argv[1], NULL, 10) : 1,
+           seeds = argc > 2 ? strtoull(argv[2], NULL, 10) : 200;
   size_t steps = argc > 3 ? strtoul(argv[3], NULL, 10) : 10000, made = 0;
   region = new_region(CHUNKS);
   held = new_holders(region, (size_t)CHUNKS * FV_CHUNK);
@@ -290,7 +298,8 @@ int main(int argc, char **argv) {
   }
   free(held.marks);
   free(region);
-  printf("model: %llu seeds, %zu steps each, %zu buffers: all answers, bytes and audits as the model says\n",
-         (unsigned long long)seeds, steps, made);
+  printf(
+      "model: %llu seeds, %zu steps each, %zu buffers: all answers, bytes and audits as the model says\n",
+      (unsigned long long)seeds, steps, made);
   return 0;
 }

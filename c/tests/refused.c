@@ -1,6 +1,6 @@
-/* Each time that the library takes memory is refused in turn: the call says so and changes nothing, the same call goes well when it is
-   made again, and in the end all memory is given back.
-   Linked with -Wl,--wrap=malloc,--wrap=realloc,--wrap=aligned_alloc,--wrap=free. */
+/* Each time that the library takes memory is refused in turn: the call says so and changes nothing, the
+ * same call goes well when it is made again, and in the end all memory is given back. Linked with
+ * -Wl,--wrap=malloc,--wrap=realloc,--wrap=aligned_alloc,--wrap=free. */
 #include "check.h"
 
 void *__real_malloc(size_t size);
@@ -56,15 +56,15 @@ static fv_buf bufs[BUFFERS];
 static fv_burst bursts[3];
 
 /* The call goes well, or was refused memory, and then goes well. */
-#define GOES(call)                                                                             \
-  do {                                                                                         \
-    size_t before_ = refusals;                                                                 \
-    uint32_t first_ = (call);                                                                  \
-    if (first_ != FV_OK) {                                                                     \
-      ANSWERS(first_, FV_NO_MEMORY);                                                           \
-      CHECK(refusals == before_ + 1);                                                          \
-      ANSWERS(call, FV_OK);                                                                    \
-    }                                                                                          \
+#define GOES(call)                                                                                         \
+  do {                                                                                                     \
+    size_t before_ = refusals;                                                                             \
+    uint32_t first_ = (call);                                                                              \
+    if (first_ != FV_OK) {                                                                                 \
+      ANSWERS(first_, FV_NO_MEMORY);                                                                       \
+      CHECK(refusals == before_ + 1);                                                                      \
+      ANSWERS(call, FV_OK);                                                                                \
+    }                                                                                                      \
   } while (0)
 
 static void open_pool(unsigned char *region) {

@@ -1,5 +1,5 @@
-/* Producers lend and send, consumers look and free: 2, 4, .. threads, single buffers and bursts.
-   threads [MOST THREADS] [BUFFERS OF EACH PRODUCER] */
+/* Producers lend and send, consumers look and free: 2, 4, .. threads, single buffers and bursts. threads
+ * [MOST THREADS] [BUFFERS OF EACH PRODUCER] */
 #include "holders.h"
 #include "lane.h"
 #include <sched.h>
@@ -145,6 +145,7 @@ int main(int argc, char **argv) {
   }
   free(held.marks);
   free(region);
-  printf("threads: 2 to %zu threads, %zu buffers of each producer, single and in bursts: audit 0\n", most, count);
+  printf("threads: 2 to %zu threads, %zu buffers of each producer, single and in bursts: audit 0\n", most,
+         count);
   return 0;
 }

@@ -1,5 +1,5 @@
-/* A pool that is used up most of the time: the producer waits for a signal, and does not spin. The consumer flushes and counts that
-   under one lock, so a producer that sees the count change finds something. */
+/* A pool that is used up most of the time: the producer waits for a signal, and does not spin. The consumer
+ * flushes and counts that under one lock, so a producer that sees the count change finds something. */
 #include "holders.h"
 #include <pthread.h>
 
@@ -80,6 +80,7 @@ int main(void) {
   CHECK(count_held(&held) == 0 && waits > 0);
   free(held.marks);
   free(region);
-  printf("waiting: %d buffers through eight slots, %zu waits, each ended by a buffer: audit 0\n", COUNT, waits);
+  printf("waiting: %d buffers through eight slots, %zu waits, each ended by a buffer: audit 0\n", COUNT,
+         waits);
   return 0;
 }

@@ -1,6 +1,8 @@
-//! Two readers write lines into buffers and send them over a bounded channel; one writer checks them and lets them go.
+//! Two readers write lines into buffers and send them over a bounded channel; one writer checks
+//! them and lets them go.
 //!
-//! A buffer owns what it was lent: where the writer's loop drops one, it goes home to the reader that lent it.
+//! A buffer owns what it was lent: where the writer's loop drops one, it goes home to the reader
+//! that lent it.
 use fustrevol::{Buf, Error, Options, Pool, CHUNK};
 use std::error;
 use std::io::Write;

@@ -14,14 +14,16 @@ struct Seat {
 }
 
 thread_local! {
-    // The allocators of this thread, the last attached first. One that is leaked stays in the list, and in its place.
+    // The allocators of this thread, the last attached first. One that is leaked stays in the list,
+    // and in its place.
     static FIRST: Cell<*const Seat> = const { Cell::new(ptr::null()) };
 }
 
 // The allocator of a pool that this thread has.
 pub(crate) fn here(pool: &Shared) -> Option<*mut RawAllocator> {
     let mut at = FIRST.get();
-    // SAFETY: what is in the list is alive: an allocator takes its seat out before it gives it back.
+    // SAFETY: what is in the list is alive: an allocator takes its seat out before it gives it
+    // back.
     while let Some(seat) = unsafe { at.as_ref() } {
         if seat.pool_id == pool.id {
             return Some(seat.raw.get());
@@ -31,7 +33,8 @@ pub(crate) fn here(pool: &Shared) -> Option<*mut RawAllocator> {
     None
 }
 
-/// What a thread allocates and frees at. It stays on the thread that attached it, and is given back when it is dropped.
+/// What a thread allocates and frees at. It stays on the thread that attached it, and is given back
+/// when it is dropped.
 ///
 /// ```compile_fail,E0277
 /// let mut region = vec![0; 1 << 20];
@@ -67,10 +70,12 @@ impl<'p> Allocator<'p> {
         unsafe { (*self.seat).raw.get() }
     }
 
-    /// Lends a buffer of `size` bytes, which are as they were left. Its class may have more: [`Buf::capacity`].
+    /// Lends a buffer of `size` bytes, which are as they were left. Its class may have more:
+    /// [`Buf::capacity`].
     ///
-    /// [`Error::TooLarge`] above [`LARGEST`](crate::LARGEST) bytes, [`Error::UsedUp`] where no slot is at home, none came and
-    /// the region has no chunk left, [`Error::NoMemory`] where a slot is used for the first time, and memory was refused.
+    /// [`Error::TooLarge`] above [`LARGEST`](crate::LARGEST) bytes, [`Error::UsedUp`] where no slot
+    /// is at home, none came and the region has no chunk left, [`Error::NoMemory`] where a slot is
+    /// used for the first time, and memory was refused.
     pub fn alloc(&self, size: usize) -> Result<Buf<'p>, Error> {
         let mut raw = RawBuf::new();
         // SAFETY: the allocator is attached, and used on this thread alone, one call at a time.
@@ -78,7 +83,8 @@ impl<'p> Allocator<'p> {
         Ok(Buf::of(self.pool, raw, size))
     }
 
-    /// Opens a burst for `places` buffers of this allocator. [`Error::NoMemory`] where memory was refused.
+    /// Opens a burst for `places` buffers of this allocator. [`Error::NoMemory`] where memory was
+    /// refused.
     pub fn open_burst(&self, places: usize) -> Result<Burst<'p>, Error> {
         let mut burst = Burst::of(self.pool);
         // SAFETY: as above; the burst is ours.
@@ -86,11 +92,11 @@ impl<'p> Allocator<'p> {
         Ok(burst)
     }
 
-    /// Lends `count` buffers more into a burst, each with all bytes of its class. Where it stops early, those that were lent
-    /// until then are in the burst.
+    /// Lends `count` buffers more into a burst, each with all bytes of its class. Where it stops
+    /// early, those that were lent until then are in the burst.
     ///
-    /// [`Error::Full`] where the burst has no place left, [`Error::Stranger`] where another allocator opened it, and as
-    /// [`Allocator::alloc`].
+    /// [`Error::Full`] where the burst has no place left, [`Error::Stranger`] where another
+    /// allocator opened it, and as [`Allocator::alloc`].
     pub fn fill(&self, burst: &mut Burst<'p>, size: usize, count: usize) -> Result<(), Error> {
         if burst.pool.id != self.pool.id {
             return Err(Error::Stranger);
@@ -99,7 +105,8 @@ impl<'p> Allocator<'p> {
         answer(unsafe { sys::fv_burst_fill(self.raw(), &mut burst.raw, size, count) })
     }
 
-    /// Posts all that is cached for others: before this thread waits for another one, which may need it.
+    /// Posts all that is cached for others: before this thread waits for another one, which may
+    /// need it.
     pub fn flush(&self) {
         self.pool.free_kept(self.raw());
         // SAFETY: as above. It is refused only where no allocator is attached.
@@ -107,7 +114,8 @@ impl<'p> Allocator<'p> {
         debug_assert_eq!(flushed, 0);
     }
 
-    /// Takes what came home, and says whether anything did. [`Allocator::alloc`] does so by itself where it finds no slot.
+    /// Takes what came home, and says whether anything did. [`Allocator::alloc`] does so by itself
+    /// where it finds no slot.
     pub fn collect(&self) -> bool {
         self.pool.free_kept(self.raw());
         // SAFETY: as above.
@@ -135,8 +143,8 @@ impl<'p> Allocator<'p> {
 
 impl Drop for Allocator<'_> {
     fn drop(&mut self) {
-        // SAFETY: the seat is in this thread's list, since an allocator doesn't leave its thread; all seats in it are alive.
-        // Once it is out of the list, nobody else has it.
+        // SAFETY: the seat is in this thread's list, since an allocator doesn't leave its thread;
+        // all seats in it are alive. Once it is out of the list, nobody else has it.
         unsafe {
             let mut at = FIRST.with(ptr::from_ref::<Cell<*const Seat>>);
             while !ptr::eq((*at).get(), self.seat) {

@@ -9,8 +9,8 @@ use std::slice;
 
 /// Bytes that a pool lent. They go to other threads as the buffer does, without a copy.
 ///
-/// A buffer that is dropped is freed at the allocator of its pool that the thread attached last, else by the next one that is
-/// attached anywhere ([`Pool::kept`](crate::Pool::kept)).
+/// A buffer that is dropped is freed at the allocator of its pool that the thread attached last,
+/// else by the next one that is attached anywhere ([`Pool::kept`](crate::Pool::kept)).
 ///
 /// It is `Send`, and not `Sync`: threads that look at the same bytes share its slice.
 ///
@@ -31,7 +31,8 @@ pub struct Buf<'p> {
     len: usize,
 }
 
-// SAFETY: the C library's buffers go to other threads, which may free them; nothing of a buffer is shared.
+// SAFETY: the C library's buffers go to other threads, which may free them; nothing of a buffer is
+// shared.
 unsafe impl Send for Buf<'_> {}
 
 impl<'p> Buf<'p> {
@@ -44,7 +45,8 @@ impl<'p> Buf<'p> {
         self.pool
     }
 
-    // Lends the raw one, with its filled length, to be pushed: where that goes well, the buffer is no longer ours.
+    // Lends the raw one, with its filled length, to be pushed: where that goes well, the buffer is
+    // no longer ours.
     pub(crate) fn hand_over(
         mut self,
         take: impl FnOnce(&mut RawBuf) -> Result<(), Error>,
@@ -62,7 +64,8 @@ impl<'p> Buf<'p> {
 
     /// How many bytes its class has.
     pub fn capacity(&self) -> usize {
-        // SAFETY: the raw one is ours, and isn't used by another thread, since a buffer isn't `Sync`.
+        // SAFETY: the raw one is ours, and isn't used by another thread, since a buffer isn't
+        // `Sync`.
         unsafe { sys::fv_buf_capacity(&self.raw) }
     }
 
@@ -79,7 +82,8 @@ impl Deref for Buf<'_> {
     type Target = [u8];
 
     fn deref(&self) -> &[u8] {
-        // SAFETY: these bytes of the region are lent to this buffer alone. The program gave them with a value.
+        // SAFETY: these bytes of the region are lent to this buffer alone. The program gave them
+        // with a value.
         unsafe { slice::from_raw_parts(self.raw.at, self.len) }
     }
 }

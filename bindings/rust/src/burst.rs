@@ -8,7 +8,8 @@ use std::mem;
 use std::ptr;
 use std::slice;
 
-/// Buffers of one allocator that go from thread to thread and are freed as a whole, at the cost of one.
+/// Buffers of one allocator that go from thread to thread and are freed as a whole, at the cost of
+/// one.
 ///
 /// ```
 /// # let mut region = vec![0; 1 << 20];
@@ -88,8 +89,9 @@ impl<'p> Burst<'p> {
             .map(|span| unsafe { slice::from_raw_parts_mut(span.at, span.len) })
     }
 
-    /// Puts a buffer to the end, its length with it. It comes back with [`Error::Full`] where there is no place left, and with
-    /// [`Error::Stranger`] where it isn't of the allocator that opened the burst.
+    /// Puts a buffer to the end, its length with it. It comes back with [`Error::Full`] where there
+    /// is no place left, and with [`Error::Stranger`] where it isn't of the allocator that opened
+    /// the burst.
     pub fn push(&mut self, buf: Buf<'p>) -> Result<(), (Error, Buf<'p>)> {
         if buf.pool().id != self.pool.id {
             return Err((Error::Stranger, buf));
@@ -101,7 +103,8 @@ impl<'p> Burst<'p> {
     /// Takes the last buffer out.
     pub fn pop(&mut self) -> Option<Buf<'p>> {
         let mut raw = RawBuf::new();
-        // SAFETY: as above. What is popped is a buffer of this pool, which knows how much of it is filled.
+        // SAFETY: as above. What is popped is a buffer of this pool, which knows how much of it is
+        // filled.
         unsafe {
             if sys::fv_burst_pop(&mut self.raw, &mut raw) != 0 {
                 return None;
@@ -115,7 +118,8 @@ impl<'p> Burst<'p> {
 impl Drop for Burst<'_> {
     fn drop(&mut self) {
         match here(self.pool) {
-            // SAFETY: the allocator is this thread's, of this pool, and no call on it runs. A burst that isn't open is refused.
+            // SAFETY: the allocator is this thread's, of this pool, and no call on it runs. A burst
+            // that isn't open is refused.
             Some(allocator) => {
                 unsafe { sys::fv_burst_free(allocator, &mut self.raw) };
             }

@@ -17,7 +17,8 @@ pub enum Error {
     Empty,
     /// It belongs to another allocator, or another pool.
     Stranger,
-    /// There is no room for more; or, of [`Pool::close`](crate::Pool::close), an allocator is attached that was leaked.
+    /// There is no room for more; or, of [`Pool::close`](crate::Pool::close), an allocator is
+    /// attached that was leaked.
     Full,
     /// A number is out of its range.
     BadArgument,

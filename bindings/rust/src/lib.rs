@@ -1,8 +1,9 @@
 //! A pool of buffers for threads that hand buffers to one another.
 //!
-//! For who writes a Rust program. The pool borrows one region of bytes and lends it in buffers of 16 to 512 bytes, no two of
-//! which share a byte. Each thread attaches an [`Allocator`]. A [`Buf`] may be dropped on any thread: it goes home to the
-//! allocator that lent it, in batches, without a copy and without a lock.
+//! For who writes a Rust program. The pool borrows one region of bytes and lends it in buffers of
+//! 16 to 512 bytes, no two of which share a byte. Each thread attaches an [`Allocator`]. A [`Buf`]
+//! may be dropped on any thread: it goes home to the allocator that lent it, in batches, without a
+//! copy and without a lock.
 //!
 //! ```
 //! use fustrevol::{Options, Pool};
@@ -24,17 +25,19 @@
 //!     });
 //!     scope.spawn(|| {
 //!         let _allocator = pool.attach().unwrap();
-//!         let sum: u32 = lines.into_iter().map(|line| line.iter().map(|byte| u32::from(*byte)).sum::<u32>()).sum();
-//!         assert_eq!(sum, (0..1000).map(|number| number % 256 + number / 256).sum());
+//!         for (number, line) in (0..1000u32).zip(lines) {
+//!             assert_eq!(*line, number.to_be_bytes());
+//!         }
 //!     });
 //! });
 //! pool.close()?; // counts each slot of the region
 //! # Ok::<(), fustrevol::Error>(())
 //! ```
 //!
-//! The library below is proved; this crate, a few hundred lines with `unsafe` calls of it, is tested. What the C calls promise and ask
-//! for is in `c/fustrevol.h`. Its rules are kept by this crate's types: storage, one call at a time on one object, one live
-//! copy, and that a buffer is freed at its own pool.
+//! The library below is proved; this crate, a few hundred lines with `unsafe` calls of it, is
+//! tested. What the C calls promise and ask for is in `c/fustrevol.h`. Its rules are kept by this
+//! crate's types: storage, one call at a time on one object, one live copy, and that a buffer is
+//! freed at its own pool.
 #![warn(missing_docs)]
 
 mod allocator;

@@ -12,8 +12,8 @@ pub struct Options {
     pub allocators: u32,
     /// How many bytes an allocator caches for others before it posts them, at most 1,048,576.
     pub limit: u64,
-    /// How an allocator's number is read on a buffer's way home, in digits of 1 to 6 bits. With 6, every buffer goes
-    /// home directly; with fewer, allocators pass larger batches on for others.
+    /// How an allocator's number is read on a buffer's way home, in digits of 1 to 6 bits. With 6,
+    /// every buffer goes home directly; with fewer, allocators pass larger batches on for others.
     pub bits: u32,
 }
 
@@ -37,7 +37,8 @@ pub(crate) enum Kept {
 impl Kept {
     // Frees it at an allocator of its pool.
     fn free_at(self, raw: *mut RawAllocator) {
-        // SAFETY: whoever calls has an attached allocator of the pool, on its own thread; what is kept is here alone.
+        // SAFETY: whoever calls has an attached allocator of the pool, on its own thread; what is
+        // kept is here alone.
         let freed = unsafe {
             match self {
                 Kept::Buf(mut buf) => sys::fv_free(raw, &mut buf),
@@ -50,15 +51,16 @@ impl Kept {
 
 // A pool without its region's lifetime: what allocators, buffers and bursts refer to.
 pub(crate) struct Shared {
-    // No two pools of a program have the same, so that an allocator that was leaked is never taken for another pool's.
+    // No two pools of a program have the same, so that an allocator that was leaked is never taken
+    // for another pool's.
     pub(crate) id: u64,
     raw: Mutex<RawPool>,
     kept: Mutex<Vec<Kept>>,
     kept_count: AtomicUsize,
 }
 
-// SAFETY: the C library's pool may be used on any thread, one call at a time, which the lock sees to. What is kept
-// belongs to nobody else.
+// SAFETY: the C library's pool may be used on any thread, one call at a time, which the lock sees
+// to. What is kept belongs to nobody else.
 unsafe impl Send for Shared {}
 unsafe impl Sync for Shared {}
 
@@ -95,7 +97,8 @@ impl Shared {
         all.drain(..).for_each(|kept| kept.free_at(raw));
     }
 
-    // Frees what is kept at an allocator that nobody has. Where there is none, the pool is not closed either.
+    // Frees what is kept at an allocator that nobody has. Where there is none, the pool is not
+    // closed either.
     fn free_kept_at_an_idle_one(&self) {
         let mut idle = RawAllocator::new();
         if self.kept_count.load(Ordering::SeqCst) > 0 && self.attach(&mut idle).is_ok() {
@@ -114,7 +117,8 @@ impl Shared {
 /// One region of bytes that is lent in buffers, to threads that hand buffers to one another.
 ///
 /// Allocators, buffers and bursts borrow the pool, and the pool borrows the region. Threads of
-/// [`std::thread::scope`] share it by reference; for other threads, a program leaks a pool, by [`Box::leak`].
+/// [`std::thread::scope`] share it by reference; for other threads, a program leaks a pool, by
+/// [`Box::leak`].
 ///
 /// A pool that is dropped is closed, and what its audit says is lost; [`Pool::close`] tells it.
 ///
@@ -147,13 +151,14 @@ pub struct Pool<'r> {
 impl<'r> Pool<'r> {
     /// Opens a pool over a region of 1 to 1,024 chunks of 4,096 bytes. No byte of it is written.
     ///
-    /// [`Error::BadArgument`] where a number of the options or the region's length is out of its range,
-    /// [`Error::NoMemory`] where memory was refused.
+    /// [`Error::BadArgument`] where a number of the options or the region's length is out of its
+    /// range, [`Error::NoMemory`] where memory was refused.
     pub fn open(region: &'r mut [u8], options: Options) -> Result<Pool<'r>, Error> {
         static NEXT_ID: AtomicU64 = AtomicU64::new(0);
         sys::check_sizes();
         let mut raw = RawPool::new();
-        // SAFETY: the region is borrowed as long as the pool, and what borrows the pool, can be used.
+        // SAFETY: the region is borrowed as long as the pool, and what borrows the pool, can be
+        // used.
         answer(unsafe {
             let Options {
                 allocators,
@@ -189,8 +194,8 @@ impl<'r> Pool<'r> {
 
     /// Closes the pool, and looks for each slot of each chunk that was drawn.
     ///
-    /// [`Error::AuditMissing`] where a buffer was leaked, by [`std::mem::forget`] or its like; [`Error::Full`] where an
-    /// allocator was.
+    /// [`Error::AuditMissing`] where a buffer was leaked, by [`std::mem::forget`] or its like;
+    /// [`Error::Full`] where an allocator was.
     pub fn close(self) -> Result<(), Error> {
         self.shared.close()
     }
@@ -201,8 +206,8 @@ impl<'r> Pool<'r> {
         unsafe { sys::fv_pool_stat(&*lock(&self.shared.raw), 1) }
     }
 
-    /// How many buffers and bursts were dropped on threads without an allocator of this pool, and wait for one that is
-    /// attached, flushed or asked to collect, or for the close.
+    /// How many buffers and bursts were dropped on threads without an allocator of this pool, and
+    /// wait for one that is attached, flushed or asked to collect, or for the close.
     pub fn kept(&self) -> usize {
         self.shared.kept_count.load(Ordering::SeqCst)
     }

@@ -12,7 +12,8 @@ macro_rules! storage {
         impl $name {
             pub fn new() -> $name {
                 let mut made = $name([MaybeUninit::uninit(); $bytes]);
-                // SAFETY: the storage is ours, and holds nothing. `check_sizes` says that it is large enough.
+                // SAFETY: the storage is ours, and holds nothing. `check_sizes` says that it is
+                // large enough.
                 unsafe { $init(&mut made) };
                 made
             }

@@ -204,7 +204,8 @@ fn what_is_leaked_is_told() {
     mem::forget(pool.attach().unwrap());
     assert_eq!(pool.close(), Err(Error::Full));
 
-    // The allocator that was leaked is nobody's: not that of a pool that is opened where the other one lay.
+    // The allocator that was leaked is nobody's: not that of a pool that is opened where the other
+    // one lay.
     let pool = Pool::open(&mut region, of(1)).unwrap();
     let buf = pool.attach().unwrap().alloc(64).unwrap();
     drop(buf);
