@@ -58,18 +58,26 @@
  * tells it that it flushed. Chunks of 4,096 bytes stay with the allocator and the size class that drew
  * them, until the pool is closed.
  *
- * WHAT THE LIBRARY PROMISES. It is written in Rattle, and these are proved of every call, where the caller
- * keeps the rules below:
- *   - it returns, it has no undefined behaviour, and leaves in each object a valid value of its type;
- *   - fv_alloc: after FV_OK, `buf` holds a buffer of at least `size` bytes; after any other answer, `buf`
- *     is as it was;
+ * WHAT THE LIBRARY PROMISES. It is written in Rattle. Where the caller keeps the rules below, these are
+ * proved, in the contracts of the calls:
+ *   - every call returns, has no undefined behaviour, and leaves in each object a valid value of its type;
+ *   - fv_alloc: after FV_OK, `buf`, which held none, holds a buffer whose capacity is at least `size`;
+ *     after any other answer, `buf` is as it was;
  *   - fv_free: after FV_OK, `buf` holds no buffer; after any other answer, it holds the same buffer;
+ *   - fv_buf_capacity, fv_buf_len and fv_buf_set_len tell and change what they say, and nothing else;
+ *   - fv_pool_open: after FV_OK, no two allocators have the same number; after any other answer, the pool
+ *     is as it was;
+ *   - fv_pool_attach and fv_pool_detach: after FV_OK, one allocator has moved from the pool to `allocator`,
+ *     or back with its chunks; after any other answer, the pool has those that it had;
+ *   - fv_pool_close: after FV_OK, each slot of each chunk that was drawn was found, once, and no other one;
+ *     after FV_EMPTY and FV_FULL, the pool is as it was;
  *   - a buffer's bytes are lent to nobody else until it is freed.
  *
  * These are true by how the library is built, and tested:
  *   - `at` and fv_burst_at tell where a buffer's bytes lie;
- *   - nothing is lost, and fv_pool_close finds what was not freed;
- *   - the region is the caller's again once fv_pool_close has closed the pool and all buffers were freed.
+ *   - what bursts hold, and what fv_pool_stat and fv_allocator_stat count;
+ *   - nothing that was freed is lost, so that fv_pool_close answers FV_OK where all buffers were freed;
+ *   - after fv_pool_close the region is the caller's again, as the call says.
  *
  * WHAT THE CALLER KEEPS. No proof sees these rules, and breaking one of them is undefined behaviour, except
  * for the last two:
@@ -81,8 +89,8 @@
  *   - The region is used only through its buffers, from fv_pool_open on.
  *   - malloc, realloc and free are not replaced by others while a pool is open. No call comes from a signal
  *     handler, nor from a forked child of a process with threads.
- *   - A buffer, a burst and an allocator go back to the pool they are of. Else a slot goes to a wrong
- *     allocator. The audits tell.
+ *   - A buffer, a burst and an allocator go back to the pool they are of. Else another pool lends bytes of
+ *     this one's region. The audits tell.
  *   - An object that holds something is neither initialised again nor let go. Else what it holds is lost.
  *     The audit tells. */
 #ifndef FUSTREVOL_H
@@ -196,8 +204,8 @@ void fv_burst_init(fv_burst *burst) FV_NOEXCEPT;
  * a good one.
  *
  * `bits`: how an allocator's number is read on a buffer's way home, in digits of 1 to 6 bits. With 6, every
- * buffer goes home directly. With fewer, allocators pass batches on for others, so that each sends fewer and
- * larger ones.
+ * buffer goes home directly. With fewer, allocators pass batches on for others, so that each sends fewer
+ * and larger ones.
  *
  * Takes some 50 bytes of memory for each chunk, 3 KB for each allocator, and 1.6 KB for each pair of them:
  * 7 MB for 64 allocators. No byte of the region is written.
@@ -271,15 +279,16 @@ uint32_t fv_alloc(fv_allocator *FV_RESTRICT allocator, fv_buf *FV_RESTRICT buf, 
  * FV_STRANGER  `buf` is of no allocator that this pool can have */
 uint32_t fv_free(fv_allocator *FV_RESTRICT allocator, fv_buf *FV_RESTRICT buf) FV_NOEXCEPT;
 
-/* Takes what came home, then posts all that is cached. Where the inbox of another allocator is full (15 or
- * 16 batches of this one that it has not taken), what is left stays cached: FV_ALLOCATOR_CACHED tells how
- * much.
+/* Takes what came home, at most 64 batches, then posts all that is cached. Where the inbox of another
+ * allocator is full (15 or 16 batches of this one that it has not taken), what is left stays cached:
+ * FV_ALLOCATOR_CACHED tells how much.
  *
  * FV_OK
  * FV_EMPTY  `allocator` holds none */
 uint32_t fv_flush(fv_allocator *allocator) FV_NOEXCEPT;
 
-/* Takes what came home. fv_alloc does so by itself where it finds no slot, and once in 64 calls.
+/* Takes what came home, at most 64 batches. fv_alloc does so by itself where it finds no slot, and once in
+ * 64 calls.
  *
  * FV_OK     something came
  * FV_EMPTY  nothing came, or `allocator` holds none */

@@ -11,6 +11,7 @@ static holders held;
 static lane lanes[LANES];
 static size_t count, in_bursts;
 static atomic_ullong lent, freed;
+static pthread_barrier_t drawn;
 
 /* An allocator's counts go on where another thread left it. */
 static void attach(fv_allocator *mine) {
@@ -75,11 +76,23 @@ static size_t send_burst(fv_allocator *mine, lane *l, size_t size, uint32_t seed
   return sent;
 }
 
+/* Chunks stay with who drew them, so each producer draws one of each class before the others draw more. */
+static void draw_one_of_each(fv_allocator *mine) {
+  for (size_t size = 16; size <= 128; size += 16) {
+    fv_buf buf;
+    fv_buf_init(&buf);
+    ANSWERS(fv_alloc(mine, &buf, size), FV_OK);
+    ANSWERS(fv_free(mine, &buf), FV_OK);
+  }
+  pthread_barrier_wait(&drawn);
+}
+
 static void *produce(void *argument) {
   lane *l = argument;
   static _Thread_local fv_allocator mine;
   uint64_t state = (uint64_t)(l - lanes) + 1;
   attach(&mine);
+  draw_one_of_each(&mine);
   for (size_t sent = 0; sent < count;) {
     size_t size = 16 + below(&state, 113);
     sent += (in_bursts ? send_burst : send_buffer)(&mine, l, size, (uint32_t)next_number(&state));
@@ -121,6 +134,7 @@ static void *consume(void *argument) {
 static void run(size_t threads, unsigned char *region) {
   pthread_t started[FV_MOST_ALLOCATORS];
   lent = freed = 0;
+  CHECK(pthread_barrier_init(&drawn, NULL, (unsigned)threads / 2) == 0);
   ANSWERS(fv_pool_open(&pool, region, (size_t)CHUNKS * FV_CHUNK, (uint32_t)threads, 6, 16384), FV_OK);
   for (size_t i = 0; i < threads / 2; i++) {
     open_lane(&lanes[i], in_bursts ? 4 : PLACES);
@@ -130,6 +144,7 @@ static void run(size_t threads, unsigned char *region) {
   for (size_t i = 0; i < threads; i++) CHECK(pthread_join(started[i], NULL) == 0);
   ANSWERS(fv_pool_close(&pool), FV_OK);
   CHECK(lent == freed && lent >= threads / 2 * count && count_held(&held) == 0);
+  pthread_barrier_destroy(&drawn);
   for (size_t i = 0; i < threads / 2; i++) close_lane(&lanes[i]);
 }
 
