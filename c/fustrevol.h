@@ -276,7 +276,7 @@ uint32_t fv_alloc(fv_allocator *FV_RESTRICT allocator, fv_buf *FV_RESTRICT buf, 
  *
  * FV_OK
  * FV_EMPTY     `allocator` holds none, or `buf` holds none: it was freed, pushed or never lent
- * FV_STRANGER  `buf` is of no allocator that this pool can have */
+ * FV_STRANGER  kept for buffers of other pools: this version takes them */
 uint32_t fv_free(fv_allocator *FV_RESTRICT allocator, fv_buf *FV_RESTRICT buf) FV_NOEXCEPT;
 
 /* Takes what came home, at most 64 batches, then posts all that is cached. Where the inbox of another
@@ -351,7 +351,7 @@ uint32_t fv_burst_fill(fv_allocator *FV_RESTRICT allocator, fv_burst *FV_RESTRIC
  *
  * FV_OK
  * FV_EMPTY     the burst is not open, or `allocator` holds none
- * FV_STRANGER  as fv_free */
+ * FV_STRANGER  kept, as of fv_free */
 uint32_t fv_burst_free(fv_allocator *FV_RESTRICT allocator, fv_burst *FV_RESTRICT burst) FV_NOEXCEPT;
 
 /* Puts a buffer to the end of a burst; `buf` holds none then.
