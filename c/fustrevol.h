@@ -45,7 +45,7 @@
  * sense is refused, and changes nothing.
  *
  * ANSWERS. Calls that can fail answer an uint32_t, which is FV_OK (0) or says why nothing was done. Each is
- * listed with its call.
+ * listed with its call. fv_burst_fill alone may do a part.
  *
  * THREADS. Calls on different objects may be made at the same time. A call uses just the objects that its
  * arguments point to: fv_free uses the allocator that frees, and not the one that lent. fv_pool_ calls of
@@ -290,7 +290,7 @@ uint32_t fv_flush(fv_allocator *allocator) FV_NOEXCEPT;
 /* Takes what came home, at most 64 batches. fv_alloc does so by itself where it finds no slot, and once in
  * 64 calls.
  *
- * FV_OK     something came
+ * FV_OK     something came; with fewer than 6 bits, it may be what is to be passed on
  * FV_EMPTY  nothing came, or `allocator` holds none */
 uint32_t fv_collect(fv_allocator *allocator) FV_NOEXCEPT;
 

@@ -23,8 +23,9 @@
 //     }
 //
 // WHERE A BUFFER GOES. One that is destroyed goes to an allocator of its pool that its thread has. Where
-// the thread has none, the pool object keeps it (under a lock, in memory from malloc) for the next
-// allocator that is made, flushed or asked to collect, or for close().
+// the thread has none, the pool object keeps it for the next allocator that is made, flushed or asked to
+// collect, or for close(). That takes a lock and some bytes from malloc; where malloc refuses them, the
+// buffer is lost, and the audit names it.
 //
 // RULES. A pool outlives its allocators, buffers and bursts. An allocator is used and destroyed on the
 // thread that made it. Buffers and bursts go from thread to thread, one thread at a time. The rules of
