@@ -1,0 +1,291 @@
+//! A buffer pool for C programs, on their own threads.
+#![tactic(auto)]
+
+ghost use Rattle.std.specs.Prelude.{ℕ, List, ◌^◌, ◌<◌};
+ghost use Rattle.std.specs.Borrow.{sem, full_share, u8, Array};
+ghost use Rattle.std.specs.Ptr.{lies_at};
+ghost use Rattle.fustrevol_c.specs.Places.{pool_at, pool_room, allocator_at, allocator_room, buf_at, buf_room, burst_at, burst_room, span_at, buf_row, BufValue};
+ghost use Rattle.seated_desk.specs.Handles.{LendsInto, TakesOut};
+
+use seated_desk::{AllocatorHandle, BufHandle, BurstHandle, Pool, Span};
+use std::alloc::Global;
+
+/// What C keeps a pool in.
+pub struct FvPool {
+    _bytes: u8,
+}
+
+/// What C keeps an allocator in.
+pub struct FvAllocator {
+    _bytes: u8,
+}
+
+/// What C keeps a lent buffer in.
+pub struct FvBuf {
+    _bytes: u8,
+}
+
+/// What C keeps a burst in.
+pub struct FvBurst {
+    _bytes: u8,
+}
+
+/// Where C is told where bytes lie.
+pub struct FvSpan {
+    _bytes: u8,
+}
+
+// The exports.
+/// Makes a closed pool.
+#[unsafe(no_mangle)]
+pub unsafe extern "C" fn fv_pool_init(alloc: Global, pool: *mut FvPool)
+    requires* { sem 𝓛 (pool_room pool) }
+    ensures* { sem 𝓛 (pool_at pool) }
+{
+    let made = Pool::new(alloc);
+    unsafe { std::ptr::write(pool as *mut Pool<'static>, made) };
+}
+
+/// Makes an allocator that is not attached to a pool.
+#[unsafe(no_mangle)]
+pub unsafe extern "C" fn fv_allocator_init(allocator: *mut FvAllocator)
+    requires* { sem 𝓛 (allocator_room allocator) }
+    ensures* { sem 𝓛 (allocator_at allocator) }
+{
+    let made = AllocatorHandle::new();
+    unsafe { std::ptr::write(allocator as *mut AllocatorHandle<'static>, made) };
+}
+
+/// Makes a handle that holds no buffer.
+#[unsafe(no_mangle)]
+pub unsafe extern "C" fn fv_buf_init(buf: *mut FvBuf)
+    requires* { sem 𝓛 (buf_room buf) }
+    ensures* { sem 𝓛 (buf_at buf) }
+{
+    let made = BufHandle::new();
+    unsafe { std::ptr::write(buf as *mut BufHandle<'static>, made) };
+}
+
+/// Makes a burst that is not open.
+#[unsafe(no_mangle)]
+pub unsafe extern "C" fn fv_burst_init(burst: *mut FvBurst)
+    requires* { sem 𝓛 (burst_room burst) }
+    ensures* { sem 𝓛 (burst_at burst) }
+{
+    let made = BurstHandle::new();
+    unsafe { std::ptr::write(burst as *mut BurstHandle<'static>, made) };
+}
+
+/// Opens a pool over a region, which is lent for good: 0, or why not.
+#[unsafe(no_mangle)]
+pub unsafe extern "C" fn fv_pool_open(
+    pool: *mut FvPool,
+    at: *mut u8,
+    len: usize,
+    allocators: u32,
+    bits: u32,
+    limit: u64,
+) -> u32
+    ghost bytes: { List ℕ }
+    requires* { sem 𝓛 (pool_at pool) ∗ (sem 𝓛 (lies_at (Array u8 len) full_share at bytes) ∗ ⌜ len < 2 ^ 63 ⌝) }
+    ensures* { sem 𝓛 (pool_at pool) }
+{
+    let pool = unsafe { &mut *(pool as *mut Pool<'static>) };
+    let region = unsafe { std::slice::from_raw_parts_mut(at, len) };
+    pool.open(region, allocators, bits, limit)
+}
+
+/// Hands out an allocator of the pool: 0, or why not.
+#[unsafe(no_mangle)]
+pub unsafe extern "C" fn fv_pool_attach(pool: *mut FvPool, allocator: *mut FvAllocator) -> u32
+    requires* { sem 𝓛 (pool_at pool) ∗ sem 𝓛 (allocator_at allocator) }
+    ensures* { sem 𝓛 (pool_at pool) ∗ sem 𝓛 (allocator_at allocator) }
+{
+    let pool = unsafe { &mut *(pool as *mut Pool<'static>) };
+    let allocator = unsafe { &mut *(allocator as *mut AllocatorHandle<'static>) };
+    pool.attach(allocator)
+}
+
+/// Takes an allocator back: 0, or why not.
+#[unsafe(no_mangle)]
+pub unsafe extern "C" fn fv_pool_detach(pool: *mut FvPool, allocator: *mut FvAllocator) -> u32
+    requires* { sem 𝓛 (pool_at pool) ∗ sem 𝓛 (allocator_at allocator) }
+    ensures* { sem 𝓛 (pool_at pool) ∗ sem 𝓛 (allocator_at allocator) }
+{
+    let pool = unsafe { &mut *(pool as *mut Pool<'static>) };
+    let allocator = unsafe { &mut *(allocator as *mut AllocatorHandle<'static>) };
+    pool.detach(allocator)
+}
+
+/// Audits the pool and ends it: 0, or what is wrong.
+#[unsafe(no_mangle)]
+pub unsafe extern "C" fn fv_pool_close(pool: *mut FvPool) -> u32
+    requires* { sem 𝓛 (pool_at pool) }
+    ensures* { sem 𝓛 (pool_at pool) }
+{
+    let pool = unsafe { &mut *(pool as *mut Pool<'static>) };
+    pool.close()
+}
+
+/// A number about the pool.
+#[unsafe(no_mangle)]
+pub unsafe extern "C" fn fv_pool_stat(pool: *mut FvPool, which: u32) -> u64
+    requires* { sem 𝓛 (pool_at pool) }
+    ensures* { sem 𝓛 (pool_at pool) }
+{
+    let pool = unsafe { &mut *(pool as *mut Pool<'static>) };
+    pool.stat(which)
+}
+
+/// Lends a buffer of at least so many bytes: 0, or why not.
+#[unsafe(no_mangle)]
+pub unsafe extern "C" fn fv_alloc(allocator: *mut FvAllocator, buf: *mut FvBuf, size: usize) -> u32
+    ghost before: { BufValue }
+    requires* { sem 𝓛 (allocator_at allocator) ∗ sem 𝓛 (lies_at buf_row full_share buf before) }
+    ensures* { sem 𝓛 (allocator_at allocator) ∗ ∃ₛ (λ (after : BufValue). sem 𝓛 (lies_at buf_row full_share buf after) ∗ ⌜ LendsInto size result before after ⌝) }
+{
+    let allocator = unsafe { &mut *(allocator as *mut AllocatorHandle<'static>) };
+    let buf = unsafe { &mut *(buf as *mut BufHandle<'static>) };
+    allocator.alloc(buf, size)
+}
+
+/// Takes a buffer back, at any allocator of its pool: 0, or why not.
+#[unsafe(no_mangle)]
+pub unsafe extern "C" fn fv_free(allocator: *mut FvAllocator, buf: *mut FvBuf) -> u32
+    ghost before: { BufValue }
+    requires* { sem 𝓛 (allocator_at allocator) ∗ sem 𝓛 (lies_at buf_row full_share buf before) }
+    ensures* { sem 𝓛 (allocator_at allocator) ∗ ∃ₛ (λ (after : BufValue). sem 𝓛 (lies_at buf_row full_share buf after) ∗ ⌜ TakesOut result before after ⌝) }
+{
+    let allocator = unsafe { &mut *(allocator as *mut AllocatorHandle<'static>) };
+    let buf = unsafe { &mut *(buf as *mut BufHandle<'static>) };
+    allocator.free(buf)
+}
+
+/// Takes what came home, and posts all that is cached: 0, or why not.
+#[unsafe(no_mangle)]
+pub unsafe extern "C" fn fv_flush(allocator: *mut FvAllocator) -> u32
+    requires* { sem 𝓛 (allocator_at allocator) }
+    ensures* { sem 𝓛 (allocator_at allocator) }
+{
+    let allocator = unsafe { &mut *(allocator as *mut AllocatorHandle<'static>) };
+    allocator.flush()
+}
+
+/// A number about the allocator.
+#[unsafe(no_mangle)]
+pub unsafe extern "C" fn fv_allocator_stat(allocator: *mut FvAllocator, which: u32) -> u64
+    requires* { sem 𝓛 (allocator_at allocator) }
+    ensures* { sem 𝓛 (allocator_at allocator) }
+{
+    let allocator = unsafe { &mut *(allocator as *mut AllocatorHandle<'static>) };
+    allocator.stat(which)
+}
+
+/// Opens an empty burst for buffers of the allocator: 0, or why not.
+#[unsafe(no_mangle)]
+pub unsafe extern "C" fn fv_burst_open(
+    allocator: *mut FvAllocator,
+    burst: *mut FvBurst,
+    places: usize,
+) -> u32
+    requires* { sem 𝓛 (allocator_at allocator) ∗ sem 𝓛 (burst_at burst) }
+    ensures* { sem 𝓛 (allocator_at allocator) ∗ sem 𝓛 (burst_at burst) }
+{
+    let allocator = unsafe { &mut *(allocator as *mut AllocatorHandle<'static>) };
+    let burst = unsafe { &mut *(burst as *mut BurstHandle<'static>) };
+    allocator.open(burst, places)
+}
+
+/// Lends so many buffers into a burst: 0, or why not all of them.
+#[unsafe(no_mangle)]
+pub unsafe extern "C" fn fv_burst_fill(
+    allocator: *mut FvAllocator,
+    burst: *mut FvBurst,
+    size: usize,
+    count: usize,
+) -> u32
+    requires* { sem 𝓛 (allocator_at allocator) ∗ sem 𝓛 (burst_at burst) }
+    ensures* { sem 𝓛 (allocator_at allocator) ∗ sem 𝓛 (burst_at burst) }
+{
+    let allocator = unsafe { &mut *(allocator as *mut AllocatorHandle<'static>) };
+    let burst = unsafe { &mut *(burst as *mut BurstHandle<'static>) };
+    allocator.fill(burst, size, count)
+}
+
+/// Takes all buffers of a burst back: 0, or why not.
+#[unsafe(no_mangle)]
+pub unsafe extern "C" fn fv_burst_free(allocator: *mut FvAllocator, burst: *mut FvBurst) -> u32
+    requires* { sem 𝓛 (allocator_at allocator) ∗ sem 𝓛 (burst_at burst) }
+    ensures* { sem 𝓛 (allocator_at allocator) ∗ sem 𝓛 (burst_at burst) }
+{
+    let allocator = unsafe { &mut *(allocator as *mut AllocatorHandle<'static>) };
+    let burst = unsafe { &mut *(burst as *mut BurstHandle<'static>) };
+    allocator.free_all(burst)
+}
+
+/// Puts a buffer at the end of a burst of its allocator: 0, or why not.
+#[unsafe(no_mangle)]
+pub unsafe extern "C" fn fv_burst_push(burst: *mut FvBurst, buf: *mut FvBuf) -> u32
+    requires* { sem 𝓛 (burst_at burst) ∗ sem 𝓛 (buf_at buf) }
+    ensures* { sem 𝓛 (burst_at burst) ∗ sem 𝓛 (buf_at buf) }
+{
+    let burst = unsafe { &mut *(burst as *mut BurstHandle<'static>) };
+    let buf = unsafe { &mut *(buf as *mut BufHandle<'static>) };
+    burst.push(buf)
+}
+
+/// Takes the last buffer out of a burst: 0, or why not.
+#[unsafe(no_mangle)]
+pub unsafe extern "C" fn fv_burst_pop(burst: *mut FvBurst, buf: *mut FvBuf) -> u32
+    requires* { sem 𝓛 (burst_at burst) ∗ sem 𝓛 (buf_at buf) }
+    ensures* { sem 𝓛 (burst_at burst) ∗ sem 𝓛 (buf_at buf) }
+{
+    let burst = unsafe { &mut *(burst as *mut BurstHandle<'static>) };
+    let buf = unsafe { &mut *(buf as *mut BufHandle<'static>) };
+    burst.pop(buf)
+}
+
+/// How many buffers the burst has.
+#[unsafe(no_mangle)]
+pub unsafe extern "C" fn fv_burst_len(burst: *mut FvBurst) -> u64
+    requires* { sem 𝓛 (burst_at burst) }
+    ensures* { sem 𝓛 (burst_at burst) }
+{
+    let burst = unsafe { &mut *(burst as *mut BurstHandle<'static>) };
+    burst.len()
+}
+
+/// Tells where the bytes of a buffer of the burst lie: 0, or why not.
+#[unsafe(no_mangle)]
+pub unsafe extern "C" fn fv_burst_at(burst: *mut FvBurst, span: *mut FvSpan, index: usize) -> u32
+    requires* { sem 𝓛 (burst_at burst) ∗ sem 𝓛 (span_at span) }
+    ensures* { sem 𝓛 (burst_at burst) ∗ sem 𝓛 (span_at span) }
+{
+    let burst = unsafe { &mut *(burst as *mut BurstHandle<'static>) };
+    let span = unsafe { &mut *(span as *mut Span) };
+    burst.span(span, index)
+}
+
+/// How many bytes a pool takes.
+#[unsafe(no_mangle)]
+pub extern "C" fn fv_pool_size() -> usize {
+    std::mem::size_of::<Pool<'static>>()
+}
+
+/// How many bytes an allocator takes.
+#[unsafe(no_mangle)]
+pub extern "C" fn fv_allocator_size() -> usize {
+    std::mem::size_of::<AllocatorHandle<'static>>()
+}
+
+/// How many bytes a buffer's handle takes.
+#[unsafe(no_mangle)]
+pub extern "C" fn fv_buf_size() -> usize {
+    std::mem::size_of::<BufHandle<'static>>()
+}
+
+/// How many bytes a burst takes.
+#[unsafe(no_mangle)]
+pub extern "C" fn fv_burst_size() -> usize {
+    std::mem::size_of::<BurstHandle<'static>>()
+}

@@ -1,0 +1,416 @@
+#!/usr/bin/env python3
+"""For who changes the exports of the C library.
+
+Writes the exports (src/lib.rt, behind the line "// The exports.") and the proof of each one (proofs/NAME/Proof.antt)
+from the table below: python3 tools/walks.py crates/fustrevol_c
+
+Each export does one of these: it makes a value in the caller's storage, opens a pool over a region, or lends what one
+or two pointers point to for one call of the crate below. The proofs of one form are one text in tools/walk_forms, in
+which @words@ stand for what differs.
+"""
+import pathlib
+import sys
+from dataclasses import dataclass
+
+CRATE = "fustrevol_c"
+BELOW = "seated_desk"
+FORMS = pathlib.Path(__file__).resolve().parent / "walk_forms"
+MARK = "// The exports.\n"
+
+
+@dataclass
+class Kind:
+    """What lies behind a pointer: C's type, Rattle's, where it is declared, and what a size's doc calls it."""
+
+    c: str
+    rust: str
+    path: str
+    noun: str
+    lifetime: bool = True
+
+    @property
+    def module(self):
+        return self.path.replace("::", ".")
+
+    @property
+    def static(self):
+        return self.rust + ("<'static>" if self.lifetime else "")
+
+
+KINDS = {
+    "pool": Kind("FvPool", "Pool", "pool::Pool", "a pool"),
+    "allocator": Kind("FvAllocator", "AllocatorHandle", "allocator_handle::AllocatorHandle", "an allocator"),
+    "buf": Kind("FvBuf", "BufHandle", "buf_handle::BufHandle", "a buffer's handle"),
+    "burst": Kind("FvBurst", "BurstHandle", "burst_handle::BurstHandle", "a burst"),
+    "span": Kind("FvSpan", "Span", "burst_handle::Span", "a span", lifetime=False),
+}
+WIDTHS = {"u32": "w32", "u64": "w64", "usize": "w64"}
+
+
+@dataclass
+class Export:
+    """An export: its form, the kinds behind its pointers, its numbers, what it answers, and the method that it calls."""
+
+    name: str
+    form: str
+    pointers: list
+    numbers: list
+    answer: str
+    method: str
+    doc: str
+    # a definition over the arguments named, the answer, and the last pointer's value before and after
+    clause: str = ""
+    clause_arguments: str = ""
+
+    @property
+    def callee(self):
+        return KINDS[self.pointers[0]].module + "." + self.method
+
+    @property
+    def path(self):
+        return KINDS[self.pointers[0]].path + "::" + self.method
+
+
+def makes(kind, doc, form="makes"):
+    return Export(f"fv_{kind}_init", form, [kind], [], "", "new", doc)
+
+
+def lends(name, pointers, numbers, method, doc, answer="u32", clause="", clause_arguments=""):
+    return Export(name, "lends", pointers, numbers, answer, method, doc, clause, clause_arguments)
+
+
+SIZE = [("size", "usize")]
+WHICH = [("which", "u32")]
+EXPORTS = [
+    makes("pool", "Makes a closed pool.", form="makes_with_heap"),
+    makes("allocator", "Makes an allocator that is not attached to a pool."),
+    makes("buf", "Makes a handle that holds no buffer."),
+    makes("burst", "Makes a burst that is not open."),
+    Export(
+        "fv_pool_open", "opens", ["pool"], [("allocators", "u32"), ("bits", "u32"), ("limit", "u64")], "u32", "open",
+        "Opens a pool over a region, which is lent for good: 0, or why not.",
+    ),
+    lends("fv_pool_attach", ["pool", "allocator"], [], "attach", "Hands out an allocator of the pool: 0, or why not."),
+    lends("fv_pool_detach", ["pool", "allocator"], [], "detach", "Takes an allocator back: 0, or why not."),
+    lends("fv_pool_close", ["pool"], [], "close", "Audits the pool and ends it: 0, or what is wrong."),
+    lends("fv_pool_stat", ["pool"], WHICH, "stat", "A number about the pool.", answer="u64"),
+    lends(
+        "fv_alloc", ["allocator", "buf"], SIZE, "alloc", "Lends a buffer of at least so many bytes: 0, or why not.",
+        clause="LendsInto", clause_arguments="size",
+    ),
+    lends(
+        "fv_free", ["allocator", "buf"], [], "free", "Takes a buffer back, at any allocator of its pool: 0, or why not.",
+        clause="TakesOut",
+    ),
+    lends("fv_flush", ["allocator"], [], "flush", "Takes what came home, and posts all that is cached: 0, or why not."),
+    lends("fv_allocator_stat", ["allocator"], WHICH, "stat", "A number about the allocator.", answer="u64"),
+    lends(
+        "fv_burst_open", ["allocator", "burst"], [("places", "usize")], "open",
+        "Opens an empty burst for buffers of the allocator: 0, or why not.",
+    ),
+    lends(
+        "fv_burst_fill", ["allocator", "burst"], SIZE + [("count", "usize")], "fill",
+        "Lends so many buffers into a burst: 0, or why not all of them.",
+    ),
+    lends("fv_burst_free", ["allocator", "burst"], [], "free_all", "Takes all buffers of a burst back: 0, or why not."),
+    lends(
+        "fv_burst_push", ["burst", "buf"], [], "push",
+        "Puts a buffer at the end of a burst of its allocator: 0, or why not.",
+    ),
+    lends("fv_burst_pop", ["burst", "buf"], [], "pop", "Takes the last buffer out of a burst: 0, or why not."),
+    lends("fv_burst_len", ["burst"], [], "len", "How many buffers the burst has.", answer="u64"),
+    lends(
+        "fv_burst_at", ["burst", "span"], [("index", "usize")], "span",
+        "Tells where the bytes of a buffer of the burst lie: 0, or why not.",
+    ),
+]
+
+
+def pairs(items):
+    """Nested pairs, as Antt writes a tuple of any length."""
+    items = list(items)
+    return f"({items[0]}, {pairs(items[1:])})" if items else "tt"
+
+
+def product(types):
+    types = list(types)
+    return f"({types[0]} × {product(types[1:])})" if types else "Unit {0}"
+
+
+def at(place):
+    """The way to an argument."""
+    return ".1" * place + ".0"
+
+
+def listed(values):
+    """A list of values, each with what follows in brackets."""
+    return closed("".join(f"{value} ∷ (" for value in values) + "[]")
+
+
+def closed(text):
+    return text + ")" * (text.count("(") - text.count(")"))
+
+
+def filled(form, words):
+    text = (FORMS / f"{form}.antt.in").read_text()
+    for word, value in words.items():
+        text = text.replace(f"@{word}@", value)
+    return text
+
+
+def numbers_words(export, first):
+    """The words for the numbers, which stand from this place on among the arguments."""
+    numbers = list(enumerate(export.numbers, first))
+    return {
+        "integers": "".join(f"    let {name} = a{at(place)} in\n" for place, (name, _) in numbers),
+        "integer_values": listed(f"vint {WIDTHS[kind]} {name}" for name, kind in export.numbers),
+        "more": listed(f"vint {WIDTHS[kind]} {name}" for name, kind in export.numbers),
+        "given": owned(export, first),
+    }
+
+
+def owned(export, first):
+    """The steps that give the numbers to the callee, the last one first."""
+    steps = [
+        f"owned ! {kind} _ (uint_Makes 𝓛 {WIDTHS[kind]}) {name} _ (refl, are{at(place)}.1) $ join ! $ "
+        for place, (name, kind) in enumerate(export.numbers, first)
+    ]
+    return "".join(reversed(steps))
+
+
+def parameter_words(export, pointers, extra=()):
+    """The words for the parameters: the pointers, then `extra` (name, kind), then the numbers."""
+    numbers = list(extra) + export.numbers
+    goes = lambda row: f"Goes-dropped 𝓛 0 (plain (λ _. {row})) yes (λ κs x w. refl)"
+    count = len(pointers) + len(numbers)
+    return {
+        "stays": pairs(["stay_dropped _ yes"] * count),
+        "goes": pairs([goes("RawPtr")] * len(pointers) + [goes(kind) for _, kind in numbers]),
+        "forms": pairs(["rawptr_vals"] * len(pointers) + [f"uint_vals {WIDTHS[kind]}" for _, kind in numbers]),
+        "tells": pairs(["rawptr_Tells"] * len(pointers) + [f"uint_Tells {WIDTHS[kind]}" for _, kind in numbers]),
+        "arguments": pairs(pointers + [name for name, _ in numbers]),
+        "values": pairs([f"rawptr_vals {p}" for p in pointers] + [f"uint_vals {WIDTHS[k]} {name}" for name, k in numbers]),
+    }
+
+
+def callee_words(export):
+    return {
+        "crate": CRATE,
+        "below": BELOW,
+        "name": export.name,
+        "callee": export.callee,
+        "path": export.path,
+    }
+
+
+def lends_uses(export):
+    """The imports of a walk that lends."""
+    places = [f"{kind}_row" for kind in export.pointers] + [f"{kind}_at" for kind in export.pointers]
+    lines = (FORMS / "lends_uses.antt.in").read_text()
+    if export.clause:
+        lines += (FORMS / "clause_uses.antt.in").read_text()
+    words = callee_words(export) | {"places": ", ".join(dict.fromkeys(places)), "clause": export.clause}
+    for word, value in words.items():
+        lines = lines.replace(f"@{word}@", value)
+    return lines
+
+
+def clause_words(export):
+    """The words for the last pointer's value: some value before and after, or with a clause these very values."""
+    two = len(export.pointers) == 2
+    row, place = export.pointers[-1] + "_row", export.pointers[-1] + "_at"
+    value, after, block, given = ("s₂", "ws.1.0", "(block_ptr b₂ o₂)", "a.1.0") if two else ("s", "ws.0", "(block_ptr b o)", "a.0")
+    first = f"‵ ({export.pointers[0]}_at a.0)"
+    if not export.clause:
+        last = f"‵ ({place} {given})"
+        return {
+            "owned": f"({first} ⊛ {last})" if two else last,
+            "last_picked": f"fpick ! (λ {value}.",
+            "last_packed": f"fpack ! {row}.Denot (λ t. lies_at {row} full_share {block} t) {after} $\n    ",
+            "told": "emp 𝓤",
+            "hears": "",
+            "gathered": "join ! $ move ! (1 ∷ []) $",
+            "says": "",
+        }
+    clause = lambda answer, then: " ".join([export.clause, export.clause_arguments, answer, value, then]).replace("  ", " ")
+    last = f"‵ (lies_at {row} full_share {given} n)"
+    return {
+        "owned": f"({first} ⊛ {last})" if two else last,
+        "last_picked": f"let {value} = n in",
+        "last_packed": "",
+        "told": f"fact 𝓤 ({clause('u', after)})",
+        "hears": "move ! (1 ∷ []) $ heard ! _ (λ told. nothing ! $ move ! (1 ∷ 0 ∷ []) $ ",
+        "gathered": "move ! (2 ∷ 0 ∷ 1 ∷ []) $",
+        "says": "frame ! $ " * len(export.pointers)
+        + f"\n    show ! (λ (t : {row}.Denot). sep 𝓤 (sem 𝓛 (lies_at {row} full_share {block} t)) (fact 𝓤 ({clause('u', 't')}))) {after} $ says ! told $ ",
+    }
+
+
+def lends_walk(export):
+    kinds = [KINDS[kind] for kind in export.pointers]
+    count = len(kinds) + len(export.numbers)
+    rows = [f"{kind}_row" for kind in export.pointers]
+    lifetimes, bounds = [], []
+    for name, kind in zip(["κ", "λ₂"], kinds):
+        lifetimes.append(name)
+        # the lifetime of the region is a parameter of the callee's, named once
+        if kind.lifetime:
+            bounds.append(f"⊑_static {name}")
+            if name == "κ":
+                lifetimes.append("[]")
+    loans = ["r", "r₂"][: len(kinds)]
+    numbers = [(name, WIDTHS[kind]) for name, kind in export.numbers]
+    fits = [f"(tt, record {{ fits = are{at(place)}.1 }})" for place in range(len(kinds), count)]
+    words = {
+        "uses": lends_uses(export),
+        "row": rows[0],
+        "last_row": rows[-1],
+        "passed": pairs(["(tt, tt)"] * len(kinds) + fits),
+        "lifetimes": pairs(lifetimes),
+        "shares": pairs(["full_share"] * len(lifetimes)),
+        "bounds": pairs(bounds),
+        "lent": pairs(loans + [name for name, _ in numbers]),
+        "lent_values": pairs([f"mut_vals {r}" for r in loans] + [f"vint {width} {name} ∷ []" for name, width in numbers]),
+        "operands": closed("(and_then ! (get ! refl) " * count + "(no_more !"),
+        "lasts": product([f"{row}.Denot" for row in rows] + ["Unit {0}"] * len(numbers))[1:-1],
+        "result": export.answer,
+        "width": WIDTHS[export.answer],
+        "units": pairs(["tt"] * count),
+        "joins": "nothing ! $ join ! $ " * count,
+    }
+    words |= parameter_words(export, ["p", "r"][: len(kinds)]) | callee_words(export)
+    words |= numbers_words(export, len(kinds)) | clause_words(export)
+    return closed(filled("lends_two" if len(kinds) == 2 else "lends_one", words).rstrip("\n")) + "\n"
+
+
+def makes_walk(export):
+    kind = export.pointers[0]
+    # what the callee's clause tells of the value `u`
+    told = {"buf": "fact 𝓤 (u.buf ≡ None)"}.get(kind, "emp 𝓤")
+    uses = "\nuse contract.Monad.{fact}\nuse Rattle.std.specs.Prelude.{None}" if told.startswith("fact") else ""
+    words = {
+        "type": KINDS[kind].module,
+        "path": KINDS[kind].path,
+        "row": f"{kind}_row",
+        "at": f"{kind}_at",
+        "room": f"{kind}_room",
+        "told": told,
+        "told_uses": uses,
+    }
+    return filled(export.form, callee_words(export) | words)
+
+
+def opens_walk(export):
+    # behind the pool and the region come the region's length and the numbers
+    count = 3 + len(export.numbers)
+    numbers = [(name, WIDTHS[kind]) for name, kind in export.numbers]
+    fits = [f"(tt, record {{ fits = are{at(place)}.1 }})" for place in range(3, count)]
+    words = {
+        "depth": str(5 + len(numbers)),
+        "passed": pairs(["(tt, tt)"] * 2 + ["(tt, record { fits = fits })"] + fits),
+        "lent": pairs(["r", "r₂"] + [name for name, _ in numbers]),
+        "lent_values": pairs(
+            ["mut_vals r", "slice_val (b₂, o₂) size ∷ []"] + [f"vint {width} {name} ∷ []" for name, width in numbers]
+        ),
+        "owned": owned(export, 3),
+        "operands": closed("(and_then ! (get ! refl) " * (count - 1) + "(no_more !"),
+        "lasts": product(["row.Denot"] + ["Unit {0}"] * (count - 2))[1:-1],
+        "units": pairs(["tt"] * count),
+        "joins": "nothing ! $ join ! $ " * count,
+    }
+    words |= parameter_words(export, ["p", "r"], extra=[("size", "usize")]) | callee_words(export)
+    return filled("opens", words | numbers_words(export, 3))
+
+
+def function(export, parameters, answer, ghosts, requires, ensures, body):
+    """The text of an export."""
+    head = f'pub unsafe extern "C" fn {export.name}({", ".join(parameters)}){answer}'
+    if len(head) > 99:
+        lines = "".join(f"    {parameter},\n" for parameter in parameters)
+        head = f'pub unsafe extern "C" fn {export.name}(\n{lines}){answer}'
+    clauses = f"{ghosts}    requires* {{ {requires} }}\n    ensures* {{ {ensures} }}\n"
+    return f"/// {export.doc}\n#[unsafe(no_mangle)]\n{head}\n{clauses}{{\n{body}}}\n"
+
+
+def pointer(kind):
+    return f"{kind}: *mut {KINDS[kind].c}"
+
+
+def all_at(export):
+    return " ∗ ".join(f"sem 𝓛 ({kind}_at {kind})" for kind in export.pointers)
+
+
+def lent_lines(export):
+    return "".join(
+        f"    let {kind} = unsafe {{ &mut *({kind} as *mut {KINDS[kind].static}) }};\n" for kind in export.pointers
+    )
+
+
+def makes_export(export):
+    kind = export.pointers[0]
+    heap = export.form == "makes_with_heap"
+    body = f"    let made = {KINDS[kind].rust}::new({'alloc' if heap else ''});\n"
+    body += f"    unsafe {{ std::ptr::write({kind} as *mut {KINDS[kind].static}, made) }};\n"
+    parameters = (["alloc: Global"] if heap else []) + [pointer(kind)]
+    return function(export, parameters, "", "", f"sem 𝓛 ({kind}_room {kind})", all_at(export), body)
+
+
+def opens_export(export):
+    parameters = [pointer("pool"), "at: *mut u8", "len: usize"] + [f"{name}: {kind}" for name, kind in export.numbers]
+    region = "(sem 𝓛 (lies_at (Array u8 len) full_share at bytes) ∗ ⌜ len < 2 ^ 63 ⌝)"
+    body = lent_lines(export) + "    let region = unsafe { std::slice::from_raw_parts_mut(at, len) };\n"
+    body += f"    pool.open({', '.join(['region'] + [name for name, _ in export.numbers])})\n"
+    before = f"{all_at(export)} ∗ {region}"
+    return function(export, parameters, f" -> {export.answer}", "    ghost bytes: { List ℕ }\n", before, all_at(export), body)
+
+
+def lends_export(export):
+    last = export.pointers[-1]
+    ghosts, before, after = "", all_at(export), all_at(export)
+    if export.clause:
+        value = KINDS[last].c.replace("Fv", "") + "Value"
+        others = "".join(f"sem 𝓛 ({kind}_at {kind}) ∗ " for kind in export.pointers[:-1])
+        clause = " ".join(filter(None, [export.clause, export.clause_arguments, "result before after"]))
+        ghosts = f"    ghost before: {{ {value} }}\n"
+        before = f"{others}sem 𝓛 (lies_at {last}_row full_share {last} before)"
+        after = f"{others}∃ₛ (λ (after : {value}). sem 𝓛 (lies_at {last}_row full_share {last} after) ∗ ⌜ {clause} ⌝)"
+    parameters = [pointer(kind) for kind in export.pointers] + [f"{name}: {kind}" for name, kind in export.numbers]
+    passed = ", ".join(export.pointers[1:] + [name for name, _ in export.numbers])
+    body = lent_lines(export) + f"    {export.pointers[0]}.{export.method}({passed})\n"
+    return function(export, parameters, f" -> {export.answer}", ghosts, before, after, body)
+
+
+def size_export(kind):
+    return (
+        f"/// How many bytes {KINDS[kind].noun} takes.\n#[unsafe(no_mangle)]\n"
+        f'pub extern "C" fn fv_{kind}_size() -> usize {{\n    std::mem::size_of::<{KINDS[kind].static}>()\n}}\n'
+    )
+
+
+WRITERS = {
+    "makes": (makes_export, makes_walk),
+    "makes_with_heap": (makes_export, makes_walk),
+    "opens": (opens_export, opens_walk),
+    "lends": (lends_export, lends_walk),
+}
+
+
+def main():
+    crate = pathlib.Path(sys.argv[1])
+    texts = []
+    for export in EXPORTS:
+        text, walk = WRITERS[export.form]
+        texts.append(text(export))
+        folder = crate / "proofs" / export.name
+        folder.mkdir(parents=True, exist_ok=True)
+        (folder / "Proof.antt").write_text(walk(export))
+    texts += [size_export(kind) for kind in ("pool", "allocator", "buf", "burst")]
+    lib = crate / "src/lib.rt"
+    head = lib.read_text().split(MARK)[0].rstrip("\n")
+    lib.write_text(f"{head}\n\n{MARK}" + "\n".join(texts))
+    (crate / "proofs/Steps.antt").write_text((FORMS / "Steps.antt").read_text())
+    (crate / "proofs/Lib.antt").write_text("pub mod Steps\n")
+
+
+if __name__ == "__main__":
+    main()
