@@ -42,7 +42,7 @@ KINDS = {
     "allocator": Kind("FvAllocator", "AllocatorHandle", "allocator_handle::AllocatorHandle", "an allocator"),
     "buf": Kind("FvBuf", "BufHandle", "buf_handle::BufHandle", "a buffer's handle"),
     "burst": Kind("FvBurst", "BurstHandle", "burst_handle::BurstHandle", "a burst"),
-    "span": Kind("FvSpan", "Span", "burst_handle::Span", "a span", lifetime=False),
+    "span": Kind("FvSpan", "Span", "span::Span", "a span", lifetime=False),
 }
 WIDTHS = {"u32": "w32", "u64": "w64", "usize": "w64"}
 
@@ -58,9 +58,15 @@ class Export:
     answer: str
     method: str
     doc: str
-    # a definition over the arguments named, the answer, and the last pointer's value before and after
+    # a definition of the crate below that the callee's clause names and the export repeats: FILE.DEFINITION
     clause: str = ""
-    clause_arguments: str = ""
+    # what it speaks of before the answer, and of which pointers' values, before and after
+    clause_of: str = ""
+    clause_about: tuple = ()
+
+    @property
+    def definition(self):
+        return self.clause.partition(".")[2]
 
     @property
     def callee(self):
@@ -75,35 +81,58 @@ def makes(kind, doc, form="makes"):
     return Export(f"fv_{kind}_init", form, [kind], [], "", "new", doc)
 
 
-def lends(name, pointers, numbers, method, doc, answer="u32", clause="", clause_arguments=""):
-    return Export(name, "lends", pointers, numbers, answer, method, doc, clause, clause_arguments)
+def lends(name, pointers, numbers, method, doc, answer="u32", clause="", of="", about=None):
+    about = tuple(about or pointers[-1:]) if clause else ()
+    return Export(name, "lends", pointers, numbers, answer, method, doc, clause, of, about)
 
 
 SIZE = [("size", "usize")]
 WHICH = [("which", "u32")]
 EXPORTS = [
-    makes("pool", "Makes a closed pool.", form="makes_with_heap"),
+    makes("pool", "Makes a pool that is not open.", form="makes_with_heap"),
     makes("allocator", "Makes an allocator that is not attached to a pool."),
     makes("buf", "Makes a handle that holds no buffer."),
     makes("burst", "Makes a burst that is not open."),
     Export(
         "fv_pool_open", "opens", ["pool"], [("allocators", "u32"), ("bits", "u32"), ("limit", "u64")], "u32", "open",
-        "Opens a pool over a region, which is lent for good: 0, or why not.",
+        "Opens a pool over a region, which is lent for good: 0, or why not.", "Shelves.Opens",
     ),
-    lends("fv_pool_attach", ["pool", "allocator"], [], "attach", "Hands out an allocator of the pool: 0, or why not."),
-    lends("fv_pool_detach", ["pool", "allocator"], [], "detach", "Takes an allocator back: 0, or why not."),
-    lends("fv_pool_close", ["pool"], [], "close", "Audits the pool and ends it: 0, or what is wrong."),
+    lends(
+        "fv_pool_attach", ["pool", "allocator"], [], "attach",
+        "Hands an allocator of the pool out: 0, or why not.", clause="Shelves.HandsOut", about=["pool", "allocator"],
+    ),
+    lends(
+        "fv_pool_detach", ["pool", "allocator"], [], "detach",
+        "Takes an allocator back: 0, or why not.", clause="Shelves.TakesBack", about=["pool", "allocator"],
+    ),
+    lends(
+        "fv_pool_close", ["pool"], [], "close", "Audits the pool and ends it: 0, or what is wrong.",
+        clause="Shelves.Closes",
+    ),
     lends("fv_pool_stat", ["pool"], WHICH, "stat", "A number about the pool.", answer="u64"),
     lends(
         "fv_alloc", ["allocator", "buf"], SIZE, "alloc", "Lends a buffer of at least so many bytes: 0, or why not.",
-        clause="LendsInto", clause_arguments="size",
+        clause="Handles.LendsInto", of="size",
     ),
     lends(
         "fv_free", ["allocator", "buf"], [], "free", "Takes a buffer back, at any allocator of its pool: 0, or why not.",
-        clause="TakesOut",
+        clause="Handles.TakesOut",
     ),
     lends("fv_flush", ["allocator"], [], "flush", "Takes what came home, and posts all that is cached: 0, or why not."),
+    lends("fv_collect", ["allocator"], [], "collect", "Takes what came home: 0, or why nothing was taken."),
     lends("fv_allocator_stat", ["allocator"], WHICH, "stat", "A number about the allocator.", answer="u64"),
+    lends(
+        "fv_buf_capacity", ["buf"], [], "capacity", "How many bytes the buffer has; 0 where the handle holds none.",
+        answer="u64", clause="Handles.TellsCapacity",
+    ),
+    lends(
+        "fv_buf_len", ["buf"], [], "len", "How many bytes count as filled; 0 where the handle holds none.",
+        answer="u64", clause="Handles.TellsFilled",
+    ),
+    lends(
+        "fv_buf_set_len", ["buf"], [("len", "usize")], "set_len",
+        "Says how many bytes count as filled: 0, or why not.", clause="Handles.SetsFilled", of="len",
+    ),
     lends(
         "fv_burst_open", ["allocator", "burst"], [("places", "usize")], "open",
         "Opens an empty burst for buffers of the allocator: 0, or why not.",
@@ -203,46 +232,94 @@ def callee_words(export):
     }
 
 
+def clause_uses(export):
+    """The imports for a clause that the export repeats."""
+    if not export.clause:
+        return ""
+    file = export.clause.partition(".")[0]
+    words = {"below": BELOW, "file": file, "definition": export.definition}
+    return filled("clause_uses", words)
+
+
 def lends_uses(export):
     """The imports of a walk that lends."""
-    places = [f"{kind}_row" for kind in export.pointers] + [f"{kind}_at" for kind in export.pointers]
-    lines = (FORMS / "lends_uses.antt.in").read_text()
-    if export.clause:
-        lines += (FORMS / "clause_uses.antt.in").read_text()
-    words = callee_words(export) | {"places": ", ".join(dict.fromkeys(places)), "clause": export.clause}
-    for word, value in words.items():
-        lines = lines.replace(f"@{word}@", value)
-    return lines
+    told = [f"{kind}_at" for kind in export.pointers if kind not in export.clause_about]
+    places = [f"{kind}_row" for kind in export.pointers] + told
+    words = callee_words(export) | {"places": ", ".join(dict.fromkeys(places))}
+    return filled("lends_uses", words) + clause_uses(export)
+
+
+@dataclass
+class Loan:
+    """What a walk calls one pointer: its row, what it is given, its block, and its value before and after the call."""
+
+    row: str
+    place: str
+    given: str
+    block: str
+    before: str
+    after: str
+    told: bool
+
+    def lies(self, value, at):
+        return f"lies_at {self.row} full_share {at} {value}"
+
+
+def loans_of(export):
+    names = [("a.0", "(block_ptr b o)", "s", "ws.0"), ("a.1.0", "(block_ptr b₂ o₂)", "s₂", "ws.1.0")]
+    return [
+        Loan(f"{kind}_row", f"{kind}_at", *name, told=kind in export.clause_about)
+        for kind, name in zip(export.pointers, names)
+    ]
 
 
 def clause_words(export):
-    """The words for the last pointer's value: some value before and after, or with a clause these very values."""
-    two = len(export.pointers) == 2
-    row, place = export.pointers[-1] + "_row", export.pointers[-1] + "_at"
-    value, after, block, given = ("s₂", "ws.1.0", "(block_ptr b₂ o₂)", "a.1.0") if two else ("s", "ws.0", "(block_ptr b o)", "a.0")
-    first = f"‵ ({export.pointers[0]}_at a.0)"
-    if not export.clause:
-        last = f"‵ ({place} {given})"
-        return {
-            "owned": f"({first} ⊛ {last})" if two else last,
-            "last_picked": f"fpick ! (λ {value}.",
-            "last_packed": f"fpack ! {row}.Denot (λ t. lies_at {row} full_share {block} t) {after} $\n    ",
-            "told": "emp 𝓤",
-            "hears": "",
-            "gathered": "join ! $ move ! (1 ∷ []) $",
-            "says": "",
-        }
-    clause = lambda answer, then: " ".join([export.clause, export.clause_arguments, answer, value, then]).replace("  ", " ")
-    last = f"‵ (lies_at {row} full_share {given} n)"
-    return {
-        "owned": f"({first} ⊛ {last})" if two else last,
-        "last_picked": f"let {value} = n in",
-        "last_packed": "",
+    """The words for the pointers' values: some value before and after, or these very values of which a clause speaks."""
+    loans = loans_of(export)
+    told = [loan for loan in loans if loan.told]
+    # the ghost argument is the value, or the pair of both values
+    ghosts = ["n"] if len(told) < 2 else ["n.0", "n.1"]
+    given = dict(zip([loan.row for loan in told], ghosts))
+
+    def owned_now(loan):
+        return f"‵ ({loan.lies(given[loan.row], loan.given)})" if loan.told else f"‵ ({loan.place} {loan.given})"
+
+    def picked(loan):
+        return f"let {loan.before} = {given[loan.row]} in" if loan.told else f"fpick ! (λ {loan.before}."
+
+    def packed(loan):
+        return "" if loan.told else f"fpack ! {loan.row}.Denot (λ t. {loan.lies('t', loan.block)}) {loan.after} $\n    "
+
+    words = {
+        "owned": owned_now(loans[0]) if len(loans) < 2 else f"({owned_now(loans[0])} ⊛ {owned_now(loans[1])})",
+        "first_picked": picked(loans[0]),
+        "last_picked": picked(loans[-1]),
+        "first_packed": packed(loans[0]),
+        "last_packed": packed(loans[-1]),
+    }
+    if not told:
+        return words | {"told": "emp 𝓤", "hears": "", "gathered": "join ! $ move ! (1 ∷ []) $", "says": ""}
+
+    def clause(answer, values):
+        """The clause, with a value after the call for each pointer of which it speaks."""
+        about = [word for loan, value in zip(told, values) for word in (loan.before, value)]
+        return " ".join([export.definition] + export.clause_of.split() + [answer] + about)
+
+    after = [loan.after for loan in told]
+    shown = ["t"] if len(told) < 2 else ["t.0", "t.1"]
+    body = f"fact 𝓤 ({clause('u', shown)})"
+    for loan, value in reversed(list(zip(told, shown))):
+        body = f"sep 𝓤 (sem 𝓛 ({loan.lies(value, loan.block)})) ({body})"
+    types = " × ".join(f"{loan.row}.Denot" for loan in told)
+    witness = after[0] if len(told) < 2 else f"({', '.join(after)})"
+    return words | {
         "told": f"fact 𝓤 ({clause('u', after)})",
         "hears": "move ! (1 ∷ []) $ heard ! _ (λ told. nothing ! $ move ! (1 ∷ 0 ∷ []) $ ",
         "gathered": "move ! (2 ∷ 0 ∷ 1 ∷ []) $",
-        "says": "frame ! $ " * len(export.pointers)
-        + f"\n    show ! (λ (t : {row}.Denot). sep 𝓤 (sem 𝓛 (lies_at {row} full_share {block} t)) (fact 𝓤 ({clause('u', 't')}))) {after} $ says ! told $ ",
+        "says": "frame ! $ " * (1 + len(loans) - len(told))
+        + f"\n    show ! (λ (t : {types}). {body}) {witness} $ "
+        + "frame ! $ " * (len(told) - 1)
+        + "says ! told $ ",
     }
 
 
@@ -318,6 +395,7 @@ def opens_walk(export):
         "units": pairs(["tt"] * count),
         "joins": "nothing ! $ join ! $ " * count,
     }
+    words |= {"clause": export.definition, "clause_uses": clause_uses(export)}
     words |= parameter_words(export, ["p", "r"], extra=[("size", "usize")]) | callee_words(export)
     return filled("opens", words | numbers_words(export, 3))
 
@@ -355,25 +433,43 @@ def makes_export(export):
     return function(export, parameters, "", "", f"sem 𝓛 ({kind}_room {kind})", all_at(export), body)
 
 
+def value_of(kind):
+    """The name of the type of what lies behind the pointer, as specs/Places.antt has it."""
+    return KINDS[kind].c.removeprefix("Fv") + "Value"
+
+
+def lies(kind, value):
+    return f"sem 𝓛 (lies_at {kind}_row full_share {kind} {value})"
+
+
 def opens_export(export):
     parameters = [pointer("pool"), "at: *mut u8", "len: usize"] + [f"{name}: {kind}" for name, kind in export.numbers]
-    region = "(sem 𝓛 (lies_at (Array u8 len) full_share at bytes) ∗ ⌜ len < 2 ^ 63 ⌝)"
+    region = "(sem 𝓛 (lies_at (Array u8 len) full_share at before.0) ∗ ⌜ len < 2 ^ 63 ⌝)"
     body = lent_lines(export) + "    let region = unsafe { std::slice::from_raw_parts_mut(at, len) };\n"
     body += f"    pool.open({', '.join(['region'] + [name for name, _ in export.numbers])})\n"
-    before = f"{all_at(export)} ∗ {region}"
-    return function(export, parameters, f" -> {export.answer}", "    ghost bytes: { List ℕ }\n", before, all_at(export), body)
+    ghosts = "    ghost before: { List ℕ × PoolValue }\n"
+    clause = f"{export.definition} result before.1 after"
+    after = f"∃ₛ (λ (after : PoolValue). {lies('pool', 'after')} ∗ ⌜ {clause} ⌝)"
+    return function(
+        export, parameters, f" -> {export.answer}", ghosts, f"{lies('pool', 'before.1')} ∗ {region}", after, body
+    )
 
 
 def lends_export(export):
-    last = export.pointers[-1]
+    about = export.clause_about
     ghosts, before, after = "", all_at(export), all_at(export)
     if export.clause:
-        value = KINDS[last].c.replace("Fv", "") + "Value"
-        others = "".join(f"sem 𝓛 ({kind}_at {kind}) ∗ " for kind in export.pointers[:-1])
-        clause = " ".join(filter(None, [export.clause, export.clause_arguments, "result before after"]))
+        parts = [""] if len(about) < 2 else [".0", ".1"]
+        value = " × ".join(value_of(kind) for kind in about)
+        others = "".join(f"sem 𝓛 ({kind}_at {kind}) ∗ " for kind in export.pointers if kind not in about)
+        spoken = [f"{time}{part}" for part in parts for time in ("before", "after")]
+        clause = " ".join(filter(None, [export.definition, export.clause_of, "result", *spoken]))
+        then = f"⌜ {clause} ⌝"
+        for kind, part in reversed(list(zip(about, parts))):
+            then = f"{lies(kind, 'after' + part)} ∗ ({then})" if then.startswith("sem") else f"{lies(kind, 'after' + part)} ∗ {then}"
         ghosts = f"    ghost before: {{ {value} }}\n"
-        before = f"{others}sem 𝓛 (lies_at {last}_row full_share {last} before)"
-        after = f"{others}∃ₛ (λ (after : {value}). sem 𝓛 (lies_at {last}_row full_share {last} after) ∗ ⌜ {clause} ⌝)"
+        before = others + " ∗ ".join(lies(kind, "before" + part) for kind, part in zip(about, parts))
+        after = f"{others}∃ₛ (λ (after : {value}). {then})"
     parameters = [pointer(kind) for kind in export.pointers] + [f"{name}: {kind}" for name, kind in export.numbers]
     passed = ", ".join(export.pointers[1:] + [name for name, _ in export.numbers])
     body = lent_lines(export) + f"    {export.pointers[0]}.{export.method}({passed})\n"
@@ -408,7 +504,7 @@ def main():
     lib = crate / "src/lib.rt"
     head = lib.read_text().split(MARK)[0].rstrip("\n")
     lib.write_text(f"{head}\n\n{MARK}" + "\n".join(texts))
-    (crate / "proofs/Steps.antt").write_text((FORMS / "Steps.antt").read_text())
+    (crate / "proofs/Steps.antt").write_text((FORMS / "steps.antt.in").read_text())
     (crate / "proofs/Lib.antt").write_text("pub mod Steps\n")
 
 

@@ -1,4 +1,4 @@
--- What lies where C keeps a pool, an allocator, a buffer's handle and a burst.
+-- What lies where a program in C keeps a pool, an allocator, a buffer's handle, a burst and a span.
 use Rattle.std.specs.Prelude.{[]}
 use Rattle.std.specs.Borrow.{full_share, Fml}
 use Rattle.std.specs.Ptr.{lies_at}
@@ -10,9 +10,9 @@ use Rattle.seated_desk.specs.contracts.pool.Pool as pool
 use Rattle.seated_desk.specs.contracts.allocator_handle.AllocatorHandle as allocator
 use Rattle.seated_desk.specs.contracts.buf_handle.BufHandle as buf
 use Rattle.seated_desk.specs.contracts.burst_handle.BurstHandle as burst
-use Rattle.seated_desk.specs.contracts.burst_handle.Span as span
+use Rattle.seated_desk.specs.contracts.span.Span as span
 
--- the rows, over a region that is lent for good
+-- the types, over a region that is lent for good
 abbrev pub pool_row : RattleType
 pool_row = pool.the_row (record { mir = named 1; lft = [] })
 
@@ -28,7 +28,17 @@ burst_row = burst.the_row (record { mir = named 1; lft = [] })
 abbrev pub span_row : RattleType
 span_row = span.the_row
 
--- one lies at p
+-- their values
+abbrev pub PoolValue : Type 0
+PoolValue = pool_row.Denot
+
+abbrev pub AllocatorValue : Type 0
+AllocatorValue = allocator_row.Denot
+
+abbrev pub BufValue : Type 0
+BufValue = buf_row.Denot
+
+-- some value of the type lies at p
 abbrev pub pool_at : Ptr → Fml
 pool_at p = fex pool_row.Denot (λ s. lies_at pool_row full_share p s)
 
@@ -56,9 +66,3 @@ buf_room p = room_at buf_row p
 
 abbrev pub burst_room : Ptr → Fml
 burst_room p = room_at burst_row p
-
-abbrev pub span_room : Ptr → Fml
-span_room p = room_at span_row p
-
-abbrev pub BufValue : Type 0
-BufValue = buf_row.Denot

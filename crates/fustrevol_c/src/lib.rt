@@ -1,11 +1,17 @@
-//! A buffer pool for C programs, on their own threads.
+//! The pool's interface for programs in C, on threads of their own.
+//!
+//! C owns the storage of pools, allocators, buffers' handles and bursts. Each export lends what lies there to one call
+//! of `seated_desk`, and C has it back when the call ends. The exports behind "The exports." and their proofs are
+//! written by `tools/walks.py`, from its table.
 #![tactic(auto)]
 
 ghost use Rattle.std.specs.Prelude.{ℕ, List, ◌^◌, ◌<◌};
 ghost use Rattle.std.specs.Borrow.{sem, full_share, u8, Array};
 ghost use Rattle.std.specs.Ptr.{lies_at};
-ghost use Rattle.fustrevol_c.specs.Places.{pool_at, pool_room, allocator_at, allocator_room, buf_at, buf_room, burst_at, burst_room, span_at, buf_row, BufValue};
-ghost use Rattle.seated_desk.specs.Handles.{LendsInto, TakesOut};
+ghost use Rattle.fustrevol_c.specs.Places.{pool_at, pool_room, allocator_at, allocator_room, buf_at, buf_room, burst_at, burst_room, span_at};
+ghost use Rattle.fustrevol_c.specs.Places.{pool_row, allocator_row, buf_row, PoolValue, AllocatorValue, BufValue};
+ghost use Rattle.seated_desk.specs.Handles.{LendsInto, TakesOut, SetsFilled, TellsCapacity, TellsFilled};
+ghost use Rattle.seated_desk.specs.Shelves.{Opens, HandsOut, TakesBack, Closes};
 
 use seated_desk::{AllocatorHandle, BufHandle, BurstHandle, Pool, Span};
 use std::alloc::Global;
@@ -20,7 +26,7 @@ pub struct FvAllocator {
     _bytes: u8,
 }
 
-/// What C keeps a lent buffer in.
+/// What C keeps a buffer's handle in.
 pub struct FvBuf {
     _bytes: u8,
 }
@@ -30,13 +36,13 @@ pub struct FvBurst {
     _bytes: u8,
 }
 
-/// Where C is told where bytes lie.
+/// What C is told in where bytes lie.
 pub struct FvSpan {
     _bytes: u8,
 }
 
 // The exports.
-/// Makes a closed pool.
+/// Makes a pool that is not open.
 #[unsafe(no_mangle)]
 pub unsafe extern "C" fn fv_pool_init(alloc: Global, pool: *mut FvPool)
     requires* { sem 𝓛 (pool_room pool) }
@@ -86,20 +92,21 @@ pub unsafe extern "C" fn fv_pool_open(
     bits: u32,
     limit: u64,
 ) -> u32
-    ghost bytes: { List ℕ }
-    requires* { sem 𝓛 (pool_at pool) ∗ (sem 𝓛 (lies_at (Array u8 len) full_share at bytes) ∗ ⌜ len < 2 ^ 63 ⌝) }
-    ensures* { sem 𝓛 (pool_at pool) }
+    ghost before: { List ℕ × PoolValue }
+    requires* { sem 𝓛 (lies_at pool_row full_share pool before.1) ∗ (sem 𝓛 (lies_at (Array u8 len) full_share at before.0) ∗ ⌜ len < 2 ^ 63 ⌝) }
+    ensures* { ∃ₛ (λ (after : PoolValue). sem 𝓛 (lies_at pool_row full_share pool after) ∗ ⌜ Opens result before.1 after ⌝) }
 {
     let pool = unsafe { &mut *(pool as *mut Pool<'static>) };
     let region = unsafe { std::slice::from_raw_parts_mut(at, len) };
     pool.open(region, allocators, bits, limit)
 }
 
-/// Hands out an allocator of the pool: 0, or why not.
+/// Hands an allocator of the pool out: 0, or why not.
 #[unsafe(no_mangle)]
 pub unsafe extern "C" fn fv_pool_attach(pool: *mut FvPool, allocator: *mut FvAllocator) -> u32
-    requires* { sem 𝓛 (pool_at pool) ∗ sem 𝓛 (allocator_at allocator) }
-    ensures* { sem 𝓛 (pool_at pool) ∗ sem 𝓛 (allocator_at allocator) }
+    ghost before: { PoolValue × AllocatorValue }
+    requires* { sem 𝓛 (lies_at pool_row full_share pool before.0) ∗ sem 𝓛 (lies_at allocator_row full_share allocator before.1) }
+    ensures* { ∃ₛ (λ (after : PoolValue × AllocatorValue). sem 𝓛 (lies_at pool_row full_share pool after.0) ∗ (sem 𝓛 (lies_at allocator_row full_share allocator after.1) ∗ ⌜ HandsOut result before.0 after.0 before.1 after.1 ⌝)) }
 {
     let pool = unsafe { &mut *(pool as *mut Pool<'static>) };
     let allocator = unsafe { &mut *(allocator as *mut AllocatorHandle<'static>) };
@@ -109,8 +116,9 @@ pub unsafe extern "C" fn fv_pool_attach(pool: *mut FvPool, allocator: *mut FvAll
 /// Takes an allocator back: 0, or why not.
 #[unsafe(no_mangle)]
 pub unsafe extern "C" fn fv_pool_detach(pool: *mut FvPool, allocator: *mut FvAllocator) -> u32
-    requires* { sem 𝓛 (pool_at pool) ∗ sem 𝓛 (allocator_at allocator) }
-    ensures* { sem 𝓛 (pool_at pool) ∗ sem 𝓛 (allocator_at allocator) }
+    ghost before: { PoolValue × AllocatorValue }
+    requires* { sem 𝓛 (lies_at pool_row full_share pool before.0) ∗ sem 𝓛 (lies_at allocator_row full_share allocator before.1) }
+    ensures* { ∃ₛ (λ (after : PoolValue × AllocatorValue). sem 𝓛 (lies_at pool_row full_share pool after.0) ∗ (sem 𝓛 (lies_at allocator_row full_share allocator after.1) ∗ ⌜ TakesBack result before.0 after.0 before.1 after.1 ⌝)) }
 {
     let pool = unsafe { &mut *(pool as *mut Pool<'static>) };
     let allocator = unsafe { &mut *(allocator as *mut AllocatorHandle<'static>) };
@@ -120,8 +128,9 @@ pub unsafe extern "C" fn fv_pool_detach(pool: *mut FvPool, allocator: *mut FvAll
 /// Audits the pool and ends it: 0, or what is wrong.
 #[unsafe(no_mangle)]
 pub unsafe extern "C" fn fv_pool_close(pool: *mut FvPool) -> u32
-    requires* { sem 𝓛 (pool_at pool) }
-    ensures* { sem 𝓛 (pool_at pool) }
+    ghost before: { PoolValue }
+    requires* { sem 𝓛 (lies_at pool_row full_share pool before) }
+    ensures* { ∃ₛ (λ (after : PoolValue). sem 𝓛 (lies_at pool_row full_share pool after) ∗ ⌜ Closes result before after ⌝) }
 {
     let pool = unsafe { &mut *(pool as *mut Pool<'static>) };
     pool.close()
@@ -171,6 +180,16 @@ pub unsafe extern "C" fn fv_flush(allocator: *mut FvAllocator) -> u32
     allocator.flush()
 }
 
+/// Takes what came home: 0, or why nothing was taken.
+#[unsafe(no_mangle)]
+pub unsafe extern "C" fn fv_collect(allocator: *mut FvAllocator) -> u32
+    requires* { sem 𝓛 (allocator_at allocator) }
+    ensures* { sem 𝓛 (allocator_at allocator) }
+{
+    let allocator = unsafe { &mut *(allocator as *mut AllocatorHandle<'static>) };
+    allocator.collect()
+}
+
 /// A number about the allocator.
 #[unsafe(no_mangle)]
 pub unsafe extern "C" fn fv_allocator_stat(allocator: *mut FvAllocator, which: u32) -> u64
@@ -179,6 +198,39 @@ pub unsafe extern "C" fn fv_allocator_stat(allocator: *mut FvAllocator, which: u
 {
     let allocator = unsafe { &mut *(allocator as *mut AllocatorHandle<'static>) };
     allocator.stat(which)
+}
+
+/// How many bytes the buffer has; 0 where the handle holds none.
+#[unsafe(no_mangle)]
+pub unsafe extern "C" fn fv_buf_capacity(buf: *mut FvBuf) -> u64
+    ghost before: { BufValue }
+    requires* { sem 𝓛 (lies_at buf_row full_share buf before) }
+    ensures* { ∃ₛ (λ (after : BufValue). sem 𝓛 (lies_at buf_row full_share buf after) ∗ ⌜ TellsCapacity result before after ⌝) }
+{
+    let buf = unsafe { &mut *(buf as *mut BufHandle<'static>) };
+    buf.capacity()
+}
+
+/// How many bytes count as filled; 0 where the handle holds none.
+#[unsafe(no_mangle)]
+pub unsafe extern "C" fn fv_buf_len(buf: *mut FvBuf) -> u64
+    ghost before: { BufValue }
+    requires* { sem 𝓛 (lies_at buf_row full_share buf before) }
+    ensures* { ∃ₛ (λ (after : BufValue). sem 𝓛 (lies_at buf_row full_share buf after) ∗ ⌜ TellsFilled result before after ⌝) }
+{
+    let buf = unsafe { &mut *(buf as *mut BufHandle<'static>) };
+    buf.len()
+}
+
+/// Says how many bytes count as filled: 0, or why not.
+#[unsafe(no_mangle)]
+pub unsafe extern "C" fn fv_buf_set_len(buf: *mut FvBuf, len: usize) -> u32
+    ghost before: { BufValue }
+    requires* { sem 𝓛 (lies_at buf_row full_share buf before) }
+    ensures* { ∃ₛ (λ (after : BufValue). sem 𝓛 (lies_at buf_row full_share buf after) ∗ ⌜ SetsFilled len result before after ⌝) }
+{
+    let buf = unsafe { &mut *(buf as *mut BufHandle<'static>) };
+    buf.set_len(len)
 }
 
 /// Opens an empty burst for buffers of the allocator: 0, or why not.

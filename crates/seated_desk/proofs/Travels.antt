@@ -90,5 +90,5 @@ pool_send a = search (sendable, crosses, station_send) depth 40 fits 6000
 pointer_send : IsSend RawPtr
 pointer_send = search sendable
 
-pub slip_send : (a : NamedLft) → IsSend (BufHandle.the_row a)
-slip_send a = send_fields (BufHandle.the_type a) (pointer_send, (search (sendable, crosses, option_send, buf_send) depth 40 fits 6000, tt))
+pub buf_handle_send : (a : NamedLft) → IsSend (BufHandle.the_row a)
+buf_handle_send a = send_fields (BufHandle.the_type a) (pointer_send, (search (sendable, crosses, option_send, buf_send) depth 40 fits 6000, tt))

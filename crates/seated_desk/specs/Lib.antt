@@ -1,2 +1,5 @@
-pub mod Ready
+pub mod Answers
 pub mod Handles
+pub mod Ready
+pub mod Settled
+pub mod Shelves

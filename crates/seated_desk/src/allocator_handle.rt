@@ -1,99 +1,102 @@
-//! Where C keeps one desk of a pool.
+//! Where a program in C keeps one allocator of a pool.
 ghost use Rattle.seated_desk.specs.Handles.{LendsInto, TakesOut};
 
-use crate::answer::EMPTY;
-use crate::burst_handle::BurstHandle;
 use crate::buf_handle::BufHandle;
+use crate::burst_handle::BurstHandle;
+use crate::refusal::{Refusal, answer};
 use crate::station::Station;
 
-/// A place for one desk.
+/// A handle, which holds one allocator of a pool or none. One thread uses it at a time.
+///
+/// Each call answers 0, or the number of a [`Refusal`]; `Empty` where it is not attached to a pool. After a refusal
+/// all is as before, unless the call says otherwise.
 #[derive(Drop)]
 pub struct AllocatorHandle<'r> {
     pub(crate) station: Option<Station<'r>>,
 }
 
 impl<'r> AllocatorHandle<'r> {
-    /// Holds none.
+    /// A handle that is not attached to a pool.
     pub fn new() -> AllocatorHandle<'r> {
         AllocatorHandle { station: None }
     }
 
-    /// Lends a buffer of at least so many bytes into a handle: 0, or why not.
+    /// Lends a buffer of at least `size` bytes into a handle that holds none: `TooLarge`, `UsedUp`, `NoMemory`, or
+    /// `Holds`.
     #[inline(always)]
     pub fn alloc(&mut self, handle: &mut BufHandle<'r>, size: usize) -> u32
         ensures { LendsInto size result handle.old handle.new }
     {
         match &mut self.station {
-            Some(station) => station.alloc(handle, size),
-            None => EMPTY,
+            Some(station) => answer(station.alloc(handle, size)),
+            None => Refusal::Empty.number(),
         }
     }
 
-    /// Takes the buffer of a handle back: 0, or why not.
+    /// Takes the handle's buffer back, which any allocator of its pool may have lent: `Empty` where it holds none,
+    /// `Stranger` where no allocator of the pool has the number of its owner.
     #[inline(always)]
     pub fn free(&mut self, handle: &mut BufHandle<'r>) -> u32
         ensures { TakesOut result handle.old handle.new }
     {
         match &mut self.station {
-            Some(station) => station.free(handle),
-            None => EMPTY,
+            Some(station) => answer(station.free(handle)),
+            None => Refusal::Empty.number(),
         }
     }
 
-    /// Opens an empty burst with so many places: 0, or why not.
+    /// Opens a burst with room for `places` buffers of this allocator, in a handle that holds no buffer: `Holds`, or
+    /// `NoMemory`.
     pub fn open(&mut self, burst: &mut BurstHandle<'r>, places: usize) -> u32 {
         match &mut self.station {
-            Some(station) => station.open(burst, places),
-            None => EMPTY,
+            Some(station) => answer(station.open(burst, places)),
+            None => Refusal::Empty.number(),
         }
     }
 
-    /// Lends so many buffers into a burst: 0, or why not all of them.
+    /// Lends `count` buffers of at least `size` bytes into a burst of this allocator: as `alloc`, `Stranger` where the
+    /// burst is another's, or `Full`. What was lent before a refusal stays in the burst.
     pub fn fill(&mut self, burst: &mut BurstHandle<'r>, size: usize, count: usize) -> u32 {
         match &mut self.station {
-            Some(station) => station.fill(burst, size, count),
-            None => EMPTY,
+            Some(station) => answer(station.fill(burst, size, count)),
+            None => Refusal::Empty.number(),
         }
     }
 
-    /// Takes back all buffers of a burst: 0, or why not.
+    /// Takes back all buffers of a burst, which any allocator of the pool may have opened: `Empty` where it is not
+    /// open, or `Stranger`. It costs as much as one buffer does.
     pub fn free_all(&mut self, burst: &mut BurstHandle<'r>) -> u32 {
         match &mut self.station {
-            Some(station) => station.free_all(burst),
-            None => EMPTY,
+            Some(station) => answer(station.free_all(burst)),
+            None => Refusal::Empty.number(),
         }
     }
 
-    /// Takes what came, and posts what is cached: 0, or why not.
-    pub fn flush(&mut self) -> u32 {
+    /// Takes what came home, at most 64 batches: 0 where a batch came, and `Empty` where none did.
+    pub fn collect(&mut self) -> u32 {
         match &mut self.station {
-            Some(station) => {
-                station.take();
-                station.post();
-                0
-            }
-            None => EMPTY,
+            Some(station) => answer(station.collect()),
+            None => Refusal::Empty.number(),
         }
     }
 
-    /// A number about the desk: 0 its own number, 1 what it lent, 2 what was freed to it, 3 batches posted,
-    /// 4 batches taken, 5 chunks drawn, 6 slots at home, 7 buffers cached, 8 bytes cached, 9 the chunks of the stock.
-    pub fn stat(&mut self, which: u32) -> u64 {
-        let Some(station) = &self.station else {
-            return u64::MAX;
+    /// Takes what came home, and posts all that is cached, until an inbox has no room.
+    pub fn flush(&mut self) -> u32 {
+        let Some(station) = &mut self.station else {
+            return Refusal::Empty.number();
         };
-        match which {
-            0 => station.desk.number() as u64,
-            1 => station.lent,
-            2 => station.freed,
-            3 => station.posted,
-            4 => station.taken,
-            5 => station.claimed,
-            6 => station.desk.counts().0,
-            7 => station.desk.counts().1,
-            8 => station.desk.cached_bytes(),
-            9 => station.drawer.chunks() as u64,
-            _ => u64::MAX,
+        station.take();
+        station.post();
+        0
+    }
+
+    /// A number about the allocator: 0 its own number, 1 buffers lent, 2 buffers freed here, 3 batches posted, 4 batches
+    /// taken, 5 chunks drawn, 6 slots at home, 7 buffers cached, 8 bytes cached, 9 chunks in the region. The greatest
+    /// number where it is not attached, and for any other `which`.
+    pub fn stat(&mut self, which: u32) -> u64 {
+        match &self.station {
+            Some(station) => station.stat(which),
+            None => u64::MAX,
         }
     }
 }

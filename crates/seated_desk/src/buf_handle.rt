@@ -1,11 +1,17 @@
-//! Where a lent buffer lies.
+//! Where a program in C keeps one buffer.
 ghost use Rattle.std.specs.Prelude.{◌≡◌, None, Some};
+ghost use Rattle.seated_desk.specs.Answers.{answer_of};
+ghost use Rattle.seated_desk.specs.Handles.{SetsFilled, TellsCapacity, TellsFilled};
 
+use crate::refusal::{Refusal, answer};
 use crate::start::start_of;
 use slot_chain::Buf;
 use std::ptr;
 
-/// A place for one buffer, and where its bytes lie, which C reads.
+/// A handle, which holds one buffer or none, and says where the buffer's bytes lie.
+///
+/// A program in C reads the pointer, and reads and writes the bytes that lie there while the handle holds the
+/// buffer. Where the handle holds none, the pointer is null.
 #[repr(C)]
 #[derive(Drop)]
 pub struct BufHandle<'r> {
@@ -13,11 +19,11 @@ pub struct BufHandle<'r> {
     pub(crate) buf: Option<Buf<'r>>,
 }
 
-// Its pointer owns nothing, and the buffer goes.
+// Its pointer owns nothing, and the buffer goes to other threads.
 unsafe impl Send for BufHandle<'_> {}
 
 impl<'r> BufHandle<'r> {
-    /// Holds none.
+    /// A handle that holds none.
     pub fn new() -> BufHandle<'r>
         ensures { result.buf ≡ None }
     {
@@ -27,11 +33,51 @@ impl<'r> BufHandle<'r> {
         }
     }
 
-    /// Holds a buffer.
+    /// A handle that holds this buffer.
     pub(crate) fn of(buf: Buf<'r>) -> BufHandle<'r>
         ensures { result.buf ≡ Some buf.entry }
     {
         let at = start_of(buf.bytes());
         BufHandle { at, buf: Some(buf) }
+    }
+
+    /// How many bytes the buffer has, which is the size of its class; 0 where the handle holds none.
+    pub fn capacity(&mut self) -> u64
+        ensures { TellsCapacity result self.old self.new }
+    {
+        match &self.buf {
+            Some(buf) => buf.capacity() as u64,
+            None => 0,
+        }
+    }
+
+    /// How many bytes count as filled, from the front; 0 where the handle holds none.
+    pub fn len(&mut self) -> u64
+        ensures { TellsFilled result self.old self.new }
+    {
+        match &self.buf {
+            Some(buf) => buf.len() as u64,
+            None => 0,
+        }
+    }
+
+    /// Says how many bytes count as filled. `Full` where the buffer has fewer.
+    pub fn set_len(&mut self, len: usize) -> u32
+        ensures { SetsFilled len result self.old self.new }
+    {
+        answer(self.fill_to(len))
+    }
+
+    fn fill_to(&mut self, len: usize) -> Result<(), Refusal>
+        ensures { SetsFilled len (answer_of result) self.old self.new }
+    {
+        let Some(buf) = &mut self.buf else {
+            return Err(Refusal::Empty);
+        };
+        if len > buf.capacity() {
+            return Err(Refusal::Full);
+        }
+        buf.set_len(len);
+        Ok(())
     }
 }

@@ -1,103 +1,87 @@
-//! Where a burst lies: buffers of one desk that are handed over and freed as a whole.
-use crate::answer::{EMPTY, FULL, HOLDS, STRANGER};
+//! Where a program in C keeps a burst: buffers of one allocator that are handed over and freed as a whole.
 use crate::buf_handle::BufHandle;
-use crate::start::start_of;
+use crate::refusal::{Refusal, answer};
+use crate::span::Span;
 use slot_chain::BufParcel;
 use std::mem;
-use std::ptr;
 
-/// Where the bytes of one buffer lie, which C reads.
-#[repr(C)]
-#[derive(Drop)]
-pub struct Span {
-    pub(crate) at: *const u8,
-    pub(crate) len: usize,
-}
-
-/// A place for one parcel.
+/// A handle, which holds one parcel of buffers or none.
 #[derive(Drop)]
 pub struct BurstHandle<'r> {
     pub(crate) parcel: Option<BufParcel<'r>>,
 }
 
 impl<'r> BurstHandle<'r> {
-    /// Holds none.
+    /// A handle that holds none.
     pub fn new() -> BurstHandle<'r> {
         BurstHandle { parcel: None }
     }
 
-    /// How many buffers it has.
+    /// How many buffers the burst has; 0 where it is not open.
     pub fn len(&mut self) -> u64 {
         match &self.parcel {
-            Some(parcel) => parcel.buffers().len() as u64,
+            Some(parcel) => parcel.len() as u64,
             None => 0,
         }
     }
 
-    /// Puts the handle's buffer to the end.
+    /// Puts the handle's buffer to the end. `Empty` where the burst is not open or the handle holds none, `Stranger`
+    /// where the buffer is another allocator's, `Full` where no place is left.
     pub fn push(&mut self, handle: &mut BufHandle<'r>) -> u32 {
+        answer(self.pack(handle))
+    }
+
+    fn pack(&mut self, handle: &mut BufHandle<'r>) -> Result<(), Refusal> {
         let Some(parcel) = &mut self.parcel else {
-            return EMPTY;
+            return Err(Refusal::Empty);
         };
         let BufHandle { at: _, buf } = mem::replace(handle, BufHandle::new());
         let Some(buf) = buf else {
-            return EMPTY;
+            return Err(Refusal::Empty);
         };
-        let owner = buf.owner();
-        if owner != parcel.owner() {
-            *handle = BufHandle::of(buf);
-            return STRANGER;
-        }
+        let is_own = buf.owner() == parcel.owner();
         match parcel.push(buf) {
-            Ok(()) => 0,
+            Ok(()) => Ok(()),
             Err(buf) => {
                 *handle = BufHandle::of(buf);
-                FULL
+                Err(if is_own {
+                    Refusal::Full
+                } else {
+                    Refusal::Stranger
+                })
             }
         }
     }
 
-    /// Takes the last buffer out, into the handle.
+    /// Takes the last buffer out, into a handle that holds none. `Holds` where it holds one, `Empty` where the burst
+    /// has none.
     pub fn pop(&mut self, handle: &mut BufHandle<'r>) -> u32 {
+        answer(self.unpack(handle))
+    }
+
+    fn unpack(&mut self, handle: &mut BufHandle<'r>) -> Result<(), Refusal> {
         if handle.buf.is_some() {
-            return HOLDS;
+            return Err(Refusal::Holds);
         }
         let Some(parcel) = &mut self.parcel else {
-            return EMPTY;
+            return Err(Refusal::Empty);
         };
-        match parcel.pop() {
-            Some(buf) => {
-                *handle = BufHandle::of(buf);
-                0
-            }
-            None => EMPTY,
-        }
+        let Some(buf) = parcel.pop() else {
+            return Err(Refusal::Empty);
+        };
+        *handle = BufHandle::of(buf);
+        Ok(())
     }
 
-    /// Tells where the bytes of a buffer lie.
+    /// Tells where the bytes of the buffer at this place lie, counted from 0. `Empty` where there is none.
     pub fn span(&mut self, span: &mut Span, index: usize) -> u32 {
         let Some(parcel) = &self.parcel else {
-            return EMPTY;
+            return Refusal::Empty.number();
         };
-        let buffers = parcel.buffers();
-        if index >= buffers.len() {
-            return EMPTY;
-        }
-        let bytes = buffers[index].bytes();
-        *span = Span {
-            at: start_of(bytes),
-            len: bytes.len(),
+        let Some(buf) = parcel.buffers().get(index) else {
+            return Refusal::Empty.number();
         };
+        *span = Span::of(buf);
         0
-    }
-}
-
-impl Span {
-    /// Nowhere.
-    pub fn new() -> Span {
-        Span {
-            at: ptr::null(),
-            len: 0,
-        }
     }
 }

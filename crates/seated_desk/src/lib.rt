@@ -1,24 +1,33 @@
-//! What a C program holds of a pool: desks, lent buffers, bursts of them, and the pool's shelf.
+//! What a program in C holds of a pool: allocators, buffers, bursts of them, and the pool itself.
 //!
-//! Each value here is whole at any time, so that a call that has nothing to do answers a number and
-//! leaves it. Nothing waits, and no handle is needed.
+//! C owns the storage of these values and hands them from thread to thread. So each of them is whole at any time: a
+//! handle holds one thing or none, and a call that has nothing to do answers a number and leaves all as it was. No
+//! call waits for another thread, and none needs a handle of the runtime.
+//!
+//! [`AllocatorHandle`] is what one thread allocates and frees at. [`BufHandle`] holds a buffer, [`BurstHandle`]
+//! buffers that are freed as a whole, and [`Pool`] the allocators that no thread holds.
 #![tactic(auto)]
 
-mod answer;
+mod allocator_handle;
+mod buf_handle;
 mod burst_handle;
 pub mod crossing;
-mod allocator_handle;
+mod ends;
+mod freeing;
+mod lending;
+mod opening;
 mod pool;
+mod refusal;
 mod settled;
-mod buf_handle;
+mod span;
 mod start;
 mod station;
-mod ends;
 #[cfg(test)]
 mod tests;
 
-pub use answer::{BAD_ARGUMENT, EMPTY, FULL, HOLDS, NO_MEMORY, STRANGER, TOO_LARGE, USED_UP};
-pub use burst_handle::{BurstHandle, Span};
 pub use allocator_handle::AllocatorHandle;
-pub use pool::Pool;
 pub use buf_handle::BufHandle;
+pub use burst_handle::BurstHandle;
+pub use pool::Pool;
+pub use refusal::Refusal;
+pub use span::Span;

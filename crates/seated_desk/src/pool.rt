@@ -1,200 +1,136 @@
-//! A pool: its desks that nobody holds.
-ghost use Rattle.std.specs.Prelude.{◌≡◌, ◌<◌, ◌≤◌, ◌^◌, length, None};
-ghost use Rattle.std.specs.Arc.{arc_value};
-ghost use Rattle.seated_desk.specs.Ready.{AreReady};
+//! A pool: its allocators that no thread holds.
+ghost use Rattle.seated_desk.specs.Answers.{answer_of};
+ghost use Rattle.seated_desk.specs.Shelves.{Closes, HandsOut, Opens, TakesBack};
 
-use crate::answer::{BAD_ARGUMENT, EMPTY, FULL, HOLDS, NO_MEMORY, STRANGER};
 use crate::allocator_handle::AllocatorHandle;
+use crate::opening::{ends_of_all, stations};
+use crate::refusal::{Refusal, answer};
 use crate::settled::{judge, settle};
-use crate::station::{Station, is_number};
-use crate::ends::{PostingEnd, TakingEnd};
-use chunk_stock::{Drawer, drawers};
+use crate::station::Station;
+use chunk_stock::drawers;
 use digit_route::Digits;
-use link_inbox::{LinkInbox, SendSeat, TakeSeat};
-use pool_desk::IdleDesk;
 use region_cut::cut;
 use slot_audit::Fault;
 use slot_chain::NoMemory;
 use std::alloc::Global;
 use std::mem;
-use std::sync::Arc;
 
-/// A pool: its desks that nobody holds, and what its last audit said.
+// The greatest limit of a cache, in bytes.
+const LARGEST_LIMIT: u64 = 1048576;
+
+// What a fault's number is added to.
+const FAULTS_FROM: u32 = 100;
+
+/// A pool: its allocators that no thread holds, and what its last audit said.
+///
+/// Calls on a pool are made one at a time. Each answers 0, or the number of a [`Refusal`].
 #[derive(Drop)]
 pub struct Pool<'r> {
-    alloc: Global,
-    shelf: Vec<Station<'r>>,
-    desks: u16,
-    fault: u64,
+    pub(crate) alloc: Global,
+    pub(crate) shelf: Vec<Station<'r>>,
+    pub(crate) allocators: u16,
+    // The slot that the last audit named: its chunk times 256, and its index.
+    pub(crate) fault: u64,
 }
 
-// The ways of one desk: where it takes, and where it posts.
-#[derive(Drop)]
-struct Seated<'r> {
-    inward: Option<TakingEnd<'r>>,
-    outward: Vec<PostingEnd<'r>>,
-}
-
-// Gives each desk its way to the inbox.
-fn deal<'r>(
-    inbox: &Arc<LinkInbox<'r>>,
-    seats: Vec<SendSeat<'r>>,
-    seated: &mut Vec<Seated<'r>>,
-) -> Result<(), NoMemory>
-    requires { AreReady (arc_value inbox.now) seats.items }
-    ensures { length seated.new.items ≡ length seated.old.items }
-{
-    let mut seats = seats;
-    while let Some(seat) = seats.pop() {
-        let Ok(theirs) = Arc::try_clone(inbox) else {
-            return Err(NoMemory);
-        };
-        let Some(ways) = seated.get_mut(seats.len()) else {
-            return Err(NoMemory);
-        };
-        ways.outward.push(out(theirs, seat))?;
-    }
-    Ok(())
-}
-
-// A desk's way to an inbox.
-fn out<'r>(inbox: Arc<LinkInbox<'r>>, seat: SendSeat<'r>) -> PostingEnd<'r>
-    requires { (seat.inbox ≡ arc_value inbox) × (seat.half ≡ None) }
-{
-    PostingEnd { inbox, seat }
-}
-
-// An inbox for the desk of this number, to which all desks have a way.
-fn add_box<'r>(
-    alloc: Global,
-    number: u16,
-    digits: Digits,
-    seated: &mut Vec<Seated<'r>>,
-) -> Result<(), NoMemory>
-    requires { (1 ≤ length seated.old.items) × (length seated.old.items ≤ 64) }
-    ensures { length seated.new.items ≡ length seated.old.items }
-{
-    let (inbox, take, seats) = LinkInbox::new(alloc, number, digits, seated.len() as u16)?;
-    let Ok(inbox) = Arc::new(alloc, inbox) else {
-        return Err(NoMemory);
-    };
-    deal(&inbox, seats, seated)?;
-    if let Some(ways) = seated.get_mut(number as usize) {
-        ways.inward = Some(TakingEnd { inbox, seat: take });
-    }
-    Ok(())
-}
-
-// The ways of all desks.
-fn seats<'r>(alloc: Global, digits: Digits, desks: u16) -> Result<Vec<Seated<'r>>, NoMemory>
-    requires { (1 ≤ desks) × (desks ≤ 64) }
-{
-    let mut seated = Vec::with_capacity(alloc, desks as usize)?;
-    for count in 0..desks {
-        seated.push(Seated {
-            inward: None,
-            outward: Vec::new(alloc),
-        })?;
-    }
-    for number in 0..desks {
-        add_box(alloc, number, digits, &mut seated)?;
-    }
-    Ok(seated)
-}
-
-// A station for each desk, on a shelf.
-fn stations<'r>(
-    alloc: Global,
-    digits: Digits,
-    limit: u64,
-    seated: Vec<Seated<'r>>,
-    drawers: Vec<Drawer<'r>>,
-) -> Result<Vec<Station<'r>>, NoMemory>
-    requires { limit ≤ 1048576 }
-{
-    let mut drawers = drawers;
-    let mut shelf = Vec::with_capacity(alloc, seated.len())?;
-    let mut number = 0u16;
-    for ways in seated {
-        let Seated { inward, outward } = ways;
-        let Some(inward) = inward else {
-            return Err(NoMemory);
-        };
-        let Some(drawer) = drawers.pop() else {
-            return Err(NoMemory);
-        };
-        if !is_number(number, digits) {
-            return Err(NoMemory);
+// Which slot a fault names: its chunk times 256, and its index.
+fn slot_named(fault: Fault) -> u64 {
+    match fault {
+        Fault::Stranger(slot) | Fault::Doubled(slot) | Fault::Missing(slot) => {
+            slot.chunk as u64 * 256 + slot.index as u64
         }
-        let desk = IdleDesk::new(number, digits, limit).adopt(0);
-        shelf.push(Station::new(alloc, desk, inward, outward, drawer))?;
-        number = number.saturating_add(1);
+        Fault::NoMemory => 0,
     }
-    Ok(shelf)
 }
 
 impl<'r> Pool<'r> {
-    /// No pool yet.
+    /// A pool that is not open. Its memory will come from the C library.
     pub fn new(alloc: Global) -> Pool<'r> {
         Pool {
             alloc,
             shelf: Vec::new(alloc),
-            desks: 0,
+            allocators: 0,
             fault: 0,
         }
     }
 
-    /// Opens a pool of so many desks, 1 to 64, over a region, numbers being read in digits of `bits` bits, 1 to 6, with
-    /// caches of this limit in bytes: 0, or why not.
-    pub fn open(&mut self, region: &'r mut [u8], desks: u32, bits: u32, limit: u64) -> u32 {
-        if self.desks > 0 {
-            return HOLDS;
-        }
-        if desks < 1 || desks > 64 || limit > 1048576 {
-            return BAD_ARGUMENT;
-        }
-        let Some(digits) = Digits::new(bits) else {
-            return BAD_ARGUMENT;
-        };
-        let Ok(parts) = cut(self.alloc, region) else {
-            return BAD_ARGUMENT;
-        };
-        let Ok(drawers) = drawers(self.alloc, parts, desks as usize) else {
-            return NO_MEMORY;
-        };
-        let Ok(seated) = seats(self.alloc, digits, desks as u16) else {
-            return NO_MEMORY;
-        };
-        let Ok(shelf) = stations(self.alloc, digits, limit, seated, drawers) else {
-            return NO_MEMORY;
-        };
-        self.shelf = shelf;
-        self.desks = desks as u16;
-        0
+    /// Opens the pool over a region, which is cut into chunks of 4,096 bytes, with 1 to 64 allocators. Their numbers are
+    /// read in digits of `bits` bits, 1 to 6. Each posts what it cached once that is more than `limit` bytes, of which
+    /// 1,048,576 are the most. `Holds` where it is open, `BadArgument`, or `NoMemory`.
+    ///
+    /// It takes memory for 16 nodes for each two allocators, some 260 bytes each.
+    pub fn open(&mut self, region: &'r mut [u8], allocators: u32, bits: u32, limit: u64) -> u32
+        ensures { Opens result self.old self.new }
+    {
+        answer(self.open_over(region, allocators, bits, limit))
     }
 
-    /// Hands a desk out: 0, or why not.
-    pub fn attach(&mut self, allocator: &mut AllocatorHandle<'r>) -> u32 {
+    fn open_over(
+        &mut self,
+        region: &'r mut [u8],
+        allocators: u32,
+        bits: u32,
+        limit: u64,
+    ) -> Result<(), Refusal>
+        ensures { Opens (answer_of result) self.old self.new }
+    {
+        if self.allocators > 0 {
+            return Err(Refusal::Holds);
+        }
+        if allocators < 1 || allocators > 64 || limit > LARGEST_LIMIT {
+            return Err(Refusal::BadArgument);
+        }
+        let Some(digits) = Digits::new(bits) else {
+            return Err(Refusal::BadArgument);
+        };
+        let Ok(parts) = cut(self.alloc, region) else {
+            return Err(Refusal::BadArgument);
+        };
+        if parts.is_empty() {
+            return Err(Refusal::BadArgument);
+        }
+        let Ok(drawers) = drawers(self.alloc, parts, allocators as usize) else {
+            return Err(Refusal::NoMemory);
+        };
+        let desks = allocators as u16;
+        let Ok(ends) = ends_of_all(self.alloc, digits, desks) else {
+            return Err(Refusal::NoMemory);
+        };
+        let Ok(shelf) = stations(self.alloc, digits, limit, ends, drawers, desks) else {
+            return Err(Refusal::NoMemory);
+        };
+        self.shelf = shelf;
+        self.allocators = desks;
+        Ok(())
+    }
+
+    /// Hands an allocator out, into a handle that is not attached: `Holds`, or `Empty` where all are out.
+    pub fn attach(&mut self, allocator: &mut AllocatorHandle<'r>) -> u32
+        ensures { HandsOut result self.old self.new allocator.old allocator.new }
+    {
         if allocator.station.is_some() {
-            return HOLDS;
+            return Refusal::Holds.number();
         }
         match self.shelf.pop() {
             Some(station) => {
                 allocator.station = Some(station);
                 0
             }
-            None => EMPTY,
+            None => Refusal::Empty.number(),
         }
     }
 
-    /// Takes a desk back, once it has posted what it can: 0, or why not.
-    pub fn detach(&mut self, allocator: &mut AllocatorHandle<'r>) -> u32 {
+    /// Takes an allocator back, once it has taken what came and posted what it can: `Empty` where the handle is not
+    /// attached, `Stranger` where all of the pool's are back.
+    pub fn detach(&mut self, allocator: &mut AllocatorHandle<'r>) -> u32
+        ensures { TakesBack result self.old self.new allocator.old allocator.new }
+    {
         let Some(mut station) = mem::replace(&mut allocator.station, None) else {
-            return EMPTY;
+            return Refusal::Empty.number();
         };
-        if self.shelf.len() >= self.desks as usize {
+        if self.shelf.len() >= self.allocators as usize {
             allocator.station = Some(station);
-            return STRANGER;
+            return Refusal::Stranger.number();
         }
         station.take();
         station.post();
@@ -202,41 +138,41 @@ impl<'r> Pool<'r> {
             Ok(()) => 0,
             Err(failed) => {
                 allocator.station = Some(failed.value);
-                NO_MEMORY
+                Refusal::NoMemory.number()
             }
         }
     }
 
-    /// Ends the pool, once all its desks are back: 0 where each slot is there once, or what is wrong.
-    pub fn close(&mut self) -> u32 {
-        if self.desks == 0 {
-            return EMPTY;
+    /// Ends the pool, once all its allocators are back: what was freed goes home, and an audit says whether each slot of
+    /// each chunk that was drawn is there, once. `Empty` where it is not open, `Full` where an allocator is out. Else
+    /// the pool is closed: 0 where nothing is wrong, and 100 with the fault's number where something is.
+    pub fn close(&mut self) -> u32
+        ensures { Closes result self.old self.new }
+    {
+        if self.allocators == 0 {
+            return Refusal::Empty.number();
         }
-        if self.shelf.len() < self.desks as usize {
-            return FULL;
+        if self.shelf.len() < self.allocators as usize {
+            return Refusal::Full.number();
         }
         settle(self.shelf.as_mut_slice());
-        let answer = match judge(self.alloc, self.shelf.as_slice()) {
+        let outcome = judge(self.alloc, self.shelf.as_slice());
+        self.shelf = Vec::new(self.alloc);
+        self.allocators = 0;
+        match outcome {
             Ok(()) => 0,
             Err(fault) => {
-                self.fault = match fault {
-                    Fault::Stranger(slot) => slot.chunk as u64 * 256 + slot.index as u64,
-                    Fault::Doubled(slot) => slot.chunk as u64 * 256 + slot.index as u64,
-                    Fault::Missing(slot) => slot.chunk as u64 * 256 + slot.index as u64,
-                    Fault::NoMemory => 0,
-                };
-                fault.number().saturating_add(100)
+                self.fault = slot_named(fault);
+                fault.number() + FAULTS_FROM
             }
-        };
-        self.shelf = Vec::new(self.alloc);
-        self.desks = 0;
-        answer
+        }
     }
 
-    /// A number about the pool: 0 its desks, 1 those that are here, 2 the slot that the last audit named.
+    /// A number about the pool: 0 its allocators, 1 those that are here, 2 the slot that the last fault named, as 256
+    /// times its chunk and its index. The greatest number for any other `which`.
     pub fn stat(&mut self, which: u32) -> u64 {
         match which {
-            0 => self.desks as u64,
+            0 => self.allocators as u64,
             1 => self.shelf.len() as u64,
             2 => self.fault,
             _ => u64::MAX,

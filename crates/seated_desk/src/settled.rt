@@ -1,16 +1,23 @@
-//! The end of a pool, once all its desks are back.
+//! The end of a pool, once all its stations are back.
+ghost use Rattle.std.specs.Prelude.{IfOk, OnOk};
+ghost use Rattle.slot_chain.specs.Slots.{AddsSlots};
+ghost use Rattle.seated_desk.specs.Settled.{AreSettled, AreWhole, listed};
+
 use crate::station::Station;
 use region_cut::Slot;
 use slot_audit::{Drawn, Fault, audit};
+use slot_chain::NoMemory;
 use std::alloc::Global;
 
-// How often all desks take and post, at most.
+// How often all stations take and post, at most.
 const ROUNDS: u32 = 4096;
 
-// All desks take what came and post what is cached, once.
-fn once(shelf: &mut [Station<'_>]) -> u32 {
+// All stations take what came and post what is cached, once. Says how many batches moved.
+fn move_once(shelf: &mut [Station<'_>]) -> u32
+    ensures { AreSettled shelf.old shelf.new }
+{
     let mut moved = 0u32;
-    for station in shelf {
+    for station in shelf.iter_mut() {
         moved = moved.saturating_add(station.take());
         moved = moved.saturating_add(station.post());
     }
@@ -18,27 +25,45 @@ fn once(shelf: &mut [Station<'_>]) -> u32 {
 }
 
 /// All that was freed goes home.
-pub(crate) fn settle(shelf: &mut [Station<'_>]) {
+pub(crate) fn settle(shelf: &mut [Station<'_>])
+    ensures { AreSettled shelf.old shelf.new }
+{
     for _ in 0..ROUNDS {
-        if once(shelf) == 0 {
+        if move_once(shelf) == 0 {
             return;
         }
     }
 }
 
-/// Whether each slot of each drawn chunk is at one of the desks, once.
-pub(crate) fn judge(alloc: Global, shelf: &[Station<'_>]) -> Result<(), Fault> {
-    let mut found: Vec<Slot> = Vec::new(alloc);
+// Adds the slots that these stations have.
+fn list_all(shelf: &[Station<'_>], found: &mut Vec<Slot>) -> Result<(), NoMemory>
+    ensures { OnOk result (AddsSlots (listed shelf.now) found.old.items found.new.items) }
+{
+    for station in shelf {
+        station.list(found)?;
+    }
+    Ok(())
+}
+
+// Which chunks the stock counts as drawn.
+fn noted(alloc: Global, shelf: &[Station<'_>]) -> Result<Drawn, Fault> {
     let Ok(mut drawn) = Drawn::new(alloc) else {
         return Err(Fault::NoMemory);
     };
-    for station in shelf {
-        if station.list(&mut found).is_err() {
-            return Err(Fault::NoMemory);
-        }
-    }
     if let Some(station) = shelf.first() {
         station.drawer.note_all(&mut drawn);
+    }
+    Ok(drawn)
+}
+
+/// Whether each slot of each chunk that is drawn is at one of the stations, once.
+pub(crate) fn judge(alloc: Global, shelf: &[Station<'_>]) -> Result<(), Fault>
+    ensures { IfOk result (λ _. (drawn : _) × AreWhole drawn shelf.now) }
+{
+    let drawn = noted(alloc, shelf)?;
+    let mut found = Vec::new(alloc);
+    if list_all(shelf, &mut found).is_err() {
+        return Err(Fault::NoMemory);
     }
     audit(alloc, found.as_slice(), &drawn)
 }

@@ -1,22 +1,16 @@
-//! A desk with its ways to the others.
-ghost use Rattle.std.specs.Prelude.{◌≡◌, ◌<◌, ◌≤◌, ◌^◌, IsTrue, ◌≢◌, MatchResult, IfSome};
-ghost use Rattle.region_cut.specs.Classes.{size_of};
-ghost use Rattle.seated_desk.specs.Handles.{LendsInto, TakesOut};
+//! A desk with its ways to the other desks.
+ghost use Rattle.std.specs.Prelude.{◌≡◌, ◌<◌, ◌^◌, IsTrue, IfSome, OnOk};
+ghost use Rattle.slot_chain.specs.Slots.{AddsSlots};
+ghost use Rattle.seated_desk.specs.Settled.{IsSameDesk, station_slots};
 
-use crate::answer::{EMPTY, FULL, HOLDS, NO_MEMORY, STRANGER, TOO_LARGE, USED_UP};
-use crate::burst_handle::BurstHandle;
-use crate::buf_handle::BufHandle;
 use crate::ends::{PostingEnd, TakingEnd};
+use crate::refusal::Refusal;
 use chunk_stock::Drawer;
 use digit_route::{Batch, Digits};
-use pool_desk::{Desk, DeskError, Freed, IdleDesk};
+use pool_desk::Desk;
 use region_cut::{Profile, Slot};
-use slot_chain::{Buf, NoMemory};
+use slot_chain::NoMemory;
 use std::alloc::Global;
-use std::mem;
-
-// How many calls go by between two looks into the inbox.
-const LOOK_EVERY: u64 = 64;
 
 // How many batches are taken at a time.
 const MOST_TAKEN: u32 = 64;
@@ -24,7 +18,7 @@ const MOST_TAKEN: u32 = 64;
 // How many batches are posted at a time.
 const MOST_POSTED: u32 = 4096;
 
-/// A desk, its inbox, its ways to the inboxes of all desks, and its right to draw chunks.
+/// A desk, the end of its inbox, its ends of the inboxes of all desks, its right to draw chunks, and what it counted.
 #[derive(Drop)]
 pub(crate) struct Station<'r> {
     pub(crate) alloc: Global,
@@ -32,8 +26,10 @@ pub(crate) struct Station<'r> {
     pub(crate) inward: TakingEnd<'r>,
     pub(crate) outward: Vec<PostingEnd<'r>>,
     pub(crate) drawer: Drawer<'r>,
-    since: u64,
-    post_from: u64,
+    // How many calls there were since it last looked into its inbox.
+    pub(crate) since: u64,
+    // From how many cached bytes on a post is tried again.
+    pub(crate) post_from: u64,
     pub(crate) lent: u64,
     pub(crate) freed: u64,
     pub(crate) posted: u64,
@@ -41,7 +37,7 @@ pub(crate) struct Station<'r> {
     pub(crate) claimed: u64,
 }
 
-/// Whether it is the number of a desk.
+/// Whether a desk may have the number.
 pub(crate) fn is_number(owner: u16, digits: Digits) -> bool
     ensures { IsTrue result → owner < 2 ^ digits.bits }
 {
@@ -53,7 +49,7 @@ pub(crate) fn is_number(owner: u16, digits: Digits) -> bool
 
 // The next batch to be posted, of a first round while there is one.
 fn next_of<'r>(desk: &mut Desk<'r>) -> Option<Batch<'r>>
-    ensures same { (desk.new.number ≡ desk.old.number) × (desk.new.digits ≡ desk.old.digits) }
+    ensures same { IsSameDesk desk.old desk.new }
     ensures batch { IfSome result (λ b. (b.sender ≡ desk.old.number) × (b.digits ≡ desk.old.digits)) }
 {
     match desk.next_of_first_round() {
@@ -63,13 +59,16 @@ fn next_of<'r>(desk: &mut Desk<'r>) -> Option<Batch<'r>>
 }
 
 impl<'r> Station<'r> {
+    /// A station that counted nothing yet.
     pub(crate) fn new(
         alloc: Global,
         desk: Desk<'r>,
         inward: TakingEnd<'r>,
         outward: Vec<PostingEnd<'r>>,
         drawer: Drawer<'r>,
-    ) -> Station<'r> {
+    ) -> Station<'r>
+        ensures { result.desk ≡ desk.entry }
+    {
         Station {
             alloc,
             desk,
@@ -87,7 +86,9 @@ impl<'r> Station<'r> {
     }
 
     /// Takes what came in batches, at most 64. Says how many.
-    pub(crate) fn take(&mut self) -> u32 {
+    pub(crate) fn take(&mut self) -> u32
+        ensures { IsSameDesk self.old.desk self.new.desk }
+    {
         for count in 0..MOST_TAKEN {
             let Some(batch) = self.inward.take() else {
                 return count;
@@ -95,22 +96,32 @@ impl<'r> Station<'r> {
             if batch.address() != self.desk.number() || batch.digits() != self.desk.digits() {
                 return count;
             }
-            let _ = self.desk.handle(batch);
+            self.desk.handle(batch);
             self.taken = self.taken.wrapping_add(1);
         }
         MOST_TAKEN
     }
 
+    /// Takes what came: `Empty` where nothing did.
+    pub(crate) fn collect(&mut self) -> Result<(), Refusal> {
+        match self.take() {
+            0 => Err(Refusal::Empty),
+            _ => Ok(()),
+        }
+    }
+
     // Posts one batch. Says whether there was one, and it was not refused.
-    fn post_one(&mut self) -> bool {
+    fn post_one(&mut self) -> bool
+        ensures { IsSameDesk self.old.desk self.new.desk }
+    {
         let Some(batch) = next_of(&mut self.desk) else {
             return false;
         };
-        let Some(way) = self.outward.get_mut(batch.address() as usize) else {
+        let Some(end) = self.outward.get_mut(batch.address() as usize) else {
             self.desk.refused(batch);
             return false;
         };
-        match way.post(batch) {
+        match end.post(batch) {
             Ok(()) => {
                 self.posted = self.posted.wrapping_add(1);
                 true
@@ -123,7 +134,9 @@ impl<'r> Station<'r> {
     }
 
     /// Posts all that is cached, until a batch is refused. Says how many batches.
-    pub(crate) fn post(&mut self) -> u32 {
+    pub(crate) fn post(&mut self) -> u32
+        ensures { IsSameDesk self.old.desk self.new.desk }
+    {
         for count in 0..MOST_POSTED {
             if !self.post_one() {
                 return count;
@@ -132,165 +145,27 @@ impl<'r> Station<'r> {
         MOST_POSTED
     }
 
-    // Takes what came, and draws a chunk where no slot of the class is among it.
-    #[cold]
-    #[inline(never)]
-    fn fetch(&mut self, size: usize) {
-        self.since = 0;
-        self.take();
-        let Some(class) = self.desk.digits().profile().class_for(size) else {
-            return;
-        };
-        if self.desk.has_home(class) {
-            return;
-        }
-        self.post_from = 0;
-        let Some(part) = self.drawer.draw(class) else {
-            return;
-        };
-        self.desk.claim_needed(part, class);
-        self.claimed = self.claimed.wrapping_add(1);
-    }
-
-    #[inline(always)]
-    fn provide(&mut self, size: usize) {
-        self.since = self.since.wrapping_add(1);
-        let Some(class) = self.desk.digits().profile().class_for(size) else {
-            return;
-        };
-        if self.since >= LOOK_EVERY || !self.desk.has_home(class) {
-            self.fetch(size);
-        }
-    }
-
-    // A buffer, or why there is none.
-    #[inline(always)]
-    fn lend(&mut self, size: usize) -> Result<Buf<'r>, u32>
-        ensures { MatchResult result (λ b. size ≤ size_of b.class) (λ e. e ≢ 0) }
-    {
-        self.provide(size);
-        match self.desk.alloc(self.alloc, size) {
-            Ok(buf) => {
-                self.lent = self.lent.wrapping_add(1);
-                Ok(buf)
-            }
-            Err(DeskError::TooLarge) => Err(TOO_LARGE),
-            Err(DeskError::NoMemory) => Err(NO_MEMORY),
-            Err(_) => Err(USED_UP),
-        }
-    }
-
-    /// Lends a buffer into a handle that holds none.
-    #[inline(always)]
-    pub(crate) fn alloc(&mut self, handle: &mut BufHandle<'r>, size: usize) -> u32
-        ensures { LendsInto size result handle.old handle.new }
-    {
-        if handle.buf.is_some() {
-            return HOLDS;
-        }
-        match self.lend(size) {
-            Ok(buf) => {
-                *handle = BufHandle::of(buf);
-                0
-            }
-            Err(answer) => answer,
-        }
-    }
-
-    // Posts what is cached, unless a post was refused and little has come since.
-    #[cold]
-    #[inline(never)]
-    fn post_again(&mut self) {
-        if self.desk.cached_bytes() < self.post_from {
-            return;
-        }
-        self.take();
-        self.post();
-        self.desk.make_room(self.alloc);
-        let left = self.desk.cached_bytes();
-        self.post_from = left.saturating_add(left / 4);
-    }
-
-    /// Takes the buffer of a handle back.
-    #[inline(always)]
-    pub(crate) fn free(&mut self, handle: &mut BufHandle<'r>) -> u32
-        ensures { TakesOut result handle.old handle.new }
-    {
-        let BufHandle { at: _, buf } = mem::replace(handle, BufHandle::new());
-        let Some(buf) = buf else {
-            return EMPTY;
-        };
-        if !is_number(buf.owner(), self.desk.digits()) {
-            *handle = BufHandle::of(buf);
-            return STRANGER;
-        }
-        self.since = self.since.wrapping_add(1);
-        self.freed = self.freed.wrapping_add(1);
-        if let Freed::Due = self.desk.free(buf) {
-            self.post_again();
-        }
-        0
-    }
-
-    /// Opens an empty burst with so many places, where it holds none.
-    pub(crate) fn open(&mut self, burst: &mut BurstHandle<'r>, places: usize) -> u32 {
-        if let Some(parcel) = &burst.parcel {
-            if !parcel.is_empty() {
-                return HOLDS;
-            }
-        }
-        match self.desk.parcel(self.alloc, places) {
-            Ok(parcel) => {
-                burst.parcel = Some(parcel);
-                0
-            }
-            Err(_) => NO_MEMORY,
-        }
-    }
-
-    /// Lends buffers into a burst, as many as are wanted.
-    pub(crate) fn fill(&mut self, burst: &mut BurstHandle<'r>, size: usize, count: usize) -> u32 {
-        let number = self.desk.number();
-        let Some(parcel) = &mut burst.parcel else {
-            return EMPTY;
-        };
-        if parcel.owner() != number {
-            return STRANGER;
-        }
-        for _ in 0..count {
-            let buf = match self.lend(size) {
-                Ok(buf) => buf,
-                Err(answer) => return answer,
-            };
-            if let Err(buf) = parcel.push(buf) {
-                if is_number(buf.owner(), self.desk.digits()) {
-                    let _ = self.desk.free(buf);
-                }
-                return FULL;
-            }
-        }
-        0
-    }
-
-    /// Takes back all buffers of a burst.
-    pub(crate) fn free_all(&mut self, burst: &mut BurstHandle<'r>) -> u32 {
-        let Some(parcel) = mem::replace(&mut burst.parcel, None) else {
-            return EMPTY;
-        };
-        if !is_number(parcel.owner(), self.desk.digits()) {
-            burst.parcel = Some(parcel);
-            return STRANGER;
-        }
-        self.since = self.since.wrapping_add(1);
-        self.freed = self.freed.wrapping_add(parcel.buffers().len() as u64);
-        if let Freed::Due = self.desk.free_all(parcel) {
-            self.post_again();
-        }
-        0
-    }
-
     /// Adds the slots that are there to a list.
-    pub(crate) fn list(&self, slots: &mut Vec<Slot>) -> Result<(), NoMemory> {
+    pub(crate) fn list(&self, slots: &mut Vec<Slot>) -> Result<(), NoMemory>
+        ensures { OnOk result (AddsSlots (station_slots self.now) slots.old.items slots.new.items) }
+    {
         self.desk.list_slots(slots)
+    }
+
+    /// A number about it, as `AllocatorHandle::stat` says.
+    pub(crate) fn stat(&self, which: u32) -> u64 {
+        match which {
+            0 => self.desk.number() as u64,
+            1 => self.lent,
+            2 => self.freed,
+            3 => self.posted,
+            4 => self.taken,
+            5 => self.claimed,
+            6 => self.desk.counts().0,
+            7 => self.desk.counts().1,
+            8 => self.desk.cached_bytes(),
+            9 => self.drawer.chunks() as u64,
+            _ => u64::MAX,
+        }
     }
 }

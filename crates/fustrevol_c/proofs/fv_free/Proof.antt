@@ -3,7 +3,7 @@ use Rattle.fustrevol_c.proofs.Steps.{◌≡◌, ◌∙◌, sym, ap, subst, ℕ, 
 use base.Fml.{Lft}
 use contract.BorrowLft.{⊑_static}
 use mir.Val.{vptr}
-use Rattle.fustrevol_c.specs.Places.{allocator_row, buf_row, allocator_at, buf_at}
+use Rattle.fustrevol_c.specs.Places.{allocator_row, buf_row, allocator_at}
 use Rattle.fustrevol_c.specs.contracts.fv_free as f
 use Rattle.fustrevol_c.proofs.fv_free.Statement.{statement}
 use Rattle.fustrevol_c.proofs.fv_free.Code as code

@@ -1,0 +1,5 @@
+use Rattle.std.proofs.Common.{rules, refl}
+use Rattle.seated_desk.proofs.pool.Pool.attach.Goals as goal
+
+pub returns-in-Some : goal.returns-in-Some
+returns-in-Some c = (λ _. (c.in-Some.station, search rules, refl, search rules), λ ne. absurd (ne refl))

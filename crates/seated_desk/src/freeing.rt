@@ -1,0 +1,64 @@
+//! What is freed at a station.
+ghost use Rattle.seated_desk.specs.Answers.{answer_of};
+ghost use Rattle.seated_desk.specs.Handles.{TakesOut};
+
+use crate::buf_handle::BufHandle;
+use crate::burst_handle::BurstHandle;
+use crate::refusal::Refusal;
+use crate::station::{Station, is_number};
+use pool_desk::Freed;
+use std::mem;
+
+impl<'r> Station<'r> {
+    // Posts what is cached, unless a post was refused and little has come since.
+    #[cold]
+    #[inline(never)]
+    fn post_again(&mut self) {
+        if self.desk.cached_bytes() < self.post_from {
+            return;
+        }
+        self.take();
+        self.post();
+        self.desk.make_room(self.alloc);
+        let left = self.desk.cached_bytes();
+        self.post_from = left.saturating_add(left / 4);
+    }
+
+    /// Takes the handle's buffer back.
+    #[inline(always)]
+    pub(crate) fn free(&mut self, handle: &mut BufHandle<'r>) -> Result<(), Refusal>
+        ensures { TakesOut (answer_of result) handle.old handle.new }
+    {
+        let BufHandle { at: _, buf } = mem::replace(handle, BufHandle::new());
+        let Some(buf) = buf else {
+            return Err(Refusal::Empty);
+        };
+        if !is_number(buf.owner(), self.desk.digits()) {
+            *handle = BufHandle::of(buf);
+            return Err(Refusal::Stranger);
+        }
+        self.since = self.since.wrapping_add(1);
+        self.freed = self.freed.wrapping_add(1);
+        if let Freed::Due = self.desk.free(buf) {
+            self.post_again();
+        }
+        Ok(())
+    }
+
+    /// Takes back all buffers of a burst.
+    pub(crate) fn free_all(&mut self, burst: &mut BurstHandle<'r>) -> Result<(), Refusal> {
+        let Some(parcel) = mem::replace(&mut burst.parcel, None) else {
+            return Err(Refusal::Empty);
+        };
+        if !is_number(parcel.owner(), self.desk.digits()) {
+            burst.parcel = Some(parcel);
+            return Err(Refusal::Stranger);
+        }
+        self.since = self.since.wrapping_add(1);
+        self.freed = self.freed.wrapping_add(parcel.len() as u64);
+        if let Freed::Due = self.desk.free_all(parcel) {
+            self.post_again();
+        }
+        Ok(())
+    }
+}

@@ -1,0 +1,124 @@
+//! What a station lends.
+ghost use Rattle.std.specs.Prelude.{◌≤◌, IfOk};
+ghost use Rattle.region_cut.specs.Classes.{size_of};
+ghost use Rattle.seated_desk.specs.Answers.{answer_of};
+ghost use Rattle.seated_desk.specs.Handles.{LendsInto};
+
+use crate::buf_handle::BufHandle;
+use crate::burst_handle::BurstHandle;
+use crate::refusal::Refusal;
+use crate::station::{Station, is_number};
+use pool_desk::DeskError;
+use slot_chain::Buf;
+
+// How many calls go by between two looks into the inbox.
+const LOOK_EVERY: u64 = 64;
+
+impl<'r> Station<'r> {
+    // Takes what came, and draws a chunk where no slot of the class is among it.
+    #[cold]
+    #[inline(never)]
+    fn fetch(&mut self, size: usize) {
+        self.since = 0;
+        self.take();
+        let Some(class) = self.desk.digits().profile().class_for(size) else {
+            return;
+        };
+        if self.desk.has_home(class) {
+            return;
+        }
+        self.post_from = 0;
+        let Some(part) = self.drawer.draw(class) else {
+            return;
+        };
+        self.desk.claim_needed(part, class);
+        self.claimed = self.claimed.wrapping_add(1);
+    }
+
+    // Looks into the inbox where that is due, or no slot is at home.
+    #[inline(always)]
+    fn provide(&mut self, size: usize) {
+        self.since = self.since.wrapping_add(1);
+        let Some(class) = self.desk.digits().profile().class_for(size) else {
+            return;
+        };
+        if self.since >= LOOK_EVERY || !self.desk.has_home(class) {
+            self.fetch(size);
+        }
+    }
+
+    // A buffer of at least this size.
+    #[inline(always)]
+    fn lend(&mut self, size: usize) -> Result<Buf<'r>, Refusal>
+        ensures { IfOk result (λ b. size ≤ size_of b.class) }
+    {
+        self.provide(size);
+        match self.desk.alloc(self.alloc, size) {
+            Ok(buf) => {
+                self.lent = self.lent.wrapping_add(1);
+                Ok(buf)
+            }
+            Err(DeskError::TooLarge) => Err(Refusal::TooLarge),
+            Err(DeskError::NoMemory) => Err(Refusal::NoMemory),
+            Err(_) => Err(Refusal::UsedUp),
+        }
+    }
+
+    /// Lends a buffer into a handle that holds none.
+    #[inline(always)]
+    pub(crate) fn alloc(&mut self, handle: &mut BufHandle<'r>, size: usize) -> Result<(), Refusal>
+        ensures { LendsInto size (answer_of result) handle.old handle.new }
+    {
+        if handle.buf.is_some() {
+            return Err(Refusal::Holds);
+        }
+        *handle = BufHandle::of(self.lend(size)?);
+        Ok(())
+    }
+
+    /// Opens a burst with room for so many buffers, where the handle holds no buffer.
+    pub(crate) fn open(
+        &mut self,
+        burst: &mut BurstHandle<'r>,
+        places: usize,
+    ) -> Result<(), Refusal> {
+        if burst.len() > 0 {
+            return Err(Refusal::Holds);
+        }
+        let Ok(parcel) = self.desk.parcel(self.alloc, places) else {
+            return Err(Refusal::NoMemory);
+        };
+        burst.parcel = Some(parcel);
+        Ok(())
+    }
+
+    /// Lends so many buffers into a burst, or those that it can.
+    pub(crate) fn fill(
+        &mut self,
+        burst: &mut BurstHandle<'r>,
+        size: usize,
+        count: usize,
+    ) -> Result<(), Refusal> {
+        let Some(parcel) = &mut burst.parcel else {
+            return Err(Refusal::Empty);
+        };
+        if parcel.owner() != self.desk.number() {
+            return Err(Refusal::Stranger);
+        }
+        for _ in 0..count {
+            let buf = self.lend(size)?;
+            if let Err(buf) = parcel.push(buf) {
+                self.keep(buf);
+                return Err(Refusal::Full);
+            }
+        }
+        Ok(())
+    }
+
+    // Takes back a buffer that found no place.
+    fn keep(&mut self, buf: Buf<'r>) {
+        if is_number(buf.owner(), self.desk.digits()) {
+            let _freed = self.desk.free(buf);
+        }
+    }
+}
