@@ -9,6 +9,7 @@ or two pointers point to for one call of the crate below. The proofs of one form
 which @words@ stand for what differs.
 """
 import pathlib
+import re
 import sys
 from dataclasses import dataclass
 
@@ -184,7 +185,7 @@ def filled(form, words):
     text = (FORMS / f"{form}.antt.in").read_text()
     for word, value in words.items():
         text = text.replace(f"@{word}@", value)
-    return text
+    return closed(re.sub(" +\n", "\n", text).rstrip("\n")) + "\n"
 
 
 def numbers_words(export, first):
@@ -357,7 +358,7 @@ def lends_walk(export):
     }
     words |= parameter_words(export, ["p", "r"][: len(kinds)]) | callee_words(export)
     words |= numbers_words(export, len(kinds)) | clause_words(export)
-    return closed(filled("lends_two" if len(kinds) == 2 else "lends_one", words).rstrip("\n")) + "\n"
+    return filled("lends_two" if len(kinds) == 2 else "lends_one", words)
 
 
 def makes_walk(export):

@@ -73,5 +73,5 @@ fv_alloc_spec 𝓤 𝓛 𝓜 𝓡 wired =
     lands_as ! refl refl ((uint_Lawful 𝓛 w32).typed u _ is).0 $
     returns ! (look_at ! 0 refl) $ free_all ! refl $ keep ! (2 ∷ 1 ∷ 0 ∷ []) $ move ! (2 ∷ 0 ∷ 1 ∷ []) $
     suffices ! _ (ends_at 𝓛 f.ended stayed c yy v u (tt, (tt, (tt, tt))) (tt, (tt, (tt, tt)))) $
-    nothing ! $ nothing ! $ join ! $ nothing ! $ join ! $ nothing ! $ join ! $ nothing ! $ group ! 3 $ frame ! $ frame ! $ 
+    nothing ! $ nothing ! $ join ! $ nothing ! $ join ! $ nothing ! $ join ! $ nothing ! $ group ! 3 $ frame ! $ frame ! $
     show ! (λ (t : buf_row.Denot). sep 𝓤 (sem 𝓛 (lies_at buf_row full_share (block_ptr b₂ o₂) t)) (fact 𝓤 (LendsInto size u s₂ t))) ws.1.0 $ says ! told $ done !))))))))))))))

@@ -71,5 +71,5 @@ fv_pool_attach_spec 𝓤 𝓛 𝓜 𝓡 wired =
     lands_as ! refl refl ((uint_Lawful 𝓛 w32).typed u _ is).0 $
     returns ! (look_at ! 0 refl) $ free_all ! refl $ keep ! (2 ∷ 1 ∷ 0 ∷ []) $ move ! (2 ∷ 0 ∷ 1 ∷ []) $
     suffices ! _ (ends_at 𝓛 f.ended stayed c yy v u (tt, (tt, tt)) (tt, (tt, tt))) $
-    nothing ! $ nothing ! $ join ! $ nothing ! $ join ! $ nothing ! $ group ! 3 $ frame ! $ 
+    nothing ! $ nothing ! $ join ! $ nothing ! $ join ! $ nothing ! $ group ! 3 $ frame ! $
     show ! (λ (t : pool_row.Denot × allocator_row.Denot). sep 𝓤 (sem 𝓛 (lies_at pool_row full_share (block_ptr b o) t.0)) (sep 𝓤 (sem 𝓛 (lies_at allocator_row full_share (block_ptr b₂ o₂) t.1)) (fact 𝓤 (HandsOut u s t.0 s₂ t.1)))) (ws.0, ws.1.0) $ frame ! $ says ! told $ done !)))))))))))))

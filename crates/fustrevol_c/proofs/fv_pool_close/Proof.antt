@@ -56,5 +56,5 @@ fv_pool_close_spec 𝓤 𝓛 𝓜 𝓡 wired =
     lands_as ! refl refl ((uint_Lawful 𝓛 w32).typed u _ is).0 $
     returns ! (look_at ! 0 refl) $ free_all ! refl $ keep ! (0 ∷ 1 ∷ []) $
     suffices ! _ (ends_at 𝓛 f.ended stayed c yy v u (tt, tt) (tt, tt)) $
-    nothing ! $ nothing ! $ join ! $ nothing ! $ group ! 3 $ frame ! $ 
+    nothing ! $ nothing ! $ join ! $ nothing ! $ group ! 3 $ frame ! $
     show ! (λ (t : pool_row.Denot). sep 𝓤 (sem 𝓛 (lies_at pool_row full_share (block_ptr b o) t)) (fact 𝓤 (Closes u s t))) ws.0 $ says ! told $ done !))))))))))

@@ -97,4 +97,4 @@ fv_pool_open_spec 𝓤 𝓛 𝓜 𝓡 wired =
     returns ! (look_at ! 0 refl) $ free_all ! refl $ keep ! (0 ∷ 1 ∷ []) $
     suffices ! _ (ends_at 𝓛 f.ended stayed c yy v u (tt, (tt, (tt, (tt, (tt, (tt, tt)))))) (tt, (tt, (tt, (tt, (tt, (tt, tt))))))) $
     nothing ! $ nothing ! $ join ! $ nothing ! $ join ! $ nothing ! $ join ! $ nothing ! $ join ! $ nothing ! $ join ! $ nothing ! $ join ! $ nothing ! $ group ! 3 $ frame ! $
-    show ! (λ (t : row.Denot). sep 𝓤 (sem 𝓛 (lies_at row full_share (block_ptr b o) t)) (fact 𝓤 (Opens u s t))) ws.0 $ says ! told $ done !
+    show ! (λ (t : row.Denot). sep 𝓤 (sem 𝓛 (lies_at row full_share (block_ptr b o) t)) (fact 𝓤 (Opens u s t))) ws.0 $ says ! told $ done !))))))))))))))
