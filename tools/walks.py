@@ -136,19 +136,29 @@ EXPORTS = [
     ),
     lends(
         "fv_burst_open", ["allocator", "burst"], [("places", "usize")], "open",
-        "Opens an empty burst for buffers of the allocator: 0, or why not.",
+        "Opens an empty burst for buffers of the allocator: 0, or why not.", clause="Bursts.OpensBurst", of="places",
     ),
     lends(
         "fv_burst_fill", ["allocator", "burst"], SIZE + [("count", "usize")], "fill",
-        "Lends so many buffers into a burst: 0, or why not all of them.",
+        "Lends so many buffers into a burst: 0, or why not all of them.", clause="Bursts.Fills", of="size count",
     ),
-    lends("fv_burst_free", ["allocator", "burst"], [], "free_all", "Takes all buffers of a burst back: 0, or why not."),
+    lends(
+        "fv_burst_free", ["allocator", "burst"], [], "free_all", "Takes all buffers of a burst back: 0, or why not.",
+        clause="Bursts.TakesBurst",
+    ),
     lends(
         "fv_burst_push", ["burst", "buf"], [], "push",
         "Puts a buffer at the end of a burst of its allocator: 0, or why not.",
+        clause="Bursts.PutsIn", about=["burst", "buf"],
     ),
-    lends("fv_burst_pop", ["burst", "buf"], [], "pop", "Takes the last buffer out of a burst: 0, or why not."),
-    lends("fv_burst_len", ["burst"], [], "len", "How many buffers the burst has.", answer="u64"),
+    lends(
+        "fv_burst_pop", ["burst", "buf"], [], "pop", "Takes the last buffer out of a burst: 0, or why not.",
+        clause="Bursts.TakesLast", about=["burst", "buf"],
+    ),
+    lends(
+        "fv_burst_len", ["burst"], [], "len", "How many buffers the burst has; 0 where it is not open.", answer="u64",
+        clause="Bursts.TellsCount",
+    ),
     lends(
         "fv_burst_at", ["burst", "span"], [("index", "usize")], "span",
         "Tells where the bytes of a buffer of the burst lie: 0, or why not.",
@@ -364,7 +374,7 @@ def lends_walk(export):
 def makes_walk(export):
     kind = export.pointers[0]
     # what the callee's clause tells of the value `u`
-    told = {"buf": "fact 𝓤 (u.buf ≡ None)"}.get(kind, "emp 𝓤")
+    told = {"buf": "fact 𝓤 (u.buf ≡ None)", "burst": "fact 𝓤 (u.parcel ≡ None)"}.get(kind, "emp 𝓤")
     uses = "\nuse contract.Monad.{fact}\nuse Rattle.std.specs.Prelude.{None}" if told.startswith("fact") else ""
     words = {
         "type": KINDS[kind].module,

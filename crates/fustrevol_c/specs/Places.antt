@@ -38,6 +38,9 @@ AllocatorValue = allocator_row.Denot
 abbrev pub BufValue : Type 0
 BufValue = buf_row.Denot
 
+abbrev pub BurstValue : Type 0
+BurstValue = burst_row.Denot
+
 -- some value of the type lies at p
 abbrev pub pool_at : Ptr → Fml
 pool_at p = fex pool_row.Denot (λ s. lies_at pool_row full_share p s)

@@ -9,7 +9,8 @@ ghost use Rattle.std.specs.Prelude.{ℕ, List, ◌^◌, ◌<◌};
 ghost use Rattle.std.specs.Borrow.{sem, full_share, u8, Array};
 ghost use Rattle.std.specs.Ptr.{lies_at};
 ghost use Rattle.fustrevol_c.specs.Places.{pool_at, pool_room, allocator_at, allocator_room, buf_at, buf_room, burst_at, burst_room, span_at};
-ghost use Rattle.fustrevol_c.specs.Places.{pool_row, allocator_row, buf_row, PoolValue, AllocatorValue, BufValue};
+ghost use Rattle.fustrevol_c.specs.Places.{pool_row, allocator_row, buf_row, burst_row, PoolValue, AllocatorValue, BufValue, BurstValue};
+ghost use Rattle.seated_desk.specs.Bursts.{OpensBurst, Fills, TakesBurst, PutsIn, TakesLast, TellsCount};
 ghost use Rattle.seated_desk.specs.Handles.{LendsInto, TakesOut, SetsFilled, TellsCapacity, TellsFilled};
 ghost use Rattle.seated_desk.specs.Shelves.{Opens, HandsOut, TakesBack, Closes};
 
@@ -240,8 +241,9 @@ pub unsafe extern "C" fn fv_burst_open(
     burst: *mut FvBurst,
     places: usize,
 ) -> u32
-    requires* { sem 𝓛 (allocator_at allocator) ∗ sem 𝓛 (burst_at burst) }
-    ensures* { sem 𝓛 (allocator_at allocator) ∗ sem 𝓛 (burst_at burst) }
+    ghost before: { BurstValue }
+    requires* { sem 𝓛 (allocator_at allocator) ∗ sem 𝓛 (lies_at burst_row full_share burst before) }
+    ensures* { sem 𝓛 (allocator_at allocator) ∗ ∃ₛ (λ (after : BurstValue). sem 𝓛 (lies_at burst_row full_share burst after) ∗ ⌜ OpensBurst places result before after ⌝) }
 {
     let allocator = unsafe { &mut *(allocator as *mut AllocatorHandle<'static>) };
     let burst = unsafe { &mut *(burst as *mut BurstHandle<'static>) };
@@ -256,8 +258,9 @@ pub unsafe extern "C" fn fv_burst_fill(
     size: usize,
     count: usize,
 ) -> u32
-    requires* { sem 𝓛 (allocator_at allocator) ∗ sem 𝓛 (burst_at burst) }
-    ensures* { sem 𝓛 (allocator_at allocator) ∗ sem 𝓛 (burst_at burst) }
+    ghost before: { BurstValue }
+    requires* { sem 𝓛 (allocator_at allocator) ∗ sem 𝓛 (lies_at burst_row full_share burst before) }
+    ensures* { sem 𝓛 (allocator_at allocator) ∗ ∃ₛ (λ (after : BurstValue). sem 𝓛 (lies_at burst_row full_share burst after) ∗ ⌜ Fills size count result before after ⌝) }
 {
     let allocator = unsafe { &mut *(allocator as *mut AllocatorHandle<'static>) };
     let burst = unsafe { &mut *(burst as *mut BurstHandle<'static>) };
@@ -267,8 +270,9 @@ pub unsafe extern "C" fn fv_burst_fill(
 /// Takes all buffers of a burst back: 0, or why not.
 #[unsafe(no_mangle)]
 pub unsafe extern "C" fn fv_burst_free(allocator: *mut FvAllocator, burst: *mut FvBurst) -> u32
-    requires* { sem 𝓛 (allocator_at allocator) ∗ sem 𝓛 (burst_at burst) }
-    ensures* { sem 𝓛 (allocator_at allocator) ∗ sem 𝓛 (burst_at burst) }
+    ghost before: { BurstValue }
+    requires* { sem 𝓛 (allocator_at allocator) ∗ sem 𝓛 (lies_at burst_row full_share burst before) }
+    ensures* { sem 𝓛 (allocator_at allocator) ∗ ∃ₛ (λ (after : BurstValue). sem 𝓛 (lies_at burst_row full_share burst after) ∗ ⌜ TakesBurst result before after ⌝) }
 {
     let allocator = unsafe { &mut *(allocator as *mut AllocatorHandle<'static>) };
     let burst = unsafe { &mut *(burst as *mut BurstHandle<'static>) };
@@ -278,8 +282,9 @@ pub unsafe extern "C" fn fv_burst_free(allocator: *mut FvAllocator, burst: *mut 
 /// Puts a buffer at the end of a burst of its allocator: 0, or why not.
 #[unsafe(no_mangle)]
 pub unsafe extern "C" fn fv_burst_push(burst: *mut FvBurst, buf: *mut FvBuf) -> u32
-    requires* { sem 𝓛 (burst_at burst) ∗ sem 𝓛 (buf_at buf) }
-    ensures* { sem 𝓛 (burst_at burst) ∗ sem 𝓛 (buf_at buf) }
+    ghost before: { BurstValue × BufValue }
+    requires* { sem 𝓛 (lies_at burst_row full_share burst before.0) ∗ sem 𝓛 (lies_at buf_row full_share buf before.1) }
+    ensures* { ∃ₛ (λ (after : BurstValue × BufValue). sem 𝓛 (lies_at burst_row full_share burst after.0) ∗ (sem 𝓛 (lies_at buf_row full_share buf after.1) ∗ ⌜ PutsIn result before.0 after.0 before.1 after.1 ⌝)) }
 {
     let burst = unsafe { &mut *(burst as *mut BurstHandle<'static>) };
     let buf = unsafe { &mut *(buf as *mut BufHandle<'static>) };
@@ -289,19 +294,21 @@ pub unsafe extern "C" fn fv_burst_push(burst: *mut FvBurst, buf: *mut FvBuf) -> 
 /// Takes the last buffer out of a burst: 0, or why not.
 #[unsafe(no_mangle)]
 pub unsafe extern "C" fn fv_burst_pop(burst: *mut FvBurst, buf: *mut FvBuf) -> u32
-    requires* { sem 𝓛 (burst_at burst) ∗ sem 𝓛 (buf_at buf) }
-    ensures* { sem 𝓛 (burst_at burst) ∗ sem 𝓛 (buf_at buf) }
+    ghost before: { BurstValue × BufValue }
+    requires* { sem 𝓛 (lies_at burst_row full_share burst before.0) ∗ sem 𝓛 (lies_at buf_row full_share buf before.1) }
+    ensures* { ∃ₛ (λ (after : BurstValue × BufValue). sem 𝓛 (lies_at burst_row full_share burst after.0) ∗ (sem 𝓛 (lies_at buf_row full_share buf after.1) ∗ ⌜ TakesLast result before.0 after.0 before.1 after.1 ⌝)) }
 {
     let burst = unsafe { &mut *(burst as *mut BurstHandle<'static>) };
     let buf = unsafe { &mut *(buf as *mut BufHandle<'static>) };
     burst.pop(buf)
 }
 
-/// How many buffers the burst has.
+/// How many buffers the burst has; 0 where it is not open.
 #[unsafe(no_mangle)]
 pub unsafe extern "C" fn fv_burst_len(burst: *mut FvBurst) -> u64
-    requires* { sem 𝓛 (burst_at burst) }
-    ensures* { sem 𝓛 (burst_at burst) }
+    ghost before: { BurstValue }
+    requires* { sem 𝓛 (lies_at burst_row full_share burst before) }
+    ensures* { ∃ₛ (λ (after : BurstValue). sem 𝓛 (lies_at burst_row full_share burst after) ∗ ⌜ TellsCount result before after ⌝) }
 {
     let burst = unsafe { &mut *(burst as *mut BurstHandle<'static>) };
     burst.len()

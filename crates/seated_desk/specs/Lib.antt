@@ -1,4 +1,5 @@
 pub mod Answers
+pub mod Bursts
 pub mod Handles
 pub mod Ready
 pub mod Settled

@@ -1,4 +1,5 @@
 //! Where a program in C keeps one allocator of a pool.
+ghost use Rattle.seated_desk.specs.Bursts.{Fills, OpensBurst, TakesBurst};
 ghost use Rattle.seated_desk.specs.Handles.{LendsInto, TakesOut};
 
 use crate::buf_handle::BufHandle;
@@ -47,7 +48,9 @@ impl<'r> AllocatorHandle<'r> {
 
     /// Opens a burst with room for `places` buffers of this allocator, in a handle that holds no buffer: `Holds`, or
     /// `NoMemory`.
-    pub fn open(&mut self, burst: &mut BurstHandle<'r>, places: usize) -> u32 {
+    pub fn open(&mut self, burst: &mut BurstHandle<'r>, places: usize) -> u32
+        ensures { OpensBurst places result burst.old burst.new }
+    {
         match &mut self.station {
             Some(station) => answer(station.open(burst, places)),
             None => Refusal::Empty.number(),
@@ -56,7 +59,9 @@ impl<'r> AllocatorHandle<'r> {
 
     /// Lends `count` buffers of at least `size` bytes into a burst of this allocator: as `alloc`, `Stranger` where the
     /// burst is another's, or `Full`. What was lent before a refusal stays in the burst.
-    pub fn fill(&mut self, burst: &mut BurstHandle<'r>, size: usize, count: usize) -> u32 {
+    pub fn fill(&mut self, burst: &mut BurstHandle<'r>, size: usize, count: usize) -> u32
+        ensures { Fills size count result burst.old burst.new }
+    {
         match &mut self.station {
             Some(station) => answer(station.fill(burst, size, count)),
             None => Refusal::Empty.number(),
@@ -65,7 +70,9 @@ impl<'r> AllocatorHandle<'r> {
 
     /// Takes back all buffers of a burst, which any allocator of the pool may have opened: `Empty` where it is not
     /// open, or `Stranger`. It costs as much as one buffer does.
-    pub fn free_all(&mut self, burst: &mut BurstHandle<'r>) -> u32 {
+    pub fn free_all(&mut self, burst: &mut BurstHandle<'r>) -> u32
+        ensures { TakesBurst result burst.old burst.new }
+    {
         match &mut self.station {
             Some(station) => answer(station.free_all(burst)),
             None => Refusal::Empty.number(),

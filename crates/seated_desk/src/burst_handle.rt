@@ -1,4 +1,8 @@
 //! Where a program in C keeps a burst: buffers of one allocator that are handed over and freed as a whole.
+ghost use Rattle.std.specs.Prelude.{◌≡◌, None};
+ghost use Rattle.seated_desk.specs.Answers.{answer_of};
+ghost use Rattle.seated_desk.specs.Bursts.{PutsIn, TakesLast, TellsCount};
+
 use crate::buf_handle::BufHandle;
 use crate::refusal::{Refusal, answer};
 use crate::span::Span;
@@ -13,12 +17,16 @@ pub struct BurstHandle<'r> {
 
 impl<'r> BurstHandle<'r> {
     /// A handle that holds none.
-    pub fn new() -> BurstHandle<'r> {
+    pub fn new() -> BurstHandle<'r>
+        ensures { result.parcel ≡ None }
+    {
         BurstHandle { parcel: None }
     }
 
     /// How many buffers the burst has; 0 where it is not open.
-    pub fn len(&mut self) -> u64 {
+    pub fn len(&mut self) -> u64
+        ensures { TellsCount result self.old self.new }
+    {
         match &self.parcel {
             Some(parcel) => parcel.len() as u64,
             None => 0,
@@ -27,11 +35,15 @@ impl<'r> BurstHandle<'r> {
 
     /// Puts the handle's buffer to the end. `Empty` where the burst is not open or the handle holds none, `Stranger`
     /// where the buffer is another allocator's, `Full` where no place is left.
-    pub fn push(&mut self, handle: &mut BufHandle<'r>) -> u32 {
+    pub fn push(&mut self, handle: &mut BufHandle<'r>) -> u32
+        ensures { PutsIn result self.old self.new handle.old handle.new }
+    {
         answer(self.pack(handle))
     }
 
-    fn pack(&mut self, handle: &mut BufHandle<'r>) -> Result<(), Refusal> {
+    fn pack(&mut self, handle: &mut BufHandle<'r>) -> Result<(), Refusal>
+        ensures { PutsIn (answer_of result) self.old self.new handle.old handle.new }
+    {
         let Some(parcel) = &mut self.parcel else {
             return Err(Refusal::Empty);
         };
@@ -55,11 +67,15 @@ impl<'r> BurstHandle<'r> {
 
     /// Takes the last buffer out, into a handle that holds none. `Holds` where it holds one, `Empty` where the burst
     /// has none.
-    pub fn pop(&mut self, handle: &mut BufHandle<'r>) -> u32 {
+    pub fn pop(&mut self, handle: &mut BufHandle<'r>) -> u32
+        ensures { TakesLast result self.old self.new handle.old handle.new }
+    {
         answer(self.unpack(handle))
     }
 
-    fn unpack(&mut self, handle: &mut BufHandle<'r>) -> Result<(), Refusal> {
+    fn unpack(&mut self, handle: &mut BufHandle<'r>) -> Result<(), Refusal>
+        ensures { TakesLast (answer_of result) self.old self.new handle.old handle.new }
+    {
         if handle.buf.is_some() {
             return Err(Refusal::Holds);
         }

@@ -1,5 +1,6 @@
 //! What is freed at a station.
 ghost use Rattle.seated_desk.specs.Answers.{answer_of};
+ghost use Rattle.seated_desk.specs.Bursts.{TakesBurst};
 ghost use Rattle.seated_desk.specs.Handles.{TakesOut};
 
 use crate::buf_handle::BufHandle;
@@ -46,7 +47,9 @@ impl<'r> Station<'r> {
     }
 
     /// Takes back all buffers of a burst.
-    pub(crate) fn free_all(&mut self, burst: &mut BurstHandle<'r>) -> Result<(), Refusal> {
+    pub(crate) fn free_all(&mut self, burst: &mut BurstHandle<'r>) -> Result<(), Refusal>
+        ensures { TakesBurst (answer_of result) burst.old burst.new }
+    {
         let Some(parcel) = mem::replace(&mut burst.parcel, None) else {
             return Err(Refusal::Empty);
         };

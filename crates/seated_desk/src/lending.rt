@@ -1,7 +1,9 @@
 //! What a station lends.
-ghost use Rattle.std.specs.Prelude.{◌≤◌, IfOk};
-ghost use Rattle.region_cut.specs.Classes.{size_of};
+ghost use Rattle.std.specs.Prelude.{◌≡◌, ◌<◌, ◌≤◌, IfOk};
+ghost use Rattle.region_cut.specs.Classes.{classes_of, size_of};
+ghost use Rattle.pool_desk.specs.Desks.{profile_at};
 ghost use Rattle.seated_desk.specs.Answers.{answer_of};
+ghost use Rattle.seated_desk.specs.Bursts.{Adds, Fills, OpensBurst};
 ghost use Rattle.seated_desk.specs.Handles.{LendsInto};
 
 use crate::buf_handle::BufHandle;
@@ -9,7 +11,8 @@ use crate::burst_handle::BurstHandle;
 use crate::refusal::Refusal;
 use crate::station::{Station, is_number};
 use pool_desk::DeskError;
-use slot_chain::Buf;
+use region_cut::Class;
+use slot_chain::{Buf, BufParcel};
 
 // How many calls go by between two looks into the inbox.
 const LOOK_EVERY: u64 = 64;
@@ -18,12 +21,12 @@ impl<'r> Station<'r> {
     // Takes what came, and draws a chunk where no slot of the class is among it.
     #[cold]
     #[inline(never)]
-    fn fetch(&mut self, size: usize) {
+    fn fetch(&mut self, class: Class)
+        requires { class < classes_of (profile_at self.old.desk) }
+        ensures { self.new.desk.digits ≡ self.old.desk.digits }
+    {
         self.since = 0;
         self.take();
-        let Some(class) = self.desk.digits().profile().class_for(size) else {
-            return;
-        };
         if self.desk.has_home(class) {
             return;
         }
@@ -37,13 +40,13 @@ impl<'r> Station<'r> {
 
     // Looks into the inbox where that is due, or no slot is at home.
     #[inline(always)]
-    fn provide(&mut self, size: usize) {
+    fn provide(&mut self, class: Class)
+        requires { class < classes_of (profile_at self.old.desk) }
+        ensures { self.new.desk.digits ≡ self.old.desk.digits }
+    {
         self.since = self.since.wrapping_add(1);
-        let Some(class) = self.desk.digits().profile().class_for(size) else {
-            return;
-        };
         if self.since >= LOOK_EVERY || !self.desk.has_home(class) {
-            self.fetch(size);
+            self.fetch(class);
         }
     }
 
@@ -52,13 +55,15 @@ impl<'r> Station<'r> {
     fn lend(&mut self, size: usize) -> Result<Buf<'r>, Refusal>
         ensures { IfOk result (λ b. size ≤ size_of b.class) }
     {
-        self.provide(size);
-        match self.desk.alloc(self.alloc, size) {
+        let Some(class) = self.desk.digits().profile().class_for(size) else {
+            return Err(Refusal::TooLarge);
+        };
+        self.provide(class);
+        match self.desk.alloc_class(self.alloc, class) {
             Ok(buf) => {
                 self.lent = self.lent.wrapping_add(1);
                 Ok(buf)
             }
-            Err(DeskError::TooLarge) => Err(Refusal::TooLarge),
             Err(DeskError::NoMemory) => Err(Refusal::NoMemory),
             Err(_) => Err(Refusal::UsedUp),
         }
@@ -77,11 +82,9 @@ impl<'r> Station<'r> {
     }
 
     /// Opens a burst with room for so many buffers, where the handle holds no buffer.
-    pub(crate) fn open(
-        &mut self,
-        burst: &mut BurstHandle<'r>,
-        places: usize,
-    ) -> Result<(), Refusal> {
+    pub(crate) fn open(&mut self, burst: &mut BurstHandle<'r>, places: usize) -> Result<(), Refusal>
+        ensures { OpensBurst places (answer_of result) burst.old burst.new }
+    {
         if burst.len() > 0 {
             return Err(Refusal::Holds);
         }
@@ -98,14 +101,28 @@ impl<'r> Station<'r> {
         burst: &mut BurstHandle<'r>,
         size: usize,
         count: usize,
-    ) -> Result<(), Refusal> {
+    ) -> Result<(), Refusal>
+        ensures { Fills size count (answer_of result) burst.old burst.new }
+    {
         let Some(parcel) = &mut burst.parcel else {
             return Err(Refusal::Empty);
         };
         if parcel.owner() != self.desk.number() {
             return Err(Refusal::Stranger);
         }
-        for _ in 0..count {
+        self.fill_up(parcel, size, count)
+    }
+
+    // Lends so many buffers into a parcel, or those that it can.
+    fn fill_up(
+        &mut self,
+        parcel: &mut BufParcel<'r>,
+        size: usize,
+        count: usize,
+    ) -> Result<(), Refusal>
+        ensures { IfOk result (λ _. Adds size count parcel.old parcel.new) }
+    {
+        for lent in 0..count {
             let buf = self.lend(size)?;
             if let Err(buf) = parcel.push(buf) {
                 self.keep(buf);

@@ -9,7 +9,7 @@ use crate::settled::{judge, settle};
 use crate::station::Station;
 use chunk_stock::drawers;
 use digit_route::Digits;
-use region_cut::cut;
+use region_cut::{CutError, Part, cut};
 use slot_audit::Fault;
 use slot_chain::NoMemory;
 use std::alloc::Global;
@@ -31,6 +31,15 @@ pub struct Pool<'r> {
     pub(crate) allocators: u16,
     // The slot that the last audit named: its chunk times 256, and its index.
     pub(crate) fault: u64,
+}
+
+// The chunks of a region: from 1 to 1,024.
+fn parts_of<'r>(alloc: Global, region: &'r mut [u8]) -> Result<Vec<Part<'r>>, Refusal> {
+    match cut(alloc, region) {
+        Ok(parts) if !parts.is_empty() => Ok(parts),
+        Err(CutError::NoMemory) => Err(Refusal::NoMemory),
+        _ => Err(Refusal::BadArgument),
+    }
 }
 
 // Which slot a fault names: its chunk times 256, and its index.
@@ -83,12 +92,7 @@ impl<'r> Pool<'r> {
         let Some(digits) = Digits::new(bits) else {
             return Err(Refusal::BadArgument);
         };
-        let Ok(parts) = cut(self.alloc, region) else {
-            return Err(Refusal::BadArgument);
-        };
-        if parts.is_empty() {
-            return Err(Refusal::BadArgument);
-        }
+        let parts = parts_of(self.alloc, region)?;
         let Ok(drawers) = drawers(self.alloc, parts, allocators as usize) else {
             return Err(Refusal::NoMemory);
         };

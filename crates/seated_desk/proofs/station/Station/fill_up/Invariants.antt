@@ -1,0 +1,5 @@
+use Rattle.seated_desk.specs.Bursts.{Adds}
+use Rattle.seated_desk.proofs.station.Station.fill_up.Given as goal
+
+abbrev pub invariant-loop-lent : goal.invariant-loop-lent
+invariant-loop-lent l = Adds l.size l.lent l.initial.parcel l.parcel
