@@ -184,7 +184,7 @@ static void bursts(unsigned char *region) {
   CHECK(fv_burst_len(&burst) == 64 && fv_allocator_stat(&a, FV_ALLOCATOR_LENT) == 64);
   ANSWERS(fv_burst_open(&a, &burst, 64), FV_HOLDS);
   ANSWERS(fv_burst_fill(&a, &burst, 64, 1), FV_FULL);
-  CHECK(fv_burst_len(&burst) == 64);
+  CHECK(fv_burst_len(&burst) == 64 && fv_allocator_stat(&a, FV_ALLOCATOR_LENT) == 64);
   for (size_t i = 0; i < 64; i++) {
     ANSWERS(fv_burst_at(&burst, &span, i), FV_OK);
     CHECK(span.len == 64 && span.at >= region && span.at + 64 <= region + LEN);

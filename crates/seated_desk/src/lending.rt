@@ -123,6 +123,9 @@ impl<'r> Station<'r> {
         ensures { IfOk result (λ _. Adds size count parcel.old parcel.new) }
     {
         for lent in 0..count {
+            if parcel.is_full() {
+                return Err(Refusal::Full);
+            }
             let buf = self.lend(size)?;
             if let Err(buf) = parcel.push(buf) {
                 self.keep(buf);

@@ -22,8 +22,6 @@ mod settled;
 mod span;
 mod start;
 mod station;
-#[cfg(test)]
-mod tests;
 
 pub use allocator_handle::AllocatorHandle;
 pub use buf_handle::BufHandle;

@@ -1,5 +1,5 @@
 //! Tests: buffers travel, refusals, lengths, and what an audit says of a lost buffer.
-use crate::{AllocatorHandle, BufHandle, BurstHandle, Pool, Refusal};
+use seated_desk::{AllocatorHandle, BufHandle, BurstHandle, Pool, Refusal};
 use std::alloc::Global;
 
 // Opens a pool of two allocators, and hands both out. Says whether all of it went well.
@@ -61,7 +61,7 @@ fn travel(alloc: Global, region: &mut [u8]) -> u32 {
     if !came || !no_more || pool.close() != Refusal::Full.number() {
         return 3;
     }
-    if one.stat(1) != 2065 || two.stat(2) != 2064 {
+    if one.stat(1) != 2064 || two.stat(2) != 2064 {
         return 4;
     }
     closed(&mut pool, &mut one, &mut two)
