@@ -69,13 +69,16 @@
  *     is as it was;
  *   - fv_pool_attach and fv_pool_detach: after FV_OK, one allocator has moved from the pool to `allocator`,
  *     or back with its chunks; after any other answer, the pool has those that it had;
- *   - fv_pool_close: after FV_OK, each slot of each chunk that was drawn was found, once, and no other one;
- *     after FV_EMPTY and FV_FULL, the pool is as it was;
+ *   - fv_pool_close: after FV_OK, an audit found each slot of each chunk that was noted as drawn, once, and
+ *     no other one; after FV_EMPTY and FV_FULL, the pool is as it was;
+ *   - fv_burst_open, fv_burst_fill, fv_burst_push, fv_burst_pop, fv_burst_free: after FV_OK, the buffers that
+ *     came are at the burst's end, or the last one, or all, left it; after any other answer, fv_burst_fill
+ *     aside, the burst has those that it had; fv_burst_len tells how many;
  *   - a buffer's bytes are lent to nobody else until it is freed.
  *
  * These are true by how the library is built, and tested:
  *   - `at` and fv_burst_at tell where a buffer's bytes lie;
- *   - what bursts hold, and what fv_pool_stat and fv_allocator_stat count;
+ *   - the chunks that were drawn are noted, and fv_pool_stat and fv_allocator_stat count what they say;
  *   - nothing that was freed is lost, so that fv_pool_close answers FV_OK where all buffers were freed;
  *   - after fv_pool_close the region is the caller's again, as the call says.
  *
