@@ -38,6 +38,7 @@ fn route_text(alloc: Global, digits: Digits, from: u16, owner: u16) -> Result<St
 
 /// Writes how a desk and the owner of a buffer read in digits, which decides which way the buffer
 /// goes home.
+#[inline(never)]
 pub fn write_route<W: Sink>(alloc: Global, route: Route, sink: &mut W) -> Outcome
     requires { W.has_failed sink.old ≡ false }
     ensures done { result ≡ Outcome.Done →

@@ -119,7 +119,9 @@ fn tally_over<'r, H: Threads + Wait + Clock + Sync>(
     Ok(report.tally)
 }
 
-// Runs a workload over a region of its own.
+// Runs a workload over a region of its own. By itself, so that the program's first function has none of its
+// locals.
+#[inline(never)]
 fn tally_of<H: Threads + Wait + Clock + Sync>(
     rt: &H,
     alloc: Global,
