@@ -3,11 +3,15 @@
 //
 //   cpp_bench LENDER WORKLOAD COUNT TURNS
 //
-// LENDER is malloc, or nothing for the loop alone, or a pool of shapes.hpp. TURNS turns of COUNT buffers are run, and
+// LENDER is malloc, or nothing for the loop alone, or a pool of shapes.hpp, or library where this was built with the C
+// library. TURNS turns of COUNT buffers are run, and
 // the workload, the nanoseconds and the sum of the sizes are printed.
 #include "lenders.hpp"
 #include "loops.hpp"
 #include "shapes.hpp"
+#ifdef LIBRARY
+#include "library.hpp"
+#endif
 #include <algorithm>
 #include <chrono>
 #include <cstdio>
@@ -63,6 +67,9 @@ struct Turns {
     if (lender == "tagged") return run<Boxed<Tagged>>();
     if (lender == "pointer") return run<Boxed<Pointer>>();
     if (lender == "inside") return run<Inside>();
+#ifdef LIBRARY
+    if (lender == "library") return run<Library>();
+#endif
     return false;
   }
 };

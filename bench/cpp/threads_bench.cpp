@@ -4,7 +4,8 @@
 //   threads_bench WORKLOAD COUNT TURNS LENDER
 //
 // LENDER is malloc, nothing for the loop and the hand-over alone, one of the pools of pools.hpp (boxes or slots), that
-// of magazines.hpp (magazines), of rings.hpp (rings) or of parcels.hpp (parcels). Each thread runs TURNS turns of COUNT
+// of magazines.hpp (magazines), of rings.hpp (rings) or of parcels.hpp (parcels); where this was built with the C
+// library, that, with blocks of buffers (library) or in bursts (bursts). Each thread runs TURNS turns of COUNT
 // buffers, and the workload, the nanoseconds and the sum of the sizes of all threads are printed.
 #include "blocks.hpp"
 #include "lenders.hpp"
@@ -13,6 +14,9 @@
 #include "pcg32.hpp"
 #include "pools.hpp"
 #include "rings.hpp"
+#ifdef LIBRARY
+#include "library.hpp"
+#endif
 #include <algorithm>
 #include <atomic>
 #include <chrono>
@@ -201,6 +205,10 @@ int main(int count, char **words) {
   if (lender == "magazines") return measured<Magazined>(workload, buffers, turns);
   if (lender == "rings") return measured<Ringed>(workload, buffers, turns);
   if (lender == "parcels") return measured<Parceled, InParcels>(workload, buffers, turns);
+#ifdef LIBRARY
+  if (lender == "library") return measured<Library>(workload, buffers, turns);
+  if (lender == "bursts") return measured<Library, InBursts>(workload, buffers, turns);
+#endif
   fprintf(stderr, "no lender %s\n", lender.c_str());
   return 2;
 }

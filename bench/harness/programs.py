@@ -49,6 +49,30 @@ def threads_bench():
     return compiled("threads_bench", [*folder.iterdir()], ["g++", *flags, folder / "threads_bench.cpp"])
 
 
+def library():
+    """The C library, whose proved part `rt lib` has built."""
+    proved = TOP / "crates/fustrevol_c/out/libfustrevol_c.a"
+    if not proved.exists():
+        sys.exit("bench: the C library isn't built: run `rt lib --jobs 1` in crates/fustrevol_c")
+    subprocess.run(["make", "-s", "-C", TOP / "c", "build/libfustrevol.a"], check=True)
+    return TOP / "c/build/libfustrevol.a"
+
+
+def with_library(name, source):
+    """A program in C++ that lends from the C library, too."""
+    folder, archive = HERE / "cpp", library()
+    flags = ["-std=c++17", "-O2", "-Wall", "-Wextra", "-fno-builtin-malloc", "-pthread", "-DLIBRARY", "-I", TOP / "c"]
+    return compiled(name, [*folder.iterdir(), archive], ["g++", *flags, folder / source, archive])
+
+
+def library_bench():
+    return with_library("library_bench", "cpp_bench.cpp")
+
+
+def library_threads_bench():
+    return with_library("library_threads_bench", "threads_bench.cpp")
+
+
 def pin():
     source = HERE / "cpp" / "pin.cpp"
     flags = ["-std=c++17", "-O2", "-Wall", "-Wextra", "-shared", "-fPIC"]

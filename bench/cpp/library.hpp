@@ -1,0 +1,90 @@
+// What a program in C lends from: the library of ../../c. All workers have allocators of one pool.
+#pragma once
+#include "lenders.hpp"
+#include <cstdio>
+#include <fustrevol.h>
+#include <memory>
+#include <sched.h>
+
+// one pool for the whole run, with an allocator for each of four threads; its audit is looked at in the end
+class LibraryPool {
+  static constexpr size_t BYTES = FV_MOST_CHUNKS * FV_CHUNK;
+  static constexpr uint64_t CACHE = 262144;
+  std::unique_ptr<unsigned char[]> region{new unsigned char[BYTES]};
+  fv_pool pool;
+
+  static void must(uint32_t answer) {
+    if (answer == FV_OK) return;
+    fprintf(stderr, "the library: %s\n", fv_strerror(answer));
+    abort();
+  }
+
+public:
+  LibraryPool() {
+    fv_pool_init(&pool);
+    must(fv_pool_open(&pool, region.get(), BYTES, 4, 6, CACHE));
+  }
+  ~LibraryPool() { must(fv_pool_close(&pool)); }
+  void attach(fv_allocator &allocator) { must(fv_pool_attach(&pool, &allocator)); }
+  void detach(fv_allocator &allocator) { must(fv_pool_detach(&pool, &allocator)); }
+
+  static LibraryPool &only() {
+    static LibraryPool pool;
+    return pool;
+  }
+};
+
+class Library {
+  // where it lies doesn't change when workers are moved
+  std::unique_ptr<fv_allocator> allocator{new fv_allocator};
+
+public:
+  struct Lent {
+    fv_buf buf;
+
+    Lent() { fv_buf_init(&buf); }
+    Lent(std::nullptr_t) : Lent() {}
+    explicit operator bool() const { return fv_buf_capacity(&buf) > 0; }
+  };
+
+  Library() {
+    fv_allocator_init(allocator.get());
+    LibraryPool::only().attach(*allocator);
+  }
+  Library(Library &&) = default;
+  ~Library() {
+    if (allocator) LibraryPool::only().detach(*allocator);
+  }
+
+  fv_allocator *get() { return allocator.get(); }
+
+  Lent lend(size_t size) {
+    Lent lent;
+    while (fv_alloc(get(), &lent.buf, size) != FV_OK) sched_yield();
+    touch(lent.buf.at);
+    return lent;
+  }
+  void give(Lent &lent) { fv_free(get(), &lent.buf); }
+  void give(Lent &&lent) { fv_free(get(), &lent.buf); }
+};
+
+// The block that goes is a burst.
+struct InBursts {
+  using Block = fv_burst;
+  struct Back {};
+
+  static Back first() { return {}; }
+  static Block open(Library &lender, Back) {
+    Block burst;
+    fv_burst_init(&burst);
+    if (fv_burst_open(lender.get(), &burst, 64) != FV_OK) abort();
+    return burst;
+  }
+  static void put(Block &burst, Library::Lent lent) {
+    if (fv_burst_push(&burst, &lent.buf) != FV_OK) abort();
+  }
+  static Back give_all(Library &lender, Block &burst) {
+    fv_burst_free(lender.get(), &burst);
+    return {};
+  }
+};
