@@ -68,7 +68,7 @@ def centred(at):
 
 
 def ends(links, at):
-    """Where each line leaves its upper item and meets its lower one, sideways: side by side in the order of the others."""
+    """How far from the middle each line leaves its upper crate and meets its lower one: side by side, in order."""
     leaves, meets = {}, {}
     for item in at:
         if isinstance(item, layers.Bend):
