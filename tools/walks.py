@@ -8,9 +8,9 @@ Each export does one of these: it makes a value in the caller's storage, opens a
 or two pointers point to for one call of the crate below. The proofs of one form are one text in tools/walk_forms, in
 which @words@ stand for what differs.
 """
+import argparse
 import pathlib
 import re
-import sys
 from dataclasses import dataclass
 
 from walk_table import EXPORTS, KINDS, WIDTHS
@@ -357,8 +357,14 @@ WRITERS = {
 }
 
 
+def arguments():
+    parser = argparse.ArgumentParser(description=__doc__, formatter_class=argparse.RawDescriptionHelpFormatter)
+    parser.add_argument("crate", type=pathlib.Path, help="its folder")
+    return parser.parse_args()
+
+
 def main():
-    crate = pathlib.Path(sys.argv[1])
+    crate = arguments().crate
     texts = []
     for export in EXPORTS:
         text, walk = WRITERS[export.form]

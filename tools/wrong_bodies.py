@@ -2,7 +2,7 @@
 """Tries edits that give functions wrong bodies, many in one check: crates/NAME/must-fail/*.edit, which the gate tries
 too, and crates/NAME/wrong-bodies/*.edit, which it doesn't.
 
-    python3 .ci/wrong_bodies.py [--jobs N] [--without-answers] [CRATE[:EDIT,..] ..]
+    python3 tools/wrong_bodies.py [--jobs N] [--without-answers] [CRATE[:EDIT,..] ..]
 
 The gate tries an edit by a check of its own, so must-fail/ has those that tell most. This is for who changes a crate:
 it tries all, and says by which clause each is refused. A function is proved from the contracts of those that it calls
@@ -40,6 +40,7 @@ import sys
 import tempfile
 import time
 
+sys.path.insert(0, str(pathlib.Path(__file__).resolve().parent.parent / ".ci"))
 from edits import FOLDERS, TOP, BadEdit, answered_by, batch_of, copied, lines_of, proofs_of, read, written
 
 SAID = re.compile(r"^(?:note: )?(?:\./)?((?:src|specs|proofs)/\S+?):(\d+):\d+: (.*)")

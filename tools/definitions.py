@@ -1,7 +1,7 @@
 #!/usr/bin/env python3
 """Counts what a reader of a contract has to know: the definitions that its clauses reach.
 
-    python3 .ci/definitions.py CRATE FILE NAME..
+    python3 tools/definitions.py CRATE FILE NAME..
 
 takes the public function NAME of `crates/CRATE/src/FILE` (or those of several names, counted together), the names in
 its clauses, and follows them through the `ghost use` and `use` lines into the `specs/` of the crates of this
