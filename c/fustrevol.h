@@ -166,8 +166,8 @@ typedef struct fv_allocator {
   FV_ALIGNED unsigned char own_[FV_ALLOCATOR_BYTES];
 } fv_allocator;
 
-/* A buffer, or none. Its fv_buf_capacity() bytes lie at `at`. They start at a multiple of 16 from the
- * region's start. */
+/* A buffer, or none. Its fv_buf_capacity() bytes lie at `at`, which is NULL where there is none. They start
+ * at a multiple of 16 from the region's start. */
 typedef struct fv_buf {
   unsigned char *at;
   void *own_[2];

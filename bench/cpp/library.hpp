@@ -39,12 +39,20 @@ class Library {
   std::unique_ptr<fv_allocator> allocator{new fv_allocator};
 
 public:
-  struct Lent {
+  // what a handle is that holds no buffer
+  static fv_buf none() {
     fv_buf buf;
+    fv_buf_init(&buf);
+    return buf;
+  }
+  inline static const fv_buf NONE = none();
 
-    Lent() { fv_buf_init(&buf); }
-    Lent(std::nullptr_t) : Lent() {}
-    explicit operator bool() const { return fv_buf_capacity(&buf) > 0; }
+  struct Lent {
+    fv_buf buf = NONE;
+
+    Lent() = default;
+    Lent(std::nullptr_t) {}
+    explicit operator bool() const { return buf.at != nullptr; }
   };
 
   Library() {
@@ -58,15 +66,24 @@ public:
 
   fv_allocator *get() { return allocator.get(); }
 
-  Lent lend(size_t size) {
-    Lent lent;
+  void lend_into(Lent &lent, size_t size) {
     while (fv_alloc(get(), &lent.buf, size) != FV_OK) sched_yield();
     touch(lent.buf.at);
+  }
+  Lent lend(size_t size) {
+    Lent lent;
+    lend_into(lent, size);
     return lent;
   }
   void give(Lent &lent) { fv_free(get(), &lent.buf); }
   void give(Lent &&lent) { fv_free(get(), &lent.buf); }
 };
+
+// A program in C fills a handle where it lies. This stands before the one for all lenders.
+inline void renew(Library &library, Library::Lent &place, uint32_t size) {
+  if (place) library.give(place);
+  library.lend_into(place, size);
+}
 
 // The block that goes is a burst.
 struct InBursts {

@@ -166,6 +166,7 @@ static void buffers(unsigned char *region) {
   ANSWERS(fv_alloc(&a, &buf, 100), FV_OK); /* the slot that came home last, and nothing of it is filled */
   CHECK(buf.at == at && fv_buf_len(&buf) == 0);
   ANSWERS(fv_free(&a, &buf), FV_OK);
+  CHECK(buf.at == NULL);
   close_two(FV_OK);
 }
 
@@ -297,6 +298,7 @@ int main(void) {
   fv_allocator_init(&b);
   fv_allocator_init(&none);
   fv_buf_init(&buf);
+  CHECK(buf.at == NULL);
   fv_buf_init(&second);
   fv_burst_init(&burst);
   sizes_and_words();
