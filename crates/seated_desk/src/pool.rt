@@ -67,7 +67,7 @@ impl<'r> Pool<'r> {
     /// read in digits of `bits` bits, 1 to 6. Each posts what it cached once that is more than `limit` bytes, of which
     /// 1,048,576 are the most. `Holds` where it is open, `BadArgument`, or `NoMemory`.
     ///
-    /// It takes memory for 16 nodes for each two allocators, some 260 bytes each.
+    /// It takes memory for 16 nodes for each two allocators, some 100 bytes each.
     pub fn open(&mut self, region: &'r mut [u8], allocators: u32, bits: u32, limit: u64) -> u32
         ensures { Opens result self.old self.new }
     {
