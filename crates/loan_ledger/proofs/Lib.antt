@@ -1,0 +1,7 @@
+pub mod Sums
+pub mod Keeps
+pub mod Steps
+pub mod Sent
+pub mod Made
+pub mod Trading
+pub mod Travels

@@ -1,0 +1,4 @@
+pub mod Weights
+pub mod Accounts
+pub mod Tokens
+pub mod Loans
