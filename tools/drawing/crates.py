@@ -11,6 +11,7 @@ TITLE = "The crates"
 # What a crate is for, in a few words. One without stands there with its name alone.
 WORDS = {
     "region_cut": "region, chunks, slots",
+    "loan_ledger": "what shows a loan",
     "slot_chain": "buffers, and lists",
     "digit_route": "the way home",
     "pool_desk": "one allocator",

@@ -1,10 +1,7 @@
 //! A buffer of one station, and its way to another.
-ghost use Rattle.std.specs.Prelude.{◌≡◌, ◌<◌, ◌^◌, IfSome};
-
 use batch_inbox::{Mail, Receiver, Sender};
 use pool_desk::DeskError;
-use pool_fabric::{Fabric, HeldStation, Naming};
-use slot_chain::Buf;
+use pool_fabric::{Buffer, Fabric, HeldStation, Naming};
 use std::alloc::Global;
 use std::sync::Wait;
 
@@ -23,20 +20,16 @@ pub fn lend<
     fabric: &Fabric<'r, M, T, S, J>,
     station: &mut HeldStation<'r, T, S, J>,
     size: usize,
-) -> Option<Buf<'r>>
-    ensures { IfSome result (λ b. b.owner < 2 ^ J.names.digits.bits) }
-{
-    let _number = station.number();
+) -> Option<Buffer<'r, J>> {
     let class = station.digits().profile().class_for(size)?;
     match station.alloc(alloc, size) {
-        Ok(buf) => Some(buf),
+        Ok(buffer) => Some(buffer),
         Err(DeskError::NeedChunk(_)) => {
             if !station.claim(rt, fabric, class) {
                 return None;
             }
-            let _number = station.number();
             match station.alloc(alloc, size) {
-                Ok(buf) => Some(buf),
+                Ok(buffer) => Some(buffer),
                 Err(_) => None,
             }
         }
@@ -60,10 +53,9 @@ pub fn lend_across<
     to: &mut HeldStation<'r, T, S, J>,
     size: usize,
 ) -> bool {
-    let Some(buf) = lend(rt, alloc, fabric, from, size) else {
+    let Some(buffer) = lend(rt, alloc, fabric, from, size) else {
         return false;
     };
-    let _number = to.number();
-    let _freed = to.free(buf);
+    let _freed = to.free(buffer);
     true
 }

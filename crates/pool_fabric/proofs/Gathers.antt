@@ -1,5 +1,5 @@
 -- What is gathered keeps its sums.
-use Rattle.std.proofs.Common.{◌≡◌, ℕ, suc, ◌+◌, ◌-◌, List, [], ◌∷◌, ◌++◌, length, refl, sym, ap, ◌∙◌, arith, subst, Some, length-append}
+use Rattle.std.proofs.Common.{◌≡◌, ℕ, suc, ◌+◌, ◌-◌, List, [], ◌∷◌, ◌++◌, ◌≤◌, length, map, refl, sym, ap, ◌∙◌, arith, subst, Some, length-append}
 use Rattle.std.specs.Prelude.{slice_get}
 use Rattle.region_cut.specs.declared.slot.Slot.{Slot}
 use Rattle.region_cut.specs.declared.part.Part.{Part}
@@ -13,15 +13,33 @@ use Rattle.pool_fabric.specs.Seats.{SeatState, AreSeatsBy}
 use Rattle.pool_desk.specs.Desks.{DeskState}
 use Rattle.pool_fabric.specs.declared.ledger.DrawnChunk.{DrawnChunk}
 use Rattle.pool_fabric.specs.Accounts.{of_buffer, of_batch, of_seats, of_part, of_taking, of_entry, held, owed, drew}
-use Rattle.pool_fabric.specs.Stations.{StationState, IsStation}
+use Rattle.pool_fabric.specs.Stations.{StationState, KeepsLoans, IsStation}
 use Rattle.pool_fabric.specs.Gathered.{GatheredState, AreRows, AreTakes, AreOf, IsGathered}
-use Rattle.pool_fabric.specs.Whole.{IsWhole, IsEachDesk}
-use Rattle.pool_fabric.proofs.Sums.{weigh-append, weigh-snoc}
+use Rattle.pool_fabric.specs.Whole.{IsWhole, FreesNoMore, IsEachDesk}
+use Rattle.pool_fabric.proofs.Sums.{weigh-append, weigh-snoc, weigh-map}
+use Rattle.slot_chain.specs.Slots.{slot_of}
+use Rattle.std.proofs.lemmas.List.{map-append}
 use Rattle.pool_fabric.proofs.Columns.{each_more, get_front, get_seam}
 
 -- both pages in one
 abbrev pub both : PageState → PageState → PageState
-both p q = record { key = p.key; parts = p.parts + q.parts; gave = p.gave ++ q.gave; got = p.got ++ q.got }
+both p q = record {
+  key = p.key;
+  loans = p.loans;
+  parts = p.parts + q.parts;
+  gave = p.gave ++ q.gave;
+  got = p.got ++ q.got;
+  lent = p.lent ++ q.lent;
+  freed = p.freed ++ q.freed;
+}
+
+-- what two holders lent and took back
+both_loans : (p q r : PageState) (lent freed more_lent more_freed all_lent all_freed : List Buffer) → KeepsLoans p lent freed → KeepsLoans q more_lent more_freed → r ≡ both p q
+    → all_lent ≡ lent ++ more_lent → all_freed ≡ freed ++ more_freed → KeepsLoans r all_lent all_freed
+both_loans p q r lent freed more_lent more_freed all_lent all_freed i k e l f = (
+  ap (λ (x : PageState). x.lent) e ∙ ap (λ xs. xs ++ q.lent) i.0 ∙ ap (λ xs. map slot_of lent ++ xs) k.0 ∙ sym (map-append slot_of lent more_lent) ∙ ap (map slot_of) (sym l),
+  ap (λ (x : PageState). x.freed) e ∙ ap (λ xs. xs ++ q.freed) i.1 ∙ ap (λ xs. map slot_of freed ++ xs) k.1 ∙ sym (map-append slot_of freed more_freed) ∙ ap (map slot_of) (sym f),
+)
 
 pub adds_keeps : (n : Names) (s : GatheredState) (t : StationState) (takes : List TakeState) (page : PageState) (lent freed : List Buffer)
     → IsGathered n s → IsStation n t → t.desk.number ≡ length s.rows → t.desk.number ≡ length s.takes → s.columns ≡ n.count
@@ -58,6 +76,8 @@ adds_keeps n s t takes page lent freed i k at_row at_take columns m e l f = reco
         (each_more (λ j (x : TakeState). (x.inbox ≡ box_at n j) × (x.senders ≡ n.count)) s.takes t.take i.takes.each (k.seated.take ∙ ap (box_at n) at_take, k.seated.senders));
   };
   page = ap (λ (z : PageState). z.key) e ∙ i.page;
+  ledger = ap (λ (z : PageState). z.loans) e ∙ i.ledger;
+  loans = both_loans s.page t.page page s.lent s.freed t.lent t.freed lent freed i.loans k.loans e l f;
 }
 
 -- the last receiver's seat, and the others
@@ -92,6 +112,8 @@ closes_keeps n s take takes seats rows more batches columns i is kept at many sl
   rows = at;
   takes = kept;
   page = i.page;
+  ledger = i.ledger;
+  loans = i.loans;
 }
 
 -- with no inbox left, the rows are empty
@@ -103,6 +125,15 @@ no_rows h ((x ∷ xs) ∷ rs) e = let f = e 0 (x ∷ xs) refl in absurd (omega a
 no_takes : (h : Slot → ℕ) (takes : List TakeState) → length takes ≡ 0 → weigh (of_taking h) takes ≡ 0
 no_takes h [] e = refl
 no_takes h (x ∷ xs) e = absurd (omega arith)
+
+-- the pages of all stations say so of the slots, and so of the buffers
+pub frees_no_more : (old page : PageState) (lent freed : List Buffer) → KeepsLoans old lent freed → page ≡ old → ((h : Slot → ℕ) → weigh h page.freed ≤ weigh h page.lent)
+    → FreesNoMore lent freed
+frees_no_more old page lent freed i same bound h =
+    let b = bound h in
+    let l = ap (λ (x : PageState). weigh h x.lent) same ∙ ap (weigh h) i.0 ∙ weigh-map h slot_of lent in
+    let f = ap (λ (x : PageState). weigh h x.freed) same ∙ ap (weigh h) i.1 ∙ weigh-map h slot_of freed in
+    omega arith
 
 pub finishes : (n : Names) (s : GatheredState) (page : PageState) (parts : List Part)
     → IsGathered n s → s.columns ≡ 0 → length s.takes ≡ 0

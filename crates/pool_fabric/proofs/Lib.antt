@@ -11,6 +11,8 @@ pub mod AllOf
 pub mod Noted
 pub mod Lacking
 pub mod Accounting
+pub mod Losses
+pub mod Packed
 pub mod Opens
 pub mod Stocked
 pub mod NewBoxes

@@ -1,5 +1,6 @@
 -- A new station keeps what its type says, and seats are taken out of columns.
-use Rattle.std.proofs.Common.{◌≡◌, ℕ, suc, ◌+◌, List, [], ◌∷◌, ◌++◌, length, refl, sym, ap, ◌∙◌, arith, Some, length-append}
+use Rattle.std.proofs.Common.{◌≡◌, ℕ, suc, ◌+◌, List, [], ◌∷◌, ◌++◌, length, refl, sym, ap, ◌∙◌, arith, Some, length-append, map}
+use Rattle.slot_chain.specs.Slots.{slot_of}
 use Rattle.std.specs.Prelude.{slice_get, true}
 use Rattle.region_cut.specs.declared.slot.Slot.{Slot}
 use Rattle.batch_inbox.specs.States.{TakeState}
@@ -33,6 +34,7 @@ fresh_keeps n s f i = record {
   chunks = λ g.
       let drawn = nothing (of_drawn g) s.desk.drawn f.drawn in
       let got = nothing g s.page.got f.got in omega arith;
+  loans = (f.page_lent ∙ ap (map slot_of) (sym f.lent), f.page_freed ∙ ap (map slot_of) (sym f.freed));
   seated = i;
 }
 

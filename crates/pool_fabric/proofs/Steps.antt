@@ -1,6 +1,7 @@
 -- Each call of a station keeps what its type says.
-use Rattle.std.proofs.Common.{◌≡◌, ℕ, List, [], ◌∷◌, ◌++◌, length, sym, ap, ◌∙◌, arith, subst}
+use Rattle.std.proofs.Common.{◌≡◌, ℕ, ◌^◌, ◌<◌, List, [], ◌∷◌, ◌++◌, length, map, refl, sym, ap, ◌∙◌, arith, subst}
 use Rattle.std.specs.Prelude.{Ok}
+use Rattle.region_cut.specs.declared.slot.Slot.{Slot}
 use Rattle.region_cut.specs.declared.part.Part.{Part}
 use Rattle.slot_chain.specs.Buffer.{Buffer}
 use Rattle.pool_desk.specs.Desks.{DeskState}
@@ -9,36 +10,64 @@ use Rattle.pool_desk.specs.Steps.{Claims, AllocsClass, Frees, FreesAll}
 use Rattle.pool_desk.specs.declared.freed.Freed.{Freed}
 use Rattle.pool_fabric.specs.Weights.{weigh}
 use Rattle.pool_fabric.specs.Names.{Names, box_at}
-use Rattle.pool_fabric.specs.Pages.{PageState, drawn_for}
+use Rattle.pool_fabric.specs.Pages.{PageState, drawn_for, lent_on, freed_on}
 use Rattle.pool_fabric.specs.Seats.{SeatState, AreSeatsBy}
 use Rattle.batch_inbox.specs.States.{TakeState}
 use Rattle.pool_fabric.specs.Accounts.{of_buffer, of_batch, of_home, of_chunk, of_drawn}
 use Rattle.pool_fabric.specs.Posts.{Posts, TakesSome}
 use Rattle.pool_fabric.specs.Calls.{ClaimsPart}
-use Rattle.pool_fabric.specs.Stations.{StationState, IsSeated, IsStation}
+use Rattle.pool_fabric.specs.Stations.{StationState, KeepsLoans, IsSeated, IsStation}
+use Rattle.slot_chain.specs.Slots.{slot_of}
 use Rattle.pool_fabric.proofs.Sums.{weigh-append, weigh-snoc}
+use Rattle.pool_fabric.proofs.Columns.{map-snoc}
+use Rattle.std.proofs.lemmas.List.{map-append}
 use Rattle.pool_fabric.proofs.DeskSums.{claimed, claimed_chunk, gave, gave_owed, gave_chunks, got_all_back, got_all_back_drawn, got_back, got_back_drawn}
 use Rattle.pool_fabric.proofs.Posting.{length-sent_all, handled_stays, handled_sum, posted_sum}
 
+-- the pages are of the same holder
+pub record AreOfOne (p q : PageState) : Type 0 where
+  pub key : q.key ≡ p.key
+  pub loans : q.loans ≡ p.loans
+  pub parts : q.parts ≡ p.parts
+  pub gave : q.gave ≡ p.gave
+
+pub same_holder : (p : PageState) → AreOfOne p p
+same_holder p = record { key = refl; loans = refl; parts = refl; gave = refl }
+
+-- what was lent and freed stands on the page, too
+pub keeps_lent : (p q : PageState) (lent more freed : List Buffer) (b : Buffer) → KeepsLoans p lent freed → q ≡ lent_on p b.slot → more ≡ lent ++ b ∷ [] → KeepsLoans q more freed
+keeps_lent p q lent more freed b i e f = (
+  ap (λ (x : PageState). x.lent) e ∙ ap (λ l. l ++ b.slot ∷ []) i.0 ∙ sym (map-snoc slot_of lent b) ∙ ap (map slot_of) (sym f),
+  ap (λ (x : PageState). x.freed) e ∙ i.1,
+)
+
+pub keeps_freed : (p q : PageState) (lent freed more bs : List Buffer) → KeepsLoans p lent freed → q ≡ freed_on p (map slot_of bs) → more ≡ freed ++ bs → KeepsLoans q lent more
+keeps_freed p q lent freed more bs i e f = (
+  ap (λ (x : PageState). x.lent) e ∙ i.0,
+  ap (λ (x : PageState). x.freed) e ∙ ap (λ l. l ++ map slot_of bs) i.1 ∙ sym (map-append slot_of freed bs) ∙ ap (map slot_of) (sym f),
+)
+
 -- another desk of the same number, lent and freed other buffers
-pub reseat : (n : Names) (s : StationState) (d : DeskState) (lent freed : List Buffer) → d.number ≡ s.desk.number → d.digits ≡ s.desk.digits → d.limit ≡ s.desk.limit → IsSeated n s
-    → IsSeated n (record s { desk = d; lent = lent; freed = freed })
-reseat n s d lent freed number digits limit i = record {
+pub reseat : (n : Names) (s : StationState) (d : DeskState) (page : PageState) (lent freed : List Buffer) → d.number ≡ s.desk.number → d.digits ≡ s.desk.digits → d.limit ≡ s.desk.limit → AreOfOne s.page page
+    → IsSeated n s → IsSeated n (record s { desk = d; page = page; lent = lent; freed = freed })
+reseat n s d page lent freed number digits limit same i = record {
+  in_range = subst (λ k. k < 2 ^ n.digits.bits) (sym number) i.in_range;
   digits = digits ∙ i.digits;
   limit = limit ∙ i.limit;
   take = i.take ∙ ap (box_at n) (sym number);
   senders = i.senders;
   seats = subst (λ a. AreSeatsBy n a s.seats) (sym number) i.seats;
   number = i.number;
-  page = i.page;
-  part = i.part;
-  none_given = i.none_given;
+  page = same.key ∙ i.page;
+  loans = same.loans ∙ i.loans;
+  part = same.parts ∙ i.part;
+  none_given = same.gave ∙ i.none_given;
 }
 
 -- a buffer is lent
-pub lends_keeps : (n : Names) (s : StationState) (class : ℕ) (b : Buffer) (d : DeskState) (lent : List Buffer) → IsStation n s → AllocsClass s.desk class (Ok b) d → lent ≡ s.lent ++ b ∷ []
-    → IsStation n (record s { desk = d; lent = lent })
-lends_keeps n s class b d lent i a more = record {
+pub lends_keeps : (n : Names) (s : StationState) (class : ℕ) (b : Buffer) (d : DeskState) (page : PageState) (lent : List Buffer) → IsStation n s → AllocsClass s.desk class (Ok b) d
+    → page ≡ lent_on s.page b.slot → lent ≡ s.lent ++ b ∷ [] → IsStation n (record s { desk = d; page = page; lent = lent })
+lends_keeps n s class b d page lent i a on more = record {
   slots = λ h.
       let p = i.slots h in
       let e = gave h s.desk class b d a in
@@ -46,14 +75,20 @@ lends_keeps n s class b d lent i a more = record {
       let q = weigh-snoc (of_buffer h) s.lent b in
       let z = ap (weigh (of_buffer h)) more in
       omega arith;
-  chunks = λ g. gave_chunks g s.desk class b d a ∙ i.chunks g;
-  seated = reseat n s d lent s.freed (ap (λ (x : DeskState). x.number) a.1) (ap (λ (x : DeskState). x.digits) a.1) (ap (λ (x : DeskState). x.limit) a.1) i.seated;
+  chunks = λ g. gave_chunks g s.desk class b d a ∙ i.chunks g ∙ ap (λ (p : PageState). weigh g p.got) (sym on);
+  loans = keeps_lent s.page page s.lent lent s.freed b i.loans on more;
+  seated = reseat n s d page lent s.freed (ap (λ (x : DeskState). x.number) a.1) (ap (λ (x : DeskState). x.digits) a.1) (ap (λ (x : DeskState). x.limit) a.1)
+      (record { key = ap (λ (p : PageState). p.key) on; loans = ap (λ (p : PageState). p.loans) on; parts = ap (λ (p : PageState). p.parts) on; gave = ap (λ (p : PageState). p.gave) on }) i.seated;
 }
 
+freed_holder : (p q : PageState) (ss : List Slot) → q ≡ freed_on p ss → AreOfOne p q
+freed_holder p q ss e =
+    record { key = ap (λ (x : PageState). x.key) e; loans = ap (λ (x : PageState). x.loans) e; parts = ap (λ (x : PageState). x.parts) e; gave = ap (λ (x : PageState). x.gave) e }
+
 -- a buffer is freed
-pub frees_keeps : (n : Names) (s : StationState) (b : Buffer) (f : Freed) (d : DeskState) (freed : List Buffer) → IsStation n s → freed ≡ s.freed ++ b ∷ [] → Frees s.desk b f d
-    → IsStation n (record s { desk = d; freed = freed })
-frees_keeps n s b f d freed i more a =
+pub frees_keeps : (n : Names) (s : StationState) (b : Buffer) (f : Freed) (d : DeskState) (page : PageState) (freed : List Buffer) → IsStation n s → page ≡ freed_on s.page (b.slot ∷ [])
+    → freed ≡ s.freed ++ b ∷ [] → Frees s.desk b f d → IsStation n (record s { desk = d; page = page; freed = freed })
+frees_keeps n s b f d page freed i on more a =
     let same = got_back_drawn s.desk b f d a in
     record {
       slots = λ h.
@@ -63,14 +98,15 @@ frees_keeps n s b f d freed i more a =
           let q = weigh-snoc (of_buffer h) s.freed b in
           let z = ap (weigh (of_buffer h)) more in
           omega arith;
-      chunks = λ g. ap (λ l. weigh (of_drawn g) l) same.0 ∙ i.chunks g;
-      seated = reseat n s d s.lent freed same.1 same.2 same.3 i.seated;
+      chunks = λ g. ap (λ l. weigh (of_drawn g) l) same.0 ∙ i.chunks g ∙ ap (λ (p : PageState). weigh g p.got) (sym on);
+      loans = keeps_freed s.page page s.lent s.freed freed (b ∷ []) i.loans on more;
+      seated = reseat n s d page s.lent freed same.1 same.2 same.3 (freed_holder s.page page _ on) i.seated;
     }
 
 -- a parcel is freed
-pub frees_all_keeps : (n : Names) (s : StationState) (p : ParcelState) (f : Freed) (d : DeskState) (freed : List Buffer) → IsStation n s → freed ≡ s.freed ++ p.items → FreesAll s.desk p f d
-    → IsStation n (record s { desk = d; freed = freed })
-frees_all_keeps n s p f d freed i more a =
+pub frees_all_keeps : (n : Names) (s : StationState) (p : ParcelState) (f : Freed) (d : DeskState) (page : PageState) (freed : List Buffer) → IsStation n s → page ≡ freed_on s.page (map slot_of p.items)
+    → freed ≡ s.freed ++ p.items → FreesAll s.desk p f d → IsStation n (record s { desk = d; page = page; freed = freed })
+frees_all_keeps n s p f d page freed i on more a =
     let same = got_all_back_drawn s.desk p f d a in
     record {
       slots = λ h.
@@ -80,15 +116,16 @@ frees_all_keeps n s p f d freed i more a =
           let q = weigh-append (of_buffer h) s.freed p.items in
           let z = ap (weigh (of_buffer h)) more in
           omega arith;
-      chunks = λ g. ap (λ l. weigh (of_drawn g) l) same.0 ∙ i.chunks g;
-      seated = reseat n s d s.lent freed same.1 same.2 same.3 i.seated;
+      chunks = λ g. ap (λ l. weigh (of_drawn g) l) same.0 ∙ i.chunks g ∙ ap (λ (x : PageState). weigh g x.got) (sym on);
+      loans = keeps_freed s.page page s.lent s.freed freed p.items i.loans on more;
+      seated = reseat n s d page s.lent freed same.1 same.2 same.3 (freed_holder s.page page _ on) i.seated;
     }
 
 -- batches are taken and handled
 pub takes_keeps : (n : Names) (s : StationState) (k : ℕ) (d : DeskState) (t : TakeState) → IsStation n s → TakesSome s.desk s.take k d t → IsStation n (record s { desk = d; take = t })
 takes_keeps n s k d t i a =
     let same = handled_stays s.desk a.batches d a.handled in
-    let r = reseat n s d s.lent s.freed same.number same.digits same.limit i.seated in
+    let r = reseat n s d s.page s.lent s.freed same.number same.digits same.limit (same_holder s.page) i.seated in
     record {
       slots = λ h.
           let p = i.slots h in
@@ -98,7 +135,9 @@ takes_keeps n s k d t i a =
           let z = ap (λ (x : TakeState). weigh (of_batch h) x.taken) a.taken in
           omega arith;
       chunks = λ g. ap (weigh (of_drawn g)) same.drawn ∙ i.chunks g;
+      loans = i.loans;
       seated = record {
+        in_range = r.in_range;
         digits = r.digits;
         limit = r.limit;
         take = ap (λ (x : TakeState). x.inbox) a.taken ∙ r.take;
@@ -106,6 +145,7 @@ takes_keeps n s k d t i a =
         seats = r.seats;
         number = r.number;
         page = r.page;
+        loans = r.loans;
         part = r.part;
         none_given = r.none_given;
       };
@@ -115,7 +155,7 @@ takes_keeps n s k d t i a =
 pub posts_keeps : (n : Names) (s : StationState) (d : DeskState) (seats : List SeatState) → IsStation n s → d ≡ record s.desk { cached = d.cached } → AreSeatsBy n s.desk.number seats
     → Posts s.desk.digits s.desk.number s.desk.cached s.seats [] d.cached seats → IsStation n (record s { desk = d; seats = seats })
 posts_keeps n s d seats i same are a =
-    let r = reseat n s d s.lent s.freed (ap (λ (x : DeskState). x.number) same) (ap (λ (x : DeskState). x.digits) same) (ap (λ (x : DeskState). x.limit) same) i.seated in
+    let r = reseat n s d s.page s.lent s.freed (ap (λ (x : DeskState). x.number) same) (ap (λ (x : DeskState). x.digits) same) (ap (λ (x : DeskState). x.limit) same) (same_holder s.page) i.seated in
     record {
       slots = λ h.
           let p = i.slots h in
@@ -124,7 +164,9 @@ posts_keeps n s d seats i same are a =
           let q = ap (λ (x : DeskState). weigh (of_home h) x.home) same in
           omega arith;
       chunks = λ g. ap (λ (x : DeskState). weigh (of_drawn g) x.drawn) same ∙ i.chunks g;
+      loans = i.loans;
       seated = record {
+        in_range = r.in_range;
         digits = r.digits;
         limit = r.limit;
         take = r.take;
@@ -132,6 +174,7 @@ posts_keeps n s d seats i same are a =
         seats = subst (λ k. AreSeatsBy n k seats) (sym (ap (λ (x : DeskState). x.number) same)) are;
         number = ap length a.seats_are ∙ length-sent_all s.seats a.posted ∙ i.seated.number;
         page = r.page;
+        loans = r.loans;
         part = r.part;
         none_given = r.none_given;
       };
@@ -141,7 +184,7 @@ posts_keeps n s d seats i same are a =
 pub claims_keeps : (n : Names) (s : StationState) (p : Part) (class : ℕ) (d : DeskState) (page : PageState) → IsStation n s
     → Claims s.desk p class d → page ≡ record s.page { got = s.page.got ++ drawn_for p.chunk class ∷ [] } → IsStation n (record s { desk = d; page = page })
 claims_keeps n s p class d page i a more =
-    let r = reseat n s d s.lent s.freed (ap (λ (z : DeskState). z.number) a.same) (ap (λ (z : DeskState). z.digits) a.same) (ap (λ (z : DeskState). z.limit) a.same) i.seated in
+    let r = reseat n s d s.page s.lent s.freed (ap (λ (z : DeskState). z.number) a.same) (ap (λ (z : DeskState). z.digits) a.same) (ap (λ (z : DeskState). z.limit) a.same) (same_holder s.page) i.seated in
     record {
       slots = λ h. let q = i.slots h in let e = claimed h s.desk p class d a in omega arith;
       chunks = λ g.
@@ -150,7 +193,9 @@ claims_keeps n s p class d page i a more =
           let w = weigh-snoc g s.page.got (drawn_for p.chunk class) in
           let z = ap (λ (x : PageState). weigh g x.got) more in
           omega arith;
+      loans = (ap (λ (x : PageState). x.lent) more ∙ i.loans.0, ap (λ (x : PageState). x.freed) more ∙ i.loans.1);
       seated = record {
+        in_range = r.in_range;
         digits = r.digits;
         limit = r.limit;
         take = r.take;
@@ -158,6 +203,7 @@ claims_keeps n s p class d page i a more =
         seats = r.seats;
         number = r.number;
         page = ap (λ (x : PageState). x.key) more ∙ r.page;
+        loans = ap (λ (x : PageState). x.loans) more ∙ r.loans;
         part = ap (λ (x : PageState). x.parts) more ∙ r.part;
         none_given = ap (λ (x : PageState). x.gave) more ∙ r.none_given;
       };

@@ -1,17 +1,11 @@
 -- Sums of weights.
-use Rattle.std.proofs.Common.{◌≡◌, ℕ, zero, suc, ◌+◌, List, [], ◌∷◌, ◌++◌, map, refl, sym, ap, ◌∙◌, arith, IsPermutation, Bool, true, false, Some}
+use Rattle.std.proofs.Common.{◌≡◌, ℕ, zero, suc, ◌+◌, List, [], ◌∷◌, map, refl, sym, ap, ◌∙◌, arith, IsPermutation, Bool, true, false, Some}
 use Rattle.std.specs.Prelude.{slice_get, slice_set, not, cond}
 use Rattle.std.specs.List.{filter}
 use Rattle.std.proofs.lemmas.List.Recursion.{is_sum_by}
 use Rattle.std.proofs.lemmas.List.Sorted.{sum_by-IsPermutation}
 use Rattle.pool_fabric.specs.Weights.{weigh}
-
-pub weigh-append : {A : Type 0} (h : A → ℕ) (xs ys : List A) → weigh h (xs ++ ys) ≡ weigh h xs + weigh h ys
-weigh-append h [] ys = omega arith
-weigh-append h (x ∷ xs) ys = let i = weigh-append h xs ys in omega arith
-
-pub weigh-snoc : {A : Type 0} (h : A → ℕ) (xs : List A) (x : A) → weigh h (xs ++ x ∷ []) ≡ weigh h xs + h x
-weigh-snoc h xs x = let e = weigh-append h xs (x ∷ []) in omega arith
+pub use Rattle.loan_ledger.proofs.Sums.{weigh-append, weigh-snoc}
 
 pub weigh-permutation : {A : Type 0} (f : A → ℕ) (xs ys : List A) → IsPermutation xs ys → weigh f ys ≡ weigh f xs
 weigh-permutation f xs ys p =

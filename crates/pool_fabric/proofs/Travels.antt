@@ -8,6 +8,7 @@ use Rattle.std.proofs.Crossing.{crosses, Box-send, Vec-send, Vec-sync}
 use Rattle.std.proofs.option.Option.TheSendSync.{the_send as option_send}
 use Rattle.atomic_blocks.proofs.web.Seat.TheSendSync.{the_send as pass_send}
 use Rattle.atomic_blocks.proofs.web.Web.TheSendSync.{the_sync as line_sync}
+use Rattle.loan_ledger.proofs.Travels.{loans_send}
 use Rattle.region_cut.proofs.part.Part.TheSendSync.{the_send as part_send}
 use Rattle.slot_chain.specs.contracts.buf.Buf as Buf
 use Rattle.digit_route.proofs.Travels.{buf_send, batch_send}
@@ -56,7 +57,7 @@ inbox_sync a = search (sendable, crosses, line_sync, option_send, batch_send) de
 -- what a station has beside its seats
 
 page_send : IsSend Page.the_row
-page_send = search (sendable, crosses, pass_send) depth 40 fits 6000
+page_send = search (sendable, crosses, pass_send, loans_send) depth 40 fits 6000
 
 notes_send : (a : NamedLft) → IsSend (Notes.the_row (Buf.the_row a))
 notes_send a = notes_of (Buf.the_row a) (buf_send a)

@@ -24,6 +24,10 @@ abbrev pub listed : {A : Type 0} → (A → List Slot) → List A → List Slot
 listed f [] = []
 listed f (x ∷ xs) = f x ++ listed f xs
 
+-- the slots of all desks and of all batches that were still in an inbox
+abbrev pub slots_found : List DeskState → List BatchState → List Slot
+slots_found desks batches = listed held_slots desks ++ listed batch_slots batches
+
 -- the answer of an audit of these slots, in some order
 pub record IsAnswer (slots : List Slot) (drawn : List (Option ℕ)) (P : List Slot → Type 0) : Type 0 where
   pub found : List Slot

@@ -1,37 +1,38 @@
 -- What the calls of a station do to it.
-use Rattle.std.specs.Prelude.{◌≡◌, ℕ, [], ◌∷◌, ◌++◌, Result, Ok, Err}
+use Rattle.std.specs.Prelude.{◌≡◌, ℕ, [], ◌∷◌, ◌++◌, map, Result, Ok, Err}
 use Rattle.slot_chain.specs.Buffer.{Buffer}
 use Rattle.region_cut.specs.declared.part.Part.{Part}
 use Rattle.slot_chain.specs.Parcels.{ParcelState}
+use Rattle.slot_chain.specs.Slots.{slot_of}
 use Rattle.pool_desk.specs.Steps.{Claims, Allocs, AllocsClass, Frees, FreesAll}
 use Rattle.pool_desk.specs.declared.error.DeskError.{DeskError}
 use Rattle.pool_desk.specs.declared.freed.Freed.{Freed}
-use Rattle.pool_fabric.specs.Pages.{drawn_for}
+use Rattle.pool_fabric.specs.Pages.{drawn_for, lent_on, freed_on}
 use Rattle.pool_fabric.specs.Stations.{StationState}
 
 -- the desk gives out a buffer, which is then lent; or it gives none, and all is as before
 abbrev pub Lends : StationState → ℕ → Result Buffer DeskError → StationState → Type 0
 Lends old size (Ok b) new =
     Allocs old.desk size (Ok b) new.desk
-    × (new ≡ record old { desk = new.desk; lent = old.lent ++ b ∷ [] })
+    × (new ≡ record old { desk = new.desk; page = lent_on old.page b.slot; lent = old.lent ++ b ∷ [] })
 Lends old size (Err e) new = Allocs old.desk size (Err e) new.desk × (new ≡ old)
 
 -- the same where its class is asked for
 abbrev pub LendsClass : StationState → ℕ → Result Buffer DeskError → StationState → Type 0
 LendsClass old c (Ok b) new =
     AllocsClass old.desk c (Ok b) new.desk
-    × (new ≡ record old { desk = new.desk; lent = old.lent ++ b ∷ [] })
+    × (new ≡ record old { desk = new.desk; page = lent_on old.page b.slot; lent = old.lent ++ b ∷ [] })
 LendsClass old c (Err e) new = AllocsClass old.desk c (Err e) new.desk × (new ≡ old)
 
 -- the desk takes a buffer back
 pub record TakesBack (old : StationState) (b : Buffer) (r : Freed) (new : StationState) : Type 0 where
   pub desk : Frees old.desk b r new.desk
-  pub same : new ≡ record old { desk = new.desk; freed = old.freed ++ b ∷ [] }
+  pub same : new ≡ record old { desk = new.desk; page = freed_on old.page (b.slot ∷ []); freed = old.freed ++ b ∷ [] }
 
 -- the desk takes all buffers of a parcel back
 pub record TakesAllBack (old : StationState) (p : ParcelState) (r : Freed) (new : StationState) : Type 0 where
   pub desk : FreesAll old.desk p r new.desk
-  pub same : new ≡ record old { desk = new.desk; freed = old.freed ++ p.items }
+  pub same : new ≡ record old { desk = new.desk; page = freed_on old.page (map slot_of p.items); freed = old.freed ++ p.items }
 
 -- the desk claims a part for the class, which is written on its page
 pub record ClaimsPart (old : StationState) (class : ℕ) (new : StationState) : Type 0 where

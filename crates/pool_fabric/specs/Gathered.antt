@@ -12,7 +12,7 @@ use Rattle.pool_fabric.specs.Seats.{SeatState, AreSeatsBy}
 use Rattle.pool_fabric.specs.declared.ledger.DrawnChunk.{DrawnChunk}
 use Rattle.pool_fabric.specs.Whole.{IsEachDesk}
 use Rattle.pool_fabric.specs.Accounts.{of_buffer, of_batch, of_seats, of_taking, held, owed, drew}
-use Rattle.pool_fabric.specs.Stations.{StationState}
+use Rattle.pool_fabric.specs.Stations.{StationState, KeepsLoans}
 
 -- these are the seats at the inbox, of the senders in order
 pub record AreOf (inbox : InboxId) (seats : List SeatState) : Type 0 where
@@ -54,6 +54,8 @@ pub record IsGathered (n : Names) (s : GatheredState) : Type 0 where
   pub rows : AreRows n s.columns s.rows
   pub takes : AreTakes n s.takes
   pub page : s.page.key ≡ n.ledger
+  pub ledger : s.page.loans ≡ n.loans
+  pub loans : KeepsLoans s.page s.lent s.freed
 
 -- a station was added: its desk is the last, its page was taken in
 pub record AddsStation (t : StationState) (old new : GatheredState) : Type 0 where

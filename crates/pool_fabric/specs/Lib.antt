@@ -14,4 +14,5 @@ pub mod Gathered
 pub mod Faults
 pub mod Refusals
 pub mod Audited
+pub mod Losses
 pub mod Opened

@@ -7,7 +7,7 @@ use Rattle.digit_route.specs.Limits.{largest_limit}
 use Rattle.batch_inbox.specs.States.{InboxId, TakeState}
 use Rattle.pool_fabric.specs.Ledgers.{whole}
 use Rattle.pool_fabric.specs.Names.{Names, box_at}
-use Rattle.pool_fabric.specs.Pages.{PageState}
+use Rattle.pool_fabric.specs.Pages.{PageState, new_page}
 use Rattle.pool_fabric.specs.Seats.{SeatState, NoneSent, AreBoxes}
 use Rattle.pool_fabric.specs.Stocks.{StockState, IsFull}
 
@@ -42,15 +42,16 @@ pub record AreOpened (digits : Scheme) (senders : ℕ)
       × ((a : ℕ) (s : SeatState) → slice_get c a ≡ Some s
       → (slice_get boxes k ≡ Some s.inbox) × (s.sender ≡ a) × (s.resting ≡ true))
 
--- what the stations of a fabric agree on that is made of these inboxes, this ledger, and a stock with these parts left,
+-- what the stations of a fabric agree on that is made of these inboxes, these ledgers, and a stock with these parts left,
 -- with caches of this limit
-abbrev pub names_of : List InboxId → Scheme → ℕ → List ℕ → List Part → Names
-names_of boxes digits limit ledger left = record {
+abbrev pub names_of : List InboxId → Scheme → ℕ → List ℕ → ℕ → List Part → Names
+names_of boxes digits limit ledger loans left = record {
   boxes = boxes;
   digits = digits;
   limit = limit;
   count = length boxes;
   ledger = ledger;
+  loans = loans;
   chunks = map number_of (reverse left);
 }
 
@@ -64,4 +65,4 @@ pub record IsOpening (n : Names) (boxes : List InboxId) (takes : List TakeState)
   pub few : (n.count ≤ most_desks) × (n.count ≤ 2 ^ n.digits.bits)
   pub low : n.limit ≤ largest_limit
   pub full : IsFull stock
-  pub whole_book : book ≡ record { key = n.ledger; parts = whole; gave = []; got = [] }
+  pub whole_book : book ≡ new_page n.ledger n.loans whole

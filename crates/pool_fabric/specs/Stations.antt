@@ -1,7 +1,8 @@
 -- What a contract sees of a station, and what its type keeps.
-use Rattle.std.specs.Prelude.{◌≡◌, ℕ, ◌+◌, List, [], length}
+use Rattle.std.specs.Prelude.{◌≡◌, ℕ, ◌+◌, ◌^◌, ◌<◌, List, [], length, map}
 use Rattle.region_cut.specs.declared.slot.Slot.{Slot}
 use Rattle.slot_chain.specs.Buffer.{Buffer}
+use Rattle.slot_chain.specs.Slots.{slot_of}
 use Rattle.pool_desk.specs.Desks.{DeskState, IdleState}
 use Rattle.batch_inbox.specs.States.{TakeState}
 use Rattle.pool_fabric.specs.Weights.{weigh}
@@ -44,6 +45,7 @@ abbrev pub KeepsChunks : StationState → Type 0
 KeepsChunks s = (g : DrawnChunk → ℕ) → drew g s.desk ≡ weigh g s.page.got
 
 pub record IsSeated (n : Names) (s : StationState) : Type 0 where
+  pub in_range : s.desk.number < 2 ^ n.digits.bits
   pub digits : s.desk.digits ≡ n.digits
   pub limit : s.desk.limit ≡ n.limit
   pub take : s.take.inbox ≡ box_at n s.desk.number
@@ -51,12 +53,18 @@ pub record IsSeated (n : Names) (s : StationState) : Type 0 where
   pub seats : AreSeatsBy n s.desk.number s.seats
   pub number : length s.seats ≡ n.count
   pub page : s.page.key ≡ n.ledger
+  pub loans : s.page.loans ≡ n.loans
   pub part : s.page.parts ≡ 1
   pub none_given : s.page.gave ≡ []
+
+-- The slots that its page lent and took back are those of the buffers that it lent and that were freed to it.
+abbrev pub KeepsLoans : PageState → List Buffer → List Buffer → Type 0
+KeepsLoans p lent freed = (p.lent ≡ map slot_of lent) × (p.freed ≡ map slot_of freed)
 
 pub record IsStation (n : Names) (s : StationState) : Type 0 where
   pub slots : KeepsSlots s
   pub chunks : KeepsChunks s
+  pub loans : KeepsLoans s.page s.lent s.freed
   pub seated : IsSeated n s
 
 -- nothing was drawn, sent, taken, lent or freed
@@ -67,5 +75,7 @@ pub record IsFresh (s : StationState) : Type 0 where
   pub taken : s.take.taken ≡ []
   pub seats : NoneSent s.seats
   pub got : s.page.got ≡ []
+  pub page_lent : s.page.lent ≡ []
+  pub page_freed : s.page.freed ≡ []
   pub lent : s.lent ≡ []
   pub freed : s.freed ≡ []

@@ -9,6 +9,7 @@ use Rattle.pool_fabric.specs.Accounts.{of_part, of_entry}
 use Rattle.pool_fabric.specs.Ledgers.{whole}
 use Rattle.pool_fabric.specs.Names.{Names}
 use Rattle.pool_fabric.specs.Pages.{PageState, drawn_for}
+use Rattle.pool_fabric.specs.Losses.{AreOnce}
 
 -- the parts that are left, that of the greatest number first, and which chunks were drawn for which class
 pub record StockState : Type 0 where
@@ -65,10 +66,13 @@ pub record GivesPart (old : StockState) (class : ℕ) (p : Part) (new : StockSta
 -- are the chunks that the stock began with, and those that are told as drawn are those that the book gave.
 pub record IsStore (n : Names) (s : StockState) (book : PageState) : Type 0 where
   pub key : book.key ≡ n.ledger
+  pub loans : book.loans ≡ n.loans
   pub none_got : book.got ≡ []
+  pub none_lent : (book.lent ≡ []) × (book.freed ≡ [])
   pub parts : book.parts + n.count ≡ whole
   pub some_part : 0 < book.parts
   pub chunks : (g : ℕ → ℕ) → weigh (of_entry g) book.gave + weigh (of_part g) s.left ≡ weigh g n.chunks
   pub told : AreTold s.drawn book.gave
   pub undrawn : AreUndrawn s.drawn s.left
   pub apart : AreApart s.left
+  pub once : AreOnce n.chunks

@@ -1,5 +1,5 @@
 -- Nothing is lost, and nothing is there twice.
-use Rattle.std.specs.Prelude.{◌≡◌, ℕ, ◌+◌, List, length, Option, Some, slice_get}
+use Rattle.std.specs.Prelude.{◌≡◌, ℕ, ◌+◌, ◌≤◌, List, length, Option, Some, slice_get}
 use Rattle.region_cut.specs.Carved.{Carved}
 use Rattle.region_cut.specs.declared.slot.Slot.{Slot}
 use Rattle.region_cut.specs.declared.part.Part.{Part}
@@ -21,6 +21,10 @@ pub record IsWhole
       → weigh (held h) desks + weigh (of_batch h) batches + weigh (of_buffer h) lent
       ≡ weigh (owed h) desks + weigh (of_buffer h) freed
   pub chunks : (g : ℕ → ℕ) → weigh (drawn_by g) desks + weigh (of_part g) parts ≡ weigh g chunks_there
+
+-- However slots are weighed: what was freed weighs at most what was lent. So no slot was freed more often than it was lent.
+abbrev pub FreesNoMore : List Buffer → List Buffer → Type 0
+FreesNoMore lent freed = (h : Slot → ℕ) → weigh (of_buffer h) freed ≤ weigh (of_buffer h) lent
 
 -- These are the desks of the stations, all that they lent and all that was freed to them, and nothing else, however
 -- desks and buffers are weighed.

@@ -4,11 +4,13 @@ ghost use Rattle.std.specs.Prelude.{IsPermutation, IfOk, IfErr, MatchOption};
 ghost use Rattle.pool_fabric.specs.Names.{box_at};
 ghost use Rattle.pool_fabric.specs.Ledgers.{whole};
 ghost use Rattle.pool_fabric.specs.Accounts.{of_part, of_entry};
+ghost use Rattle.pool_fabric.specs.Audited.{slots_found};
+ghost use Rattle.pool_fabric.specs.Losses.{FindsAtMostOnce};
 ghost use Rattle.pool_fabric.specs.Weights.{weigh};
 ghost use Rattle.pool_fabric.specs.Stations.{StationState};
 ghost use Rattle.pool_fabric.specs.Stocks.{AreTold};
 ghost use Rattle.pool_fabric.specs.Faults.{LacksNumber, IsGatherFault};
-ghost use Rattle.pool_fabric.specs.Whole.{IsWhole, IsAllOf, IsEachDesk, AreNoted};
+ghost use Rattle.pool_fabric.specs.Whole.{IsWhole, FreesNoMore, IsAllOf, IsEachDesk, AreNoted};
 
 use crate::error::GatherError;
 use crate::fabric::Fabric;
@@ -91,6 +93,7 @@ fn add_all<'r, T: Receiver, S: Sender, J: Naming, R: Wait>(
     requires columns { columns ≡ J.names.count }
     requires page { (page.key ≡ J.names.ledger) × (page.got ≡ []) × (0 < page.parts)
         × (page.parts + J.names.count ≡ whole) }
+    requires loans { (page.loans ≡ J.names.loans) × (page.lent ≡ []) × (page.freed ≡ []) }
     ensures columns { IfOk result (λ g.
         (g.columns ≡ columns) × (length g.takes ≡ columns) × (length g.rows ≡ columns)) }
     ensures page { IfOk result (λ g. (g.page.parts ≡ whole) × (g.page.gave ≡ page.gave)) }
@@ -158,6 +161,7 @@ impl<'r, T: Receiver, S: Sender, J: Naming> Gathered<'r, T, S, J> {
         requires told { AreTold stock.drawn self.page.gave }
         ensures whole { IsWhole result.desks.items result.batches.items result.lent.items result.freed.items
             result.parts.items J.names.chunks }
+        ensures bounded { FreesNoMore result.lent.items result.freed.items }
         ensures desks { IsEachDesk J.names.count result.desks.items }
         ensures same { (result.desks.items ≡ self.entry.desks) × (result.lent.items ≡ self.entry.lent)
             × (result.freed.items ≡ self.entry.freed) }
@@ -232,7 +236,9 @@ pub fn gather<
 ) -> Result<Found<'r>, GatherError<'r>>
     ensures whole { IfOk result (λ f.
         IsWhole f.desks.items f.batches.items f.lent.items f.freed.items f.parts.items J.names.chunks) }
+    ensures bounded { IfOk result (λ f. FreesNoMore f.lent.items f.freed.items) }
     ensures desks { IfOk result (λ f. IsEachDesk J.names.count f.desks.items) }
+    ensures once { IfOk result (λ f. FindsAtMostOnce f.drawn (slots_found f.desks.items f.batches.items)) }
     ensures stations { IfOk result (λ f. (others : List StationState)
         × IsAllOf (held.entry.items ++ others) f.desks.items f.lent.items f.freed.items) }
     ensures drawn { IfOk result (λ f. AreNoted f.desks.items f.drawn) }

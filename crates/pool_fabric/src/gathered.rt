@@ -66,7 +66,8 @@ impl<'r, T: Receiver, S: Sender, J: Naming> Model for Gathered<'r, T, S, J> {
 impl<'r, T: Receiver, S: Sender, J: Naming> Gathered<'r, T, S, J> {
     /// Nothing yet, with the page of the stock.
     pub(crate) fn new(alloc: Global, columns: usize, page: Page) -> Gathered<'r, T, S, J>
-        requires { (page.key ≡ J.names.ledger) × (page.got ≡ []) }
+        requires page { (page.key ≡ J.names.ledger) × (page.got ≡ []) }
+        requires loans { (page.loans ≡ J.names.loans) × (page.lent ≡ []) × (page.freed ≡ []) }
         ensures { result ≡ record {
           columns = columns;
           desks = [];

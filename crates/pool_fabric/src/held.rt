@@ -6,16 +6,18 @@ ghost use Rattle.pool_desk.specs.Desks.{profile_at};
 ghost use Rattle.pool_desk.specs.HomesState.{HasClass};
 ghost use Rattle.pool_fabric.specs.Calls.{Lends, LendsClass, TakesAllBack, TakesBack};
 
+use crate::buffer::Buffer;
 use crate::ledger::Page;
 use crate::named::Named;
 use crate::naming::Naming;
 use crate::notes::Notes;
+use crate::parcel::Parcel;
 use crate::station::Station;
 use batch_inbox::{Receiver, Sender};
 use digit_route::Digits;
 use pool_desk::{Desk, DeskError, Freed};
 use region_cut::Class;
-use slot_chain::{Buf, BufParcel, NoMemory};
+use slot_chain::{Buf, NoMemory};
 use std::alloc::Global;
 use std::fmt;
 use std::marker::Model;
@@ -93,51 +95,57 @@ impl<'r, T: Receiver, S: Sender, J: Naming> HeldStation<'r, T, S, J> {
 
     /// Gives out a buffer of at least `size` bytes, as [`Desk::alloc`] does.
     #[inline(always)]
-    pub fn alloc(&mut self, alloc: Global, size: usize) -> Result<Buf<'r>, DeskError>
+    pub fn alloc(&mut self, alloc: Global, size: usize) -> Result<Buffer<'r, J>, DeskError>
         ensures { Lends self.old size result self.new }
     {
         let buf = self.desk.alloc(alloc, size)?;
         self.lent = self.lent.and(&buf);
-        Ok(buf)
+        let receipt = self.page.lend(buf.slot());
+        Ok(Buffer::new(buf, receipt))
     }
 
     /// Gives out a buffer of this class, as [`Desk::alloc_class`] does.
     #[inline(always)]
-    pub fn alloc_class(&mut self, alloc: Global, class: Class) -> Result<Buf<'r>, DeskError>
+    pub fn alloc_class(&mut self, alloc: Global, class: Class) -> Result<Buffer<'r, J>, DeskError>
         requires { class < classes_of (profile_at self.old.desk) }
         ensures { LendsClass self.old class result self.new }
     {
         let buf = self.desk.alloc_class(alloc, class)?;
         self.lent = self.lent.and(&buf);
-        Ok(buf)
+        let receipt = self.page.lend(buf.slot());
+        Ok(Buffer::new(buf, receipt))
     }
 
     /// Takes a buffer back, as [`Desk::free`] does.
     #[inline(always)]
-    pub fn free(&mut self, buf: Buf<'r>) -> Freed
-        requires { buf.owner < 2 ^ self.old.desk.digits.bits }
-        ensures { TakesBack self.old buf.entry result self.new }
+    pub fn free(&mut self, buffer: Buffer<'r, J>) -> Freed
+        ensures { TakesBack self.old buffer.entry result self.new }
     {
+        let (buf, receipt) = buffer.into_parts();
         self.freed = self.freed.and(&buf);
+        self.page.take_back(receipt);
         self.desk.free(buf)
     }
 
     /// Takes all buffers of a parcel back, as [`Desk::free_all`] does.
-    pub fn free_all(&mut self, parcel: BufParcel<'r>) -> Freed
-        requires { parcel.owner < 2 ^ self.old.desk.digits.bits }
+    pub fn free_all(&mut self, parcel: Parcel<'r, J>) -> Freed
         ensures { TakesAllBack self.old parcel.entry result self.new }
     {
+        let (parcel, receipt) = parcel.into_parts();
         self.freed = self.freed.and_all(parcel.buffers());
+        self.page.take_back(receipt);
         self.desk.free_all(parcel)
     }
 
     /// An empty parcel for the desk's buffers, as [`Desk::parcel`] gives it.
-    pub fn parcel(&mut self, alloc: Global, places: usize) -> Result<BufParcel<'r>, NoMemory>
+    pub fn parcel(&mut self, alloc: Global, places: usize) -> Result<Parcel<'r, J>, NoMemory>
         ensures same { self.new ≡ self.old }
         ensures value { IfOk result (λ p.
             (p ≡ record { owner = self.old.desk.number; places = p.places; items = [] }) × (places ≤ p.places)) }
     {
-        self.desk.parcel(alloc, places)
+        let parcel = self.desk.parcel(alloc, places)?;
+        let receipt = self.page.blank();
+        Ok(Parcel::new(parcel, receipt))
     }
 
     /// Makes room for the pointers to others' buffers that will be freed here, as [`Desk::make_room`]

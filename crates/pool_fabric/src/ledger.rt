@@ -1,17 +1,20 @@
-//! Who has which chunk, over all threads.
+//! Who has which chunk, and who was lent which slot, over all threads.
 //!
 //! The stock gives chunks out and desks get them, in any order and in any thread. A [`Ledger`] keeps
-//! that what was given is what was got, each chunk for its class. It is a token's matter alone: pages
+//! that what was given is what was got, each chunk for its class. Desks lend slots and take them back, and
+//! a page keeps its station's part of a ledger of loans beside that. It is a token's matter alone: pages
 //! take no memory, and what is written on them only contracts see.
-ghost use Rattle.std.specs.Prelude.{◌≡◌, ℕ, ◌+◌, ◌-◌, ◌<◌, [], ◌∷◌, ◌++◌, IfOk};
+ghost use Rattle.std.specs.Prelude.{◌≡◌, ℕ, ◌+◌, ◌-◌, ◌<◌, ◌≤◌, [], ◌∷◌, ◌++◌, IfOk};
+ghost use Rattle.region_cut.specs.declared.slot.Slot.{Slot};
 ghost use Rattle.pool_fabric.specs.Ledgers.{whole};
 ghost use Rattle.pool_fabric.specs.declared.ledger.DrawnChunk.{DrawnChunk};
-ghost use Rattle.pool_fabric.specs.Pages.{PageState, drawn_for};
+ghost use Rattle.pool_fabric.specs.Pages.{PageState, drawn_for, new_page};
 ghost use Rattle.pool_fabric.specs.Weights.{weigh};
 
 use crossbeam_queue::protocol::{Join, Lesson, Protocol, Split};
 use crossbeam_queue::{RuledSegQueue, SegPass};
-use region_cut::Class;
+use loan_ledger::{Loans, Receipt};
+use region_cut::{Class, Slot};
 use slot_chain::NoMemory;
 use std::alloc::Global;
 use std::collections::LinkedList;
@@ -147,10 +150,11 @@ impl Drop for Ledger {
     }
 }
 
-/// What one holder gave and got, and its parts of the right to know the whole.
+/// What one holder gave and got, lent and took back, and its parts of the right to know the whole.
 #[derive(Drop)]
 pub struct Page {
     pass: Pass,
+    loans: Loans,
 }
 
 impl Model for Page {
@@ -161,45 +165,57 @@ impl Model for Page {
 
     ghost view = { λ p. record {
       key = key_of p.pass.web;
+      loans = p.loans.ledger;
       parts = p.pass.me.view.client.parts;
       gave = p.pass.me.view.client.gave;
       got = p.pass.me.view.client.got;
+      lent = p.loans.lent;
+      freed = p.loans.freed;
     } };
 
-    ghost invariant = { λ p. (p.pass.me.hand ≡ None) × (p.pass.me.spare ≡ None) };
+    ghost invariant = { λ p. (p.pass.me.hand ≡ None) × (p.pass.me.spare ≡ None)
+        × (p.loans.parts ≡ p.pass.me.view.client.parts) };
 }
 
 impl Ledger {
     /// A new ledger, with the page that has every part.
     pub fn new(alloc: Global) -> Result<(Ledger, Page), NoMemory>
-        ensures { IfOk result (λ r. r.1 ≡ record { key = r.0; parts = whole; gave = []; got = [] }) }
+        ensures { IfOk result (λ r. r.1 ≡ new_page r.0 r.1.loans whole) }
     {
         let (queue, pass) = Line::with_rule(alloc)?;
-        Ok((Ledger { queue }, Page { pass }))
+        let loans = Loans::open();
+        Ok((Ledger { queue }, Page { pass, loans }))
     }
 
     /// Another page, with one part.
     pub fn split(&self, page: &mut Page) -> Page
         requires { (page.old.key ≡ self.now) × (1 < page.old.parts) }
         ensures left { page.new ≡ record page.old { parts = page.old.parts - 1 } }
-        ensures right { result ≡ record { key = page.old.key; parts = 1; gave = []; got = [] } }
+        ensures right { result ≡ new_page page.old.key page.old.loans 1 }
     {
+        let loans = page.loans.split();
         Page {
             pass: self.queue.another::<Cut>(&mut page.pass),
+            loans,
         }
     }
 
     /// Takes in the page of a holder that has ended.
     pub fn join(&self, page: &mut Page, other: Page)
-        requires { (page.old.key ≡ self.now) × (other.key ≡ self.now) × (0 < page.old.parts) }
+        requires chunks { (page.old.key ≡ self.now) × (other.key ≡ self.now) × (0 < page.old.parts) }
+        requires loans { other.loans ≡ page.old.loans }
         ensures { page.new ≡ record {
           key = page.old.key;
+          loans = page.old.loans;
           parts = page.old.parts + other.parts;
           gave = page.old.gave ++ other.gave;
           got = page.old.got ++ other.got;
+          lent = page.old.lent ++ other.lent;
+          freed = page.old.freed ++ other.freed;
         } }
     {
-        let Page { pass } = other;
+        let Page { pass, loans } = other;
+        page.loans.join(loans);
         self.queue.absorb::<Cut>(&mut page.pass, pass);
     }
 
@@ -228,12 +244,14 @@ impl Ledger {
         page.pass = self.queue.another::<Deals<K>>(&mut book.pass);
     }
 
-    /// With every part: all that was given was got.
+    /// With every part: all that was given was got, and no slot was taken back more often than it was lent.
     pub fn close<R: Wait>(&self, rt: &R, page: &mut Page)
         requires { (page.old.key ≡ self.now) × (page.old.parts ≡ whole) }
         ensures page { page.new ≡ page.old }
         ensures all { (g : DrawnChunk → ℕ) → weigh g page.new.gave ≡ weigh g page.new.got }
+        ensures bounded { (h : Slot → ℕ) → weigh h page.new.freed ≤ weigh h page.new.lent }
     {
+        page.loans.audit();
         self.queue.len_as::<Ends, R>(rt, &mut page.pass);
     }
 
@@ -241,9 +259,40 @@ impl Ledger {
     pub(crate) fn exclude<R: Wait>(&self, rt: &R, page: &mut Page, other: Page)
         requires page { (page.old.key ≡ self.now) × (page.old.parts ≡ whole) }
         requires other { (other.key ≡ self.now) × (0 < other.parts) }
+        requires loans { other.loans ≡ page.old.loans }
         ensures { ⊥ }
     {
         self.join(page, other);
         self.queue.len_as::<Bounds, R>(rt, &mut page.pass);
+    }
+}
+
+impl Page {
+    /// The slot is lent. Who has the receipt can show it, and nobody else can give the slot back.
+    #[inline(always)]
+    pub fn lend(&mut self, slot: Slot) -> Receipt
+        requires { 0 < self.old.parts }
+        ensures page { self.new ≡ record self.old { lent = self.old.lent ++ slot ∷ [] } }
+        ensures receipt { result ≡ record { ledger = self.old.loans; slots = slot ∷ [] } }
+    {
+        self.loans.lend(slot)
+    }
+
+    /// Takes back the slots of a receipt, whoever lent them.
+    #[inline(always)]
+    pub fn take_back(&mut self, receipt: Receipt)
+        requires { (receipt.ledger ≡ self.old.loans) × (0 < self.old.parts) }
+        ensures { self.new ≡ record self.old { freed = self.old.freed ++ receipt.slots } }
+    {
+        self.loans.take_back(receipt);
+    }
+
+    /// A receipt of no slot.
+    #[inline(always)]
+    pub fn blank(&mut self) -> Receipt
+        ensures same { self.new ≡ self.old }
+        ensures receipt { result ≡ record { ledger = self.old.loans; slots = [] } }
+    {
+        self.loans.blank()
     }
 }

@@ -11,6 +11,7 @@
 #![tactic(auto)]
 
 mod boxes;
+mod buffer;
 mod column;
 mod drained;
 mod error;
@@ -25,6 +26,7 @@ mod named;
 mod naming;
 mod notes;
 mod opening;
+mod parcel;
 mod row;
 mod shelf;
 mod shelving;
@@ -33,6 +35,7 @@ mod stock;
 mod store;
 mod work;
 
+pub use buffer::Buffer;
 pub use error::GatherError;
 pub use fabric::{Fabric, MOST_TAKEN};
 pub use found::{Found, gather};
@@ -44,6 +47,7 @@ pub use named::Named;
 pub use naming::Naming;
 pub use notes::Notes;
 pub use opening::Opening;
+pub use parcel::Parcel;
 pub use shelf::{SHELF_ROOM, Shelf};
 pub use station::Station;
 pub use stock::Stock;

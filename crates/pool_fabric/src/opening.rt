@@ -38,10 +38,10 @@ impl<'r, M: Mailbox, T: Receiver, S: Sender> Model for Opening<'r, M, T, S> {
 
     ghost Value = { Names };
 
-    ghost view = { λ o. names_of (map M.id o.boxes.inboxes.items) o.digits o.limit o.ledger o.stock.left };
+    ghost view = { λ o. names_of (map M.id o.boxes.inboxes.items) o.digits o.limit o.ledger o.book.loans o.stock.left };
 
     ghost invariant = { λ o. IsOpening
-        (names_of (map M.id o.boxes.inboxes.items) o.digits o.limit o.ledger o.stock.left)
+        (names_of (map M.id o.boxes.inboxes.items) o.digits o.limit o.ledger o.book.loans o.stock.left)
         (map M.id o.boxes.inboxes.items)
         (map (taking_of T.inbox T.senders T.taken) o.boxes.takes.items)
         o.boxes.columns.items o.book o.stock };

@@ -3,6 +3,7 @@ ghost use Rattle.std.specs.Prelude.{◌≡◌, ℕ, ◌+◌, ◌<◌, ◌≤◌,
 ghost use Rattle.digit_route.specs.Limits.{largest_limit};
 ghost use Rattle.pool_fabric.specs.Ledgers.{whole};
 ghost use Rattle.pool_fabric.specs.Names.{box_at};
+ghost use Rattle.pool_fabric.specs.Pages.{new_page};
 ghost use Rattle.pool_fabric.specs.Opened.{AreColumns, AreNewTakes, most_desks};
 ghost use Rattle.pool_fabric.specs.Gathered.{taking_of};
 ghost use Rattle.pool_fabric.specs.Seats.{seat_of, AreSeatsBy, NoneSent};
@@ -92,7 +93,7 @@ fn new_station<'r, T: Receiver, S: Sender, J: Naming>(
     requires seats { AreSeatsBy J.names number (map (seat_of S.inbox S.number S.sent S.resting) seats.items)
         × (length seats.items ≡ J.names.count)
         × NoneSent (map (seat_of S.inbox S.number S.sent S.resting) seats.items) }
-    requires page { page ≡ record { key = J.names.ledger; parts = 1; gave = []; got = [] } }
+    requires page { page ≡ new_page J.names.ledger J.names.loans 1 }
 {
     let desk = new_desk(number, digits, limit);
     Station::new(alloc, desk, take, seats, page)
@@ -114,10 +115,9 @@ fn shelved<'r, T: Receiver, S: Sender, J: Naming>(
     requires limit { limit ≤ largest_limit }
     requires takes { AreNewTakes J.names (map (taking_of T.inbox T.senders T.taken) takes.items) }
     requires columns { AreColumns J.names J.names.count columns.items × (length columns.items ≡ J.names.count) }
-    requires book { (book.old.key ≡ ledger.now) × (book.old.parts ≡ whole) × (book.old.gave ≡ [])
-        × (book.old.got ≡ []) }
-    ensures book { IfOk result (λ s. (book.new.key ≡ ledger.now) × (book.new.parts + J.names.count ≡ whole)
-        × (book.new.gave ≡ []) × (book.new.got ≡ [])) }
+    requires book { book.old ≡ new_page ledger.now J.names.loans whole }
+    ensures book { IfOk result (λ s. (book.new ≡ new_page ledger.now J.names.loans book.new.parts)
+        × (book.new.parts + J.names.count ≡ whole)) }
     ensures shelf { IfOk result (λ s. length s ≡ J.names.count) }
 {
     let mut shelf = Shelf::new(alloc)?;

@@ -1,6 +1,7 @@
 //! A desk that nobody holds, with its seats.
-ghost use Rattle.std.specs.Prelude.{◌≡◌, [], length, map, IfOk};
+ghost use Rattle.std.specs.Prelude.{◌≡◌, ◌^◌, ◌<◌, [], length, map, IfOk};
 ghost use Rattle.pool_fabric.specs.Names.{box_at};
+ghost use Rattle.pool_fabric.specs.Pages.{new_page};
 ghost use Rattle.pool_fabric.specs.Seats.{seat_of, AreSeatsBy, NoneSent};
 ghost use Rattle.pool_fabric.specs.Stations.{resting};
 
@@ -74,6 +75,7 @@ impl<'r, T: Receiver, S: Sender, J: Naming> Station<'r, T, S, J> {
         seats: Vec<S>,
         page: Page,
     ) -> Result<Station<'r, T, S, J>, NoMemory>
+        requires number { desk.number < 2 ^ J.names.digits.bits }
         requires desk { (desk.home ≡ []) × (desk.drawn ≡ []) }
         requires profile { (desk.digits ≡ J.names.digits) × (desk.limit ≡ J.names.limit) }
         requires take { (T.inbox take ≡ box_at J.names desk.number) × (T.senders take ≡ J.names.count)
@@ -81,7 +83,7 @@ impl<'r, T: Receiver, S: Sender, J: Naming> Station<'r, T, S, J> {
         requires seats { AreSeatsBy J.names desk.number (map (seat_of S.inbox S.number S.sent S.resting) seats.items)
             × (length seats.items ≡ J.names.count)
             × NoneSent (map (seat_of S.inbox S.number S.sent S.resting) seats.items) }
-        requires page { page ≡ record { key = J.names.ledger; parts = 1; gave = []; got = [] } }
+        requires page { page ≡ new_page J.names.ledger J.names.loans 1 }
         ensures desk { IfOk result (λ s. s.desk ≡ resting desk.entry) }
         ensures notes { IfOk result (λ s. (s.lent ≡ []) × (s.freed ≡ [])) }
     {

@@ -1,6 +1,7 @@
 //! What lies under the stock's lock.
 ghost use Rattle.std.specs.Prelude.{◌≡◌, ℕ, ◌+◌, ◌<◌, [], ◌∷◌, ◌++◌, MatchOption};
 ghost use Rattle.pool_fabric.specs.Ledgers.{whole};
+ghost use Rattle.pool_fabric.specs.Losses.{AreOnce};
 ghost use Rattle.pool_fabric.specs.Stocks.{GivesPart, IsFull};
 ghost use Rattle.pool_fabric.specs.Pages.{drawn_for};
 ghost use Rattle.pool_fabric.specs.Accounts.{of_part};
@@ -34,10 +35,12 @@ impl<'r, J: Naming> Model for Store<'r, J> {
 impl<'r, J: Naming> Store<'r, J> {
     /// The store of a full stock.
     pub(crate) fn new(stock: Stock<'r>, book: Page) -> Store<'r, J>
-        requires book { (book.key ≡ J.names.ledger) × (book.gave ≡ []) × (book.got ≡ [])
+        requires book { (book.key ≡ J.names.ledger) × (book.loans ≡ J.names.loans) × (book.gave ≡ []) × (book.got ≡ [])
+            × (book.lent ≡ []) × (book.freed ≡ [])
             × (book.parts + J.names.count ≡ whole) × (0 < book.parts) }
         requires chunks { (g : ℕ → ℕ) → weigh (of_part g) stock.left ≡ weigh g J.names.chunks }
         requires full { IsFull stock }
+        requires once { AreOnce J.names.chunks }
         ensures { result ≡ stock.entry }
     {
         Store {

@@ -1,3 +1,4 @@
+pub mod Accounts
 pub mod Adding
 pub mod Looking
 pub mod Largest

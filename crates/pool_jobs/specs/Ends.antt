@@ -1,21 +1,27 @@
 -- What is told when all work has ended.
-use Rattle.std.specs.Prelude.{ℕ, List, ◌++◌, Result}
-use Rattle.region_cut.specs.declared.slot.Slot.{Slot}
-use Rattle.digit_route.specs.States.{BatchState}
+use Rattle.std.specs.Prelude.{◌≡◌, ℕ, ◌+◌, List, length, Result}
 use Rattle.slot_audit.specs.declared.fault.Fault.{Fault}
-use Rattle.pool_desk.specs.Desks.{DeskState}
-use Rattle.pool_fabric.specs.Audited.{Audited, listed, held_slots, batch_slots}
-use Rattle.pool_fabric.specs.Whole.{IsWhole, IsEachDesk, AreNoted}
+use Rattle.pool_fabric.specs.Weights.{weigh}
+use Rattle.pool_fabric.specs.Accounts.{owed}
+use Rattle.pool_fabric.specs.Audited.{Audited, slots_found}
+use Rattle.pool_fabric.specs.Losses.{FindsAtMostOnce, TellsLosses, TellsNone}
+use Rattle.pool_fabric.specs.Whole.{IsWhole, FreesNoMore, IsEachDesk, AreNoted}
 use Rattle.pool_fabric.specs.declared.found.Found.{Found}
-
--- the slots of all desks and of all batches that were still in an inbox
-abbrev pub slots_found : List DeskState → List BatchState → List Slot
-slots_found desks batches = listed held_slots desks ++ listed batch_slots batches
 
 -- Of a pool of these chunks with so many desks nothing is lost, and nothing is there twice; each desk is found once;
 -- the chunks told as drawn are those that the desks drew; and the audit is that of the slots found.
+--
+-- No slot was freed more often than it was lent, so each slot of a drawn chunk is found at most once, and no other.
+-- A slot that the audit names was lent more often than it was freed, and where as many buffers were freed as were lent
+-- it names none. As many slots of the drawn chunks are missing as buffers were lent and not freed.
 pub record IsAccounted (chunks : List ℕ) (count : ℕ) (found : Found) (audit : Result (Unit {0}) Fault) : Type 0 where
   pub whole : IsWhole found.desks.items found.batches.items found.lent.items found.freed.items found.parts.items chunks
   pub desks : IsEachDesk count found.desks.items
   pub drawn : AreNoted found.desks.items found.drawn
   pub audited : Audited (slots_found found.desks.items found.batches.items) found.drawn audit
+  pub bounded : FreesNoMore found.lent.items found.freed.items
+  pub once : FindsAtMostOnce found.drawn (slots_found found.desks.items found.batches.items)
+  pub losses : TellsLosses found.lent.items found.freed.items audit
+  pub balanced : length found.freed.items ≡ length found.lent.items → TellsNone audit
+  pub counted : length (slots_found found.desks.items found.batches.items) + length found.lent.items
+      ≡ weigh (owed (λ _. 1)) found.desks.items + length found.freed.items

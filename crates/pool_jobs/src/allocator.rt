@@ -6,14 +6,12 @@ ghost use Rattle.pool_fabric.specs.Limits.{most_taken};
 ghost use Rattle.pool_jobs.specs.Serving.{IsClassFor, Keeps, SameDesk, Serves, ServesClass};
 ghost use Rattle.pool_jobs.specs.declared.error.PoolError.TheVariants.{TooLarge, UsedUp};
 
-use crate::buffers::buffer::Buffer;
-use crate::buffers::parcel::Parcel;
 use crate::error::PoolError;
 use crate::gate::Gate;
 use crate::waiting::Pauses;
 use batch_inbox::{Mail, Mailbox, Receiver, Sender};
 use pool_desk::{DeskError, Freed};
-use pool_fabric::{Fabric, HeldStation, Naming};
+use pool_fabric::{Buffer, Fabric, HeldStation, Naming, Parcel};
 use region_cut::Class;
 use slot_chain::NoMemory;
 use std::alloc::Global;
@@ -151,7 +149,7 @@ impl<
     {
         let answer = self.station.alloc_class(self.alloc, class);
         match answer {
-            Ok(buf) => Ok(Buffer::new(buf)),
+            Ok(buffer) => Ok(buffer),
             Err(DeskError::NeedChunk(_)) => Err(PoolError::UsedUp),
             Err(DeskError::NoMemory) => Err(PoolError::NoMemory),
             Err(_) => unreachable!(),
@@ -322,10 +320,9 @@ impl<
         ensures lent { self.new.lent ≡ self.old.lent }
         ensures freed { self.new.freed ≡ self.old.freed ++ buffer.entry ∷ [] }
     {
-        let buf = buffer.into_buf();
         let call = self.next_call();
         self.gate.before(self.worker, call);
-        let freed = self.station.free(buf);
+        let freed = self.station.free(buffer);
         self.gate.after(self.worker, call);
         if let Freed::Due = freed {
             self.post_again(rt);
@@ -340,8 +337,7 @@ impl<
         ensures value { IfOk result (λ p.
             (p ≡ record { owner = self.old.desk.number; places = p.places; items = [] }) × (places ≤ p.places)) }
     {
-        let parcel = self.station.parcel(self.alloc, places)?;
-        Ok(Parcel::new(parcel))
+        self.station.parcel(self.alloc, places)
     }
 
     /// Takes back all buffers of a parcel, and posts all that is cached where that is due, as
@@ -352,10 +348,9 @@ impl<
         ensures lent { self.new.lent ≡ self.old.lent }
         ensures freed { self.new.freed ≡ self.old.freed ++ parcel.entry.items }
     {
-        let packed = parcel.into_packed();
         let call = self.next_call();
         self.gate.before(self.worker, call);
-        let freed = self.station.free_all(packed);
+        let freed = self.station.free_all(parcel);
         self.gate.after(self.worker, call);
         if let Freed::Due = freed {
             self.post_again(rt);

@@ -10,14 +10,12 @@ ghost use Rattle.pool_jobs.specs.Counted.{Counts, none_counted};
 ghost use Rattle.pool_jobs.specs.Serving.{Keeps, SameDesk, Serves};
 
 use crate::allocator::Allocator;
-use crate::buffers::buffer::Buffer;
-use crate::buffers::parcel::Parcel;
 use crate::error::PoolError;
 use crate::gate::Gate;
 use crate::tally::BufferCounts;
 use crate::tasks::heap::Heap;
 use batch_inbox::{Mail, Mailbox, Receiver, Sender};
-use pool_fabric::{HeldStation, Naming};
+use pool_fabric::{Buffer, HeldStation, Naming, Parcel};
 use slot_chain::NoMemory;
 use std::sync::Wait;
 use std::time::{Clock, Duration};

@@ -24,16 +24,15 @@ mod waiting;
 mod workloads;
 
 pub use allocator::Allocator;
-pub use buffers::buffer::Buffer;
 pub use buffers::burst::Burst;
 pub use buffers::bytes::Bytes;
 pub use buffers::data::Data;
-pub use buffers::parcel::Parcel;
 pub use entrance::Entrance;
 pub use error::{JobError, PoolError};
 pub use gate::{Gate, NoGate};
 pub use over_inbox::{run, work};
 pub use over_link::{run_linked, work_linked};
+pub use pool_fabric::{Buffer, Parcel};
 pub use report::{RunReport, WorkReport, settle};
 pub use tally::{BufferCounts, Tally};
 pub use tasks::channels::{Channels, Message, Unsent};

@@ -37,7 +37,9 @@ pub struct RunReport<'r, A: Drop> {
 /// the shelf, those that [`Allocator::retire`](crate::Allocator::retire) gave back, and what is left
 /// in every inbox.
 ///
-/// Whatever the schedule was, nothing is lost and nothing is there twice. Where a station is missing
+/// Whatever the schedule was, nothing is lost and nothing is there twice. Each slot of a drawn chunk is found
+/// at most once, and no other slot. The audit names a slot as missing only where it was lent more often than
+/// it was freed; where as many buffers were freed as were lent, all is well. Where a station is missing
 /// the answer is [`GatherError::Missing`], with the number of its desk and all that the others have.
 #[inline(never)]
 pub fn settle<

@@ -9,9 +9,8 @@ use crate::tests::two_stations::{
 use batch_inbox::{SendSeat, TakeSeat};
 use memory_marks::{Mark, set};
 use pool_desk::Freed;
-use pool_fabric::{Naming, Shelf};
-use region_cut::{Class, Profile};
-use slot_chain::{Buf, BufParcel};
+use pool_fabric::{Buffer, Naming, Parcel, Shelf};
+use region_cut::Class;
 use std::alloc::Global;
 use std::marker::Brand;
 use std::process::Abort;
@@ -27,29 +26,30 @@ enum Play {
 }
 
 // What becomes of a freed buffer.
-fn free_is<'r, J: Naming>(rt: &impl Abort, station: &mut Held<'r, J>, buf: Buf<'r>, want: Freed) {
-    match station.digits().profile() {
-        Profile::Pool => assert!(rt; buf.owner() < 64),
-        Profile::Pool2 => assert!(rt; buf.owner() < 4096),
-    }
-    assert!(rt; station.free(buf) == want);
+fn free_is<'r, J: Naming>(
+    rt: &impl Abort,
+    station: &mut Held<'r, J>,
+    buffer: Buffer<'r, J>,
+    want: Freed,
+) {
+    assert!(rt; station.free(buffer) == want);
 }
 
 fn free_all_is<'r, J: Naming>(
     rt: &impl Abort,
     station: &mut Held<'r, J>,
-    parcel: BufParcel<'r>,
+    parcel: Parcel<'r, J>,
     want: Freed,
 ) {
-    match station.digits().profile() {
-        Profile::Pool => assert!(rt; parcel.owner() < 64),
-        Profile::Pool2 => assert!(rt; parcel.owner() < 4096),
-    }
     assert!(rt; station.free_all(parcel) == want);
 }
 
 // The slot that came home last is lent again.
-fn lend_again<'r, J: Naming>(rt: &impl Abort, alloc: Global, station: &mut Held<'r, J>) -> Buf<'r> {
+fn lend_again<'r, J: Naming>(
+    rt: &impl Abort,
+    alloc: Global,
+    station: &mut Held<'r, J>,
+) -> Buffer<'r, J> {
     assert!(rt; station.has_home(Class::FIRST));
     station.alloc(alloc, 16).ok().expect(rt, "one came home")
 }
@@ -59,10 +59,10 @@ fn go_round<'r, J: Naming>(
     rt: &impl Abort,
     alloc: Global,
     station: &mut Held<'r, J>,
-    buf: Buf<'r>,
+    buffer: Buffer<'r, J>,
 ) {
-    let slot = buf.slot();
-    free_is(rt, station, buf, Freed::Home);
+    let slot = buffer.slot();
+    free_is(rt, station, buffer, Freed::Home);
     let again = lend_again(rt, alloc, station);
     assert!(rt; again.slot() == slot);
     free_is(rt, station, again, Freed::Home);
@@ -89,7 +89,7 @@ fn packed<'r, J: Naming, R: Abort + Wait>(
     alloc: Global,
     fabric: &Over<'r, J>,
     station: &mut Held<'r, J>,
-) -> Option<BufParcel<'r>> {
+) -> Option<Parcel<'r, J>> {
     let mut parcel = station.parcel(alloc, 1).ok()?;
     let buf = lend(rt, alloc, fabric, station, 16)?;
     assert!(rt; parcel.push(buf).is_ok());

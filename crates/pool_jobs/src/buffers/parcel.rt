@@ -1,143 +1,10 @@
-//! Buffers of one allocator of a pool.
-ghost use Rattle.std.specs.Prelude.{◌≡◌, ◌<◌, ◌≤◌, ◌^◌, ◌↔◌, [], ◌∷◌, ◌++◌, length, map, IsTrue, MatchOption, MatchResult};
-ghost use Rattle.std.specs.Prelude.{Some, slice_get};
-ghost use Rattle.std.specs.Fn.{FnOnceReturnsAtMut};
-ghost use Rattle.region_cut.specs.Classes.{size_of};
-ghost use Rattle.slot_chain.specs.Filling.{data_of, holding};
-ghost use Rattle.slot_chain.specs.Parcels.{EditsAt, KeepsOut, Packs};
+//! A pool's parcel, as a task sees it.
+ghost use Rattle.std.specs.Prelude.{map};
+ghost use Rattle.slot_chain.specs.Filling.{data_of};
 
-use crate::buffers::buffer::Buffer;
 use crate::buffers::burst::Burst;
-use pool_fabric::Naming;
-use slot_chain::{Buf, BufParcel};
-use std::fmt;
-use std::marker::{Model, PhantomData};
-
-/// Buffers of one allocator of the pool that `J` names, which go from thread to thread and are freed as
-/// a whole, by [`Allocator::free_all`](crate::Allocator::free_all). The thread that frees them looks at
-/// none of them, as [`slot_chain::BufParcel`] says.
-///
-/// Its type keeps that its owner is one of the pool, so each allocator of the pool may free it, and no
-/// other. It may be dropped: its slots are then lost until the region's borrow ends, and the audit names
-/// them.
-#[must_use]
-#[derive(Drop)]
-pub struct Parcel<'r, J: Naming> {
-    parcel: BufParcel<'r>,
-    of: PhantomData<J>,
-}
-
-impl<'r, J: Naming> Model for Parcel<'r, J> {
-    ghost use Rattle.std.specs.Prelude.{◌<◌, ◌^◌};
-    ghost use Rattle.slot_chain.specs.Parcels.{ParcelState};
-
-    ghost Value = { ParcelState };
-
-    ghost view = { λ p. p.parcel };
-
-    ghost invariant = { λ p. p.parcel.owner < 2 ^ J.names.digits.bits };
-}
-
-impl<'r, J: Naming> Parcel<'r, J> {
-    /// The parcel, as one of the pool.
-    pub(crate) fn new(parcel: BufParcel<'r>) -> Parcel<'r, J>
-        requires { parcel.owner < 2 ^ J.names.digits.bits }
-        ensures { result ≡ parcel.entry }
-    {
-        Parcel {
-            parcel,
-            of: PhantomData,
-        }
-    }
-
-    /// The parcel, to be freed.
-    pub(crate) fn into_packed(self) -> BufParcel<'r>
-        ensures same { result ≡ self.entry }
-        ensures owner { result.owner < 2 ^ J.names.digits.bits }
-    {
-        let Parcel { parcel, of: _ } = self;
-        parcel
-    }
-
-    /// How many buffers it has.
-    pub fn len(&self) -> usize
-        ensures { result ≡ length self.now.items }
-    {
-        self.parcel.len()
-    }
-
-    /// For how many buffers there is a place, those that are there counted too.
-    pub fn places(&self) -> usize
-        ensures { result ≡ self.now.places }
-    {
-        self.parcel.places()
-    }
-
-    /// Whether each place has a buffer, so that [`Parcel::push`] takes none.
-    pub fn is_full(&self) -> bool
-        ensures { IsTrue result ↔ (self.now.places ≤ length self.now.items) }
-    {
-        self.parcel.is_full()
-    }
-
-    /// Whether there is no buffer.
-    pub fn is_empty(&self) -> bool
-        ensures { IsTrue result ↔ (self.now.items ≡ []) }
-    {
-        self.parcel.is_empty()
-    }
-
-    /// Puts a buffer to the end. It comes back where it is another allocator's, or where there is no
-    /// room. Takes constant time and no memory.
-    #[inline(always)]
-    pub fn push(&mut self, buffer: Buffer<'r, J>) -> Result<(), Buffer<'r, J>>
-        ensures { MatchResult result (λ _. Packs self.old buffer.entry self.new)
-            (λ b. (b ≡ buffer.entry) × (self.new ≡ self.old) × KeepsOut self.old buffer.entry) }
-    {
-        match self.parcel.push(buffer.into_buf()) {
-            Ok(()) => Ok(()),
-            Err(buf) => Err(Buffer::new(buf)),
-        }
-    }
-
-    /// Takes out the buffer that came last.
-    pub fn pop(&mut self) -> Option<Buffer<'r, J>>
-        ensures { MatchOption result ((self.old.items ≡ []) × (self.new ≡ self.old))
-            (λ b. (self.old.items ≡ self.new.items ++ b ∷ [])
-            × (self.new ≡ record self.old { items = self.new.items })) }
-    {
-        let _packed = self.parcel.owner();
-        let buf = self.parcel.pop()?;
-        Some(Buffer::new(buf))
-    }
-
-    /// The buffers, in the order in which they came, to be looked at.
-    pub fn buffers(&self) -> &[Buf<'r>]
-        ensures { result.now ≡ self.now.items }
-    {
-        self.parcel.buffers()
-    }
-
-    /// Lends all bytes of the buffer at place `at` to a closure, which may write them. How much of it is
-    /// filled stays as it is; [`Parcel::set_len_at`] says it.
-    pub fn edit_at<T, F: FnOnce(&mut [u8]) -> T>(&mut self, at: usize, edit: F) -> T
-        requires place { at < length self.old.items }
-        requires callable { F.IsAlwaysCallable edit }
-        ensures { (bytes : _) × EditsAt at (λ b b'. FnOnceReturnsAtMut F.FnOnce edit b.bytes.now result bytes
-            × (b' ≡ holding b bytes b.filled)) self.old self.new }
-    {
-        self.parcel.edit_at(at, edit)
-    }
-
-    /// Says how many bytes of the buffer at place `at` count as filled, from the front: at most as many as
-    /// it has. No byte is written.
-    pub fn set_len_at(&mut self, at: usize, len: usize)
-        requires { (b : _) × (slice_get self.old.items at ≡ Some b) × (len ≤ size_of b.class) }
-        ensures { EditsAt at (λ b b'. b' ≡ record b { filled = len }) self.old self.new }
-    {
-        self.parcel.set_len_at(at, len);
-    }
-}
+use pool_fabric::{Buffer, Naming, Parcel};
+use slot_chain::Buf;
 
 impl<'r, J: Naming> Burst<Buffer<'r, J>> for Parcel<'r, J> {
     type Item = Buf<'r>;
@@ -183,12 +50,5 @@ impl<'r, J: Naming> Burst<Buffer<'r, J>> for Parcel<'r, J> {
     #[tactic(auto, using(crate::proofs::Fillings::fillings_length))]
     fn edit_at<T, F: FnOnce(&mut [u8]) -> T>(&mut self, at: usize, edit: F) -> T {
         self.edit_at(at, edit)
-    }
-}
-
-// The buffers are not printed.
-impl<J: Naming> fmt::Debug for Parcel<'_, J> {
-    fn fmt<W: fmt::Write>(&self, f: &mut fmt::Formatter<W>) -> fmt::Result {
-        write!(f, "{:?}", self.parcel)
     }
 }

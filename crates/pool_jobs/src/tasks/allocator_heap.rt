@@ -8,13 +8,11 @@ ghost use Rattle.pool_jobs.specs.Serving.{Keeps, SameDesk, Serves};
 ghost use Rattle.pool_jobs.specs.declared.error.PoolError.TheVariants.{TooLarge, UsedUp};
 
 use crate::allocator::Allocator;
-use crate::buffers::buffer::Buffer;
-use crate::buffers::parcel::Parcel;
 use crate::error::PoolError;
 use crate::gate::Gate;
 use crate::tasks::heap::Heap;
 use batch_inbox::{Mail, Receiver, Sender};
-use pool_fabric::Naming;
+use pool_fabric::{Buffer, Naming, Parcel};
 use slot_chain::NoMemory;
 use std::sync::Wait;
 use std::time::{Clock, Duration};

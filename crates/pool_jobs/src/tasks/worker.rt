@@ -2,8 +2,6 @@
 ghost use Rattle.std.specs.Prelude.{◌≡◌, ◌≤◌, length, map, IfOk};
 ghost use Rattle.pool_jobs.specs.Counted.{counted_by, stations_of};
 
-use crate::buffers::buffer::Buffer;
-use crate::buffers::parcel::Parcel;
 use crate::counting_heap::{CountingHeap, WorkerResult};
 use crate::crew::{Job, crew};
 use crate::crew_result::CrewResult;
@@ -13,7 +11,7 @@ use crate::gate::Gate;
 use crate::tasks::channels::{Channels, channels_of};
 use crate::tasks::task::Task;
 use batch_inbox::{Mail, Receiver, Sender};
-use pool_fabric::{Fabric, Naming};
+use pool_fabric::{Buffer, Fabric, Naming, Parcel};
 use std::alloc::{AllocError, Global};
 use std::sync::Wait;
 use std::thread::Threads;

@@ -3,7 +3,6 @@ ghost use Rattle.std.specs.Prelude.{◌≡◌, length, map, IfOk, OnOk};
 ghost use Rattle.pool_jobs.specs.Counted.{both, counted_by, none_counted};
 ghost use Rattle.pool_jobs.specs.Rounds.{rounds_of};
 
-use crate::buffers::buffer::Buffer;
 use crate::crew::crew;
 use crate::crew_result::CrewResult;
 use crate::entrance::Entrance;
@@ -15,7 +14,7 @@ use crate::workloads::rows::{Round, RoundResult, Row, jobs_with_rows};
 use crate::workloads::worker::{BuildWorker, WorkerBuilder};
 use crate::workloads::workload::Workload;
 use batch_inbox::{Mail, Mailbox, Receiver, Sender};
-use pool_fabric::{Fabric, Naming};
+use pool_fabric::{Buffer, Fabric, Naming};
 use rand_core::{Rng, SeedableRng};
 use std::alloc::{AllocError, Global};
 use std::marker::Model;

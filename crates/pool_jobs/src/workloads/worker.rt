@@ -2,7 +2,6 @@
 ghost use Rattle.std.specs.Prelude.{◌≡◌, ◌<◌, ◌%◌};
 ghost use Rattle.rand_core.specs.Stream.{next_u32};
 
-use crate::buffers::buffer::Buffer;
 use crate::counting_heap::{CountingHeap, WorkerResult};
 use crate::entrance::Entrance;
 use crate::gate::Gate;
@@ -10,7 +9,7 @@ use crate::tasks::heap::Heap;
 use crate::workloads::handing::{Role, hand_over};
 use crate::workloads::rows::{Round, Row, replace};
 use batch_inbox::{Mail, Mailbox, Receiver, Sender};
-use pool_fabric::{HeldStation, Naming};
+use pool_fabric::{Buffer, HeldStation, Naming};
 use rand_core::Rng;
 use std::sync::Wait;
 

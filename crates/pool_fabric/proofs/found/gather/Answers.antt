@@ -5,6 +5,7 @@ use Rattle.pool_fabric.specs.Accounts.{of_entry}
 use Rattle.pool_fabric.specs.Stocks.{AreTold}
 use Rattle.pool_fabric.specs.Faults.{IsGatherFault}
 use Rattle.pool_fabric.proofs.AllOf.{same_all}
+use Rattle.pool_fabric.proofs.Losses.{at_most_once}
 use Rattle.pool_fabric.proofs.Lacking.{lacks_of, passed_on}
 use Rattle.pool_fabric.proofs.Posting.{get_map, length-mapped}
 use Rattle.pool_fabric.proofs.found.gather.Goals as goal
@@ -52,3 +53,8 @@ returns-clause-stations g c =
     let z = c.in-Ok-close_all.ensures.same in
     let f = c.finish.ensures.same in
     (h.0, same_all _ _ _ _ _ _ _ _ h.1 (sym (f.0 ∙ z.0)) (sym (f.1 ∙ z.1)) (sym (f.2 ∙ z.2)) c.in_ok-gathered.ensures.stations)
+
+pub returns-clause-once : goal.returns-clause-once
+returns-clause-once g c =
+    let f = c.finish.result in
+    at_most_once f.desks.items f.batches.items f.lent.items f.freed.items f.parts.items g.J.Naming.names.chunks f.drawn c.finish.ensures.whole c.finish.ensures.drawn c.finish.ensures.bounded c.stock.invariant.once

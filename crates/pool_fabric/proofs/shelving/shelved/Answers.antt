@@ -1,6 +1,6 @@
-use Rattle.std.proofs.Common.{[], ◌∷◌, length, map, sym, ap, ◌∙◌, subst, arith, length-append}
+use Rattle.std.proofs.Common.{[], ◌∷◌, ◌-◌, length, map, sym, ap, ◌∙◌, subst, arith, length-append}
 use Rattle.pool_fabric.specs.Names.{box_at}
-use Rattle.pool_fabric.specs.Pages.{PageState}
+use Rattle.pool_fabric.specs.Pages.{PageState, new_page}
 use Rattle.pool_fabric.specs.Gathered.{taking_of}
 use Rattle.pool_fabric.specs.Opened.{AreColumns}
 use Rattle.pool_fabric.proofs.Posting.{length-mapped}
@@ -39,8 +39,6 @@ loop-take-preserved g c =
       columns = subst (λ k. AreColumns g.J.Naming.names k c.in_ok-seats.field-0.columns.items) number c.in_ok-seats.ensures.columns.0;
       columns_count = c.in_ok-seats.ensures.columns.1 ∙ i.columns_count;
       shelf = omega arith;
-      key = ap (λ (p : PageState). p.key) left ∙ i.key;
+      book = left ∙ ap (λ (p : PageState). record p { parts = c.loop-take.book.parts - 1 }) i.book ∙ ap (new_page c.args.ledger.now g.J.Naming.names.loans) (sym parts);
       parts = omega arith;
-      gave = ap (λ (p : PageState). p.gave) left ∙ i.gave;
-      got = ap (λ (p : PageState). p.got) left ∙ i.got;
     }

@@ -1,5 +1,6 @@
-use Rattle.std.proofs.Common.{◌≡◌, ◌+◌, [], length, map}
+use Rattle.std.proofs.Common.{◌≡◌, ◌+◌, length, map}
 use Rattle.pool_fabric.specs.Ledgers.{whole}
+use Rattle.pool_fabric.specs.Pages.{new_page}
 use Rattle.pool_fabric.specs.Gathered.{taking_of}
 use Rattle.pool_fabric.specs.Opened.{AreColumns, AreNewTakes}
 use Rattle.pool_fabric.proofs.shelving.shelved.Given as goal
@@ -10,10 +11,8 @@ invariant-loop-take g l = record {
   columns : AreColumns g.J.Naming.names (length l.takes.items) l.columns.items;
   columns_count : length l.columns.items ≡ g.J.Naming.names.count;
   shelf : length l.shelf + length l.takes.items ≡ g.J.Naming.names.count;
-  key : l.book.key ≡ l.initial.book.key;
+  book : l.book ≡ new_page l.ledger g.J.Naming.names.loans l.book.parts;
   parts : l.book.parts + length l.shelf ≡ whole;
-  gave : l.book.gave ≡ [];
-  got : l.book.got ≡ [];
 }
 
 abbrev pub decreases-loop-take : goal.decreases-loop-take

@@ -1,7 +1,6 @@
 use Rattle.std.proofs.Common.{◌≡◌, [], List, map, ap, sym, subst}
 use Rattle.slot_chain.specs.Buffer.{Buffer}
 use Rattle.digit_route.specs.States.{RefusedState}
-use Rattle.pool_desk.specs.Desks.{DeskState}
 use Rattle.pool_fabric.specs.Seats.{seat_of}
 use Rattle.pool_fabric.specs.Posts.{Posts}
 use Rattle.pool_fabric.proofs.Posting.{posts_none}

@@ -1,4 +1,4 @@
-use Rattle.std.proofs.Common.{◌≡◌, ◌∷◌, ◌++◌, List, map, refl, sym, ap, ◌∙◌, arith, subst}
+use Rattle.std.proofs.Common.{◌≡◌, List, map, refl, sym, ap, ◌∙◌, arith, subst}
 use Rattle.slot_chain.specs.Buffer.{Buffer}
 use Rattle.digit_route.specs.Digits.{Scheme}
 use Rattle.digit_route.specs.Route.{GivesBucket}

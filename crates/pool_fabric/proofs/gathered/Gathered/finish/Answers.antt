@@ -5,7 +5,7 @@ use Rattle.pool_fabric.specs.Accounts.{of_part, of_entry}
 use Rattle.pool_fabric.specs.Stocks.{AreTold}
 use Rattle.pool_fabric.specs.Whole.{IsEachDesk}
 use Rattle.pool_fabric.specs.Gathered.{GatheredState}
-use Rattle.pool_fabric.proofs.Gathers.{finishes}
+use Rattle.pool_fabric.proofs.Gathers.{finishes, frees_no_more}
 use Rattle.pool_fabric.proofs.Noted.{noted}
 use Rattle.pool_fabric.proofs.gathered.Gathered.finish.Goals as goal
 
@@ -18,6 +18,9 @@ returns-clause-whole g c =
     (λ w. ap (λ (s : GatheredState). weigh (of_entry w) s.page.gave + weigh (of_part w) parts) c.self.view_is
     ∙ ap (λ l. weigh (of_entry w) c.args.self.page.gave + weigh (of_part w) l) c.into_parts-parts.ensures.0
     ∙ c.requires.chunks w)
+
+pub returns-clause-bounded : goal.returns-clause-bounded
+returns-clause-bounded g c = frees_no_more c.self.inside.page c.close.new.page c.self.inside.lent.items c.self.inside.freed.items c.self.invariant.loans c.close.ensures.page c.close.ensures.bounded
 
 pub returns-clause-desks : goal.returns-clause-desks
 returns-clause-desks g c = subst (λ k. IsEachDesk k c.self.inside.desks.items) (ap (λ (s : GatheredState). length s.rows) c.self.view_is ∙ c.requires.columns.2) c.self.invariant.desks

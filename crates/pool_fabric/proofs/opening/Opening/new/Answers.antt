@@ -16,7 +16,7 @@ invariant_of-result g c =
     let boxes = c.in_ok-boxes.boxes in
     let e = c.in_ok-boxes.ensures in
     let taking = taking_of g.T.Receiver.inbox g.T.Receiver.senders g.T.Receiver.taken in
-    opening_of c.args.digits c.args.limit c.in_ok-ledger.ledger c.in_ok-stock.stock (map g.M.Mailbox.id boxes.inboxes.items) (map taking boxes.takes.items) boxes.columns.items
+    opening_of c.args.digits c.args.limit c.in_ok-ledger.ledger c.in_ok-ledger.book.loans c.in_ok-stock.stock (map g.M.Mailbox.id boxes.inboxes.items) (map taking boxes.takes.items) boxes.columns.items
     c.args.desks c.in_ok-ledger.book e.opened
     (length-mapped g.M.Mailbox.id boxes.inboxes.items ∙ e.count.0) (length-mapped taking boxes.takes.items ∙ e.count.1) e.count.2
     (c.requires.desks.1, c.requires.desks.2) c.requires.limit

@@ -19,10 +19,13 @@ invariant_of-result g c =
             taken = c.requires.take.2;
             seats = c.requires.seats.2;
             got = ap (λ (p : PageState). p.got) c.requires.page;
+            page_lent = ap (λ (p : PageState). p.lent) c.requires.page;
+            page_freed = ap (λ (p : PageState). p.freed) c.requires.page;
             lent = c.new-2.ensures;
             freed = c.new-3.ensures;
           })
           (record {
+            in_range = c.requires.number;
             digits = c.requires.profile.0;
             limit = c.requires.profile.1;
             take = c.requires.take.0;
@@ -30,6 +33,7 @@ invariant_of-result g c =
             seats = c.requires.seats.0;
             number = length-mapped as_seat c.args.seats.items ∙ c.requires.seats.1;
             page = ap (λ (p : PageState). p.key) c.requires.page;
+            loans = ap (λ (p : PageState). p.loans) c.requires.page;
             part = ap (λ (p : PageState). p.parts) c.requires.page;
             none_given = ap (λ (p : PageState). p.gave) c.requires.page;
           }),

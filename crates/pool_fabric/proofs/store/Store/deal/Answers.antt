@@ -16,7 +16,9 @@ invariant_of-self-2 g c =
     let part = c.in_ok-part.part in
     record {
       key = ap (λ (p : PageState). p.key) book ∙ i.key;
+      loans = ap (λ (p : PageState). p.loans) book ∙ i.loans;
       none_got = ap (λ (p : PageState). p.got) book ∙ i.none_got;
+      none_lent = (ap (λ (p : PageState). p.lent) book ∙ i.none_lent.0, ap (λ (p : PageState). p.freed) book ∙ i.none_lent.1);
       parts = ap (λ (p : PageState). p.parts + g.J.Naming.names.count) book ∙ i.parts;
       some_part = subst (λ n. 0 < n) (sym (ap (λ (p : PageState). p.parts) book)) i.some_part;
       chunks = λ w.
@@ -31,5 +33,6 @@ invariant_of-self-2 g c =
           let told = gives_told _ c.args.class part c.get.new.self given i.apart i.undrawn c.self.inside.book.gave i.told in
           subst (λ (l : List DrawnChunk). AreTold c.get.new.self.drawn l) (sym (ap (λ (x : PageState). x.gave) book ∙ (λ j. c.self.inside.book.gave ++ drawn_for (c.chunk.ensures j) c.args.class ∷ []))) told;
       undrawn = gives_undrawn _ c.args.class part c.get.new.self given i.apart i.undrawn;
+      once = i.once;
       apart = gives_apart _ c.args.class part c.get.new.self given i.apart i.undrawn;
     }
