@@ -4,6 +4,7 @@ mod due;
 mod edges;
 mod handed;
 mod looks;
+mod losses;
 mod marks;
 mod meeting;
 mod rows;
