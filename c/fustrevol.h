@@ -170,7 +170,7 @@ typedef struct fv_allocator {
  * at a multiple of 16 from the region's start. */
 typedef struct fv_buf {
   unsigned char *at;
-  void *own_[2];
+  void *own_[3];
 } fv_buf;
 
 /* Buffers of one allocator that are handed over and freed as a whole, or none. */

@@ -78,8 +78,9 @@ EXPORTS = [
     makes("buf", "Makes a handle that holds no buffer."),
     makes("burst", "Makes a burst that is not open."),
     Export(
-        "fv_pool_open", "opens", ["pool"], [("allocators", "u32"), ("bits", "u32"), ("limit", "u64")], "u32", "open",
-        "Opens a pool over a region, which is lent for good: 0, or why not.", "Shelves.Opens",
+        "fv_pool_open_numbered", "opens", ["pool"],
+        [("allocators", "u32"), ("bits", "u32"), ("limit", "u64"), ("number", "u64")], "u32", "open",
+        "Opens the pool of this number over a region, which is lent for good: 0, or why not.", "Shelves.Opens", "number",
     ),
     lends(
         "fv_pool_attach", ["pool", "allocator"], [], "attach",
@@ -93,18 +94,30 @@ EXPORTS = [
         "fv_pool_close", ["pool"], [], "close", "Audits the pool and ends it: 0, or what is wrong.",
         clause="Shelves.Closes",
     ),
-    lends("fv_pool_stat", ["pool"], WHICH, "stat", "A number about the pool.", answer="u64"),
+    lends(
+        "fv_pool_stat", ["pool"], WHICH, "stat", "A number about the pool.", answer="u64",
+        clause="Stats.TellsPoolStat", of="which",
+    ),
     lends(
         "fv_alloc", ["allocator", "buf"], SIZE, "alloc", "Lends a buffer of at least so many bytes: 0, or why not.",
-        clause="Handles.LendsInto", of="size",
+        clause="Handles.LendsInto", of="size", about=["allocator", "buf"],
     ),
     lends(
         "fv_free", ["allocator", "buf"], [], "free", "Takes a buffer back, at any allocator of its pool: 0, or why not.",
-        clause="Handles.TakesOut",
+        clause="Handles.TakesOut", about=["allocator", "buf"],
     ),
-    lends("fv_flush", ["allocator"], [], "flush", "Takes what came home, and posts all that is cached: 0, or why not."),
-    lends("fv_collect", ["allocator"], [], "collect", "Takes what came home: 0, or why nothing was taken."),
-    lends("fv_allocator_stat", ["allocator"], WHICH, "stat", "A number about the allocator.", answer="u64"),
+    lends(
+        "fv_flush", ["allocator"], [], "flush", "Takes what came home, and posts all that is cached: 0, or why not.",
+        clause="Stats.Flushes",
+    ),
+    lends(
+        "fv_collect", ["allocator"], [], "collect", "Takes what came home: 0, or why nothing was taken.",
+        clause="Stats.Collects",
+    ),
+    lends(
+        "fv_allocator_stat", ["allocator"], WHICH, "stat", "A number about the allocator.", answer="u64",
+        clause="Stats.TellsStat", of="which",
+    ),
     lends(
         "fv_buf_capacity", ["buf"], [], "capacity", "How many bytes the buffer has; 0 where the handle holds none.",
         answer="u64", clause="Handles.TellsCapacity",
@@ -120,14 +133,16 @@ EXPORTS = [
     lends(
         "fv_burst_open", ["allocator", "burst"], [("places", "usize")], "open",
         "Opens an empty burst for buffers of the allocator: 0, or why not.", clause="Bursts.OpensBurst", of="places",
+        about=["allocator", "burst"],
     ),
     lends(
         "fv_burst_fill", ["allocator", "burst"], SIZE + [("count", "usize")], "fill",
-        "Lends so many buffers into a burst: 0, or why not all of them.", clause="Bursts.Fills", of="size count",
+        "Lends so many buffers into a burst: 0, or why not all of them.", clause="Bursts.Fills",
+        of="size count", about=["allocator", "burst"],
     ),
     lends(
         "fv_burst_free", ["allocator", "burst"], [], "free_all", "Takes all buffers of a burst back: 0, or why not.",
-        clause="Bursts.TakesBurst",
+        clause="Bursts.TakesBurst", about=["allocator", "burst"],
     ),
     lends(
         "fv_burst_push", ["burst", "buf"], [], "push",
@@ -144,6 +159,7 @@ EXPORTS = [
     ),
     lends(
         "fv_burst_at", ["burst", "span"], [("index", "usize")], "span",
-        "Tells where the bytes of a buffer of the burst lie: 0, or why not.",
+        "Tells where the bytes of a buffer of the burst lie: 0, or why not.", clause="Bursts.TellsSpan", of="index",
+        about=["burst", "span"],
     ),
 ]

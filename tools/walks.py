@@ -261,7 +261,8 @@ def opens_walk(export):
         "units": pairs(["tt"] * count),
         "joins": "nothing ! $ join ! $ " * count,
     }
-    words |= {"clause": export.definition, "clause_uses": clause_uses(export)}
+    clause = " ".join([export.definition] + export.clause_of.split())
+    words |= {"clause": clause, "clause_uses": clause_uses(export)}
     words |= parameter_words(export, ["p", "r"], extra=[("size", "usize")]) | callee_words(export)
     return filled("opens", words | numbers_words(export, 3))
 
@@ -314,7 +315,7 @@ def opens_export(export):
     body = lent_lines(export) + "    let region = unsafe { std::slice::from_raw_parts_mut(at, len) };\n"
     body += f"    pool.open({', '.join(['region'] + [name for name, _ in export.numbers])})\n"
     ghosts = "    ghost before: { List ℕ × PoolValue }\n"
-    clause = f"{export.definition} result before.1 after"
+    clause = " ".join(filter(None, [export.definition, export.clause_of, "result before.1 after"]))
     after = f"∃ₛ (λ (after : PoolValue). {lies('pool', 'after')} ∗ ⌜ {clause} ⌝)"
     return function(
         export, parameters, f" -> {export.answer}", ghosts, f"{lies('pool', 'before.1')} ∗ {region}", after, body

@@ -101,11 +101,12 @@ static void attaching(unsigned char *region) {
   ANSWERS(fv_pool_detach(&pool, &a), FV_EMPTY);
   CHECK(fv_pool_stat(&pool, FV_POOL_IDLE) == 1);
   ANSWERS(fv_pool_close(&pool), FV_FULL);
-  ANSWERS(fv_pool_detach(&pool, &b), FV_OK);
 
-  /* A pool that has all its allocators takes no other pool's. */
+  /* A pool takes no other pool's allocator, whether one of its own is attached or none. */
   ANSWERS(fv_pool_open(&other_pool, region + LEN, LEN, 1, 6, 65536), FV_OK);
   ANSWERS(fv_pool_attach(&other_pool, &a), FV_OK);
+  ANSWERS(fv_pool_detach(&pool, &a), FV_STRANGER);
+  ANSWERS(fv_pool_detach(&pool, &b), FV_OK);
   ANSWERS(fv_pool_detach(&pool, &a), FV_STRANGER);
   ANSWERS(fv_pool_detach(&other_pool, &a), FV_OK);
   ANSWERS(fv_pool_close(&other_pool), FV_OK);
@@ -245,6 +246,7 @@ static void used_up(unsigned char *region) {
   close_two(FV_OK);
 }
 
+fv_buf kept_from_before;
 fv_buf kept
     [40]; /* the record of the lost one stays reachable here, so that a leak detector sees other leaks alone */
 
@@ -264,30 +266,47 @@ static void missing(unsigned char *region) {
   CHECK(fv_pool_stat(&pool, FV_POOL_ALLOCATORS) == 0);
 }
 
-/* Buffers that are freed at another pool are missed in their own, and found in the other. */
+/* What is another pool's is refused, and stays where it is. The two allocators have one number. */
 static void wrong_pool(unsigned char *region) {
   open_two(region);
   ANSWERS(fv_pool_open(&other_pool, region + LEN, LEN, 1, 6, 65536), FV_OK);
   ANSWERS(fv_pool_attach(&other_pool, &none), FV_OK);
-  ANSWERS(fv_alloc(&a, &buf, 64), FV_OK);
-  ANSWERS(fv_free(&none, &buf), FV_OK);
-  ANSWERS(fv_pool_detach(&other_pool, &none), FV_OK);
-  ANSWERS(fv_pool_close(&other_pool), FV_AUDIT_STRANGER);
-  CHECK(fv_pool_stat(&other_pool, FV_POOL_FAULT) == 0);
-  close_two(FV_AUDIT_MISSING);
-  CHECK(fv_pool_stat(&pool, FV_POOL_FAULT) == 0);
+  CHECK(fv_allocator_stat(&b, FV_ALLOCATOR_NUMBER) == fv_allocator_stat(&none, FV_ALLOCATOR_NUMBER));
+  ANSWERS(fv_alloc(&b, &buf, 64), FV_OK);
+  unsigned char *at = buf.at;
+  ANSWERS(fv_free(&none, &buf), FV_STRANGER);
+  CHECK(buf.at == at && fv_buf_capacity(&buf) == 64 && fv_allocator_stat(&none, FV_ALLOCATOR_FREED) == 0);
 
-  open_two(region);
-  ANSWERS(fv_pool_open(&other_pool, region + LEN, LEN, 1, 6, 65536), FV_OK);
-  ANSWERS(fv_pool_attach(&other_pool, &none), FV_OK);
-  ANSWERS(fv_alloc(&a, &buf, 64), FV_OK);
+  ANSWERS(fv_burst_open(&b, &burst, 8), FV_OK);
+  ANSWERS(fv_burst_fill(&b, &burst, 64, 3), FV_OK);
+  ANSWERS(fv_burst_fill(&none, &burst, 64, 1), FV_STRANGER);
+  ANSWERS(fv_burst_free(&none, &burst), FV_STRANGER);
   ANSWERS(fv_alloc(&none, &second, 64), FV_OK);
+  ANSWERS(fv_burst_push(&burst, &second), FV_STRANGER);
+  CHECK(fv_burst_len(&burst) == 3 && fv_buf_capacity(&second) == 64);
+  ANSWERS(fv_free(&b, &second), FV_STRANGER);
   ANSWERS(fv_free(&none, &second), FV_OK);
-  ANSWERS(fv_free(&none, &buf), FV_OK);
+  ANSWERS(fv_burst_pop(&burst, &second), FV_OK); /* it is of the burst's pool */
+  ANSWERS(fv_free(&none, &second), FV_STRANGER);
+  ANSWERS(fv_free(&a, &second), FV_OK);
+  ANSWERS(fv_free(&none, &second), FV_EMPTY);
+  ANSWERS(fv_burst_free(&a, &burst), FV_OK);
+  ANSWERS(fv_burst_free(&none, &burst), FV_EMPTY);
+  ANSWERS(fv_free(&a, &buf), FV_OK);
   ANSWERS(fv_pool_detach(&other_pool, &none), FV_OK);
-  ANSWERS(fv_pool_close(&other_pool), FV_AUDIT_DOUBLED);
-  CHECK(fv_pool_stat(&other_pool, FV_POOL_FAULT) == 0);
+  ANSWERS(fv_pool_close(&other_pool), FV_OK);
+  close_two(FV_OK);
+}
+
+/* A pool that is opened again is another one: it knows no buffer from before, over the same region either. */
+static void opened_again(unsigned char *region) {
+  open_two(region);
+  ANSWERS(fv_alloc(&a, &kept_from_before, 64), FV_OK);
   close_two(FV_AUDIT_MISSING);
+  open_two(region);
+  ANSWERS(fv_free(&a, &kept_from_before), FV_STRANGER);
+  CHECK(fv_buf_capacity(&kept_from_before) == 64);
+  close_two(FV_OK);
 }
 
 int main(void) {
@@ -311,6 +330,8 @@ int main(void) {
   used_up(region);
   wrong_pool(region);
   missing(region);
+  fv_buf_init(&kept_from_before);
+  opened_again(region);
   free(region);
   free(large);
   printf("answers: each call answers what fustrevol.h says\n");

@@ -30,14 +30,14 @@ storage! {
 #[repr(C)]
 pub struct RawBuf {
     pub at: *mut u8,
-    own: [*mut c_void; 2],
+    own: [*mut c_void; 3],
 }
 
 impl RawBuf {
     pub fn new() -> RawBuf {
         let mut made = RawBuf {
             at: ptr::null_mut(),
-            own: [ptr::null_mut(); 2],
+            own: [ptr::null_mut(); 3],
         };
         // SAFETY: as above.
         unsafe { fv_buf_init(&mut made) };

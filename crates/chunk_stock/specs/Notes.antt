@@ -3,6 +3,10 @@ use Rattle.std.specs.Prelude.{◌≡◌, ◌≢◌, ℕ, List, Option, Some, Non
 use Rattle.region_cut.specs.declared.part.Part.{Part}
 use Rattle.slot_audit.specs.Audit.{class_noted}
 
+-- no chunk is noted
+abbrev pub NotesNone : List (Option ℕ) → Type 0
+NotesNone notes = (k : ℕ) → class_noted notes k ≡ None
+
 -- the chunk is noted for the class, and what was noted of others stays
 pub record NotesAt (chunk class : ℕ) (old new : List (Option ℕ)) : Type 0 where
   pub noted : class_noted new chunk ≡ Some class

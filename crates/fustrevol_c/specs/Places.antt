@@ -41,6 +41,9 @@ BufValue = buf_row.Denot
 abbrev pub BurstValue : Type 0
 BurstValue = burst_row.Denot
 
+abbrev pub SpanValue : Type 0
+SpanValue = span_row.Denot
+
 -- some value of the type lies at p
 abbrev pub pool_at : Ptr → Fml
 pool_at p = fex pool_row.Denot (λ s. lies_at pool_row full_share p s)

@@ -9,10 +9,11 @@ ghost use Rattle.std.specs.Prelude.{ℕ, List, ◌^◌, ◌<◌};
 ghost use Rattle.std.specs.Borrow.{sem, full_share, u8, Array};
 ghost use Rattle.std.specs.Ptr.{lies_at};
 ghost use Rattle.fustrevol_c.specs.Places.{pool_at, pool_room, allocator_at, allocator_room, buf_at, buf_room, burst_at, burst_room, span_at};
-ghost use Rattle.fustrevol_c.specs.Places.{pool_row, allocator_row, buf_row, burst_row, PoolValue, AllocatorValue, BufValue, BurstValue};
-ghost use Rattle.seated_desk.specs.Bursts.{OpensBurst, Fills, TakesBurst, PutsIn, TakesLast, TellsCount};
+ghost use Rattle.fustrevol_c.specs.Places.{pool_row, allocator_row, buf_row, burst_row, span_row, PoolValue, AllocatorValue, BufValue, BurstValue, SpanValue};
+ghost use Rattle.seated_desk.specs.Bursts.{OpensBurst, Fills, TakesBurst, PutsIn, TakesLast, TellsCount, TellsSpan};
 ghost use Rattle.seated_desk.specs.Handles.{LendsInto, TakesOut, SetsFilled, TellsCapacity, TellsFilled};
 ghost use Rattle.seated_desk.specs.Shelves.{Opens, HandsOut, TakesBack, Closes};
+ghost use Rattle.seated_desk.specs.Stats.{Collects, Flushes, TellsPoolStat, TellsStat};
 
 use seated_desk::{AllocatorHandle, BufHandle, BurstHandle, Pool, Span};
 use std::alloc::Global;
@@ -83,23 +84,24 @@ pub unsafe extern "C" fn fv_burst_init(burst: *mut FvBurst)
     unsafe { std::ptr::write(burst as *mut BurstHandle<'static>, made) };
 }
 
-/// Opens a pool over a region, which is lent for good: 0, or why not.
+/// Opens the pool of this number over a region, which is lent for good: 0, or why not.
 #[unsafe(no_mangle)]
-pub unsafe extern "C" fn fv_pool_open(
+pub unsafe extern "C" fn fv_pool_open_numbered(
     pool: *mut FvPool,
     at: *mut u8,
     len: usize,
     allocators: u32,
     bits: u32,
     limit: u64,
+    number: u64,
 ) -> u32
     ghost before: { List ℕ × PoolValue }
     requires* { sem 𝓛 (lies_at pool_row full_share pool before.1) ∗ (sem 𝓛 (lies_at (Array u8 len) full_share at before.0) ∗ ⌜ len < 2 ^ 63 ⌝) }
-    ensures* { ∃ₛ (λ (after : PoolValue). sem 𝓛 (lies_at pool_row full_share pool after) ∗ ⌜ Opens result before.1 after ⌝) }
+    ensures* { ∃ₛ (λ (after : PoolValue). sem 𝓛 (lies_at pool_row full_share pool after) ∗ ⌜ Opens number result before.1 after ⌝) }
 {
     let pool = unsafe { &mut *(pool as *mut Pool<'static>) };
     let region = unsafe { std::slice::from_raw_parts_mut(at, len) };
-    pool.open(region, allocators, bits, limit)
+    pool.open(region, allocators, bits, limit, number)
 }
 
 /// Hands an allocator of the pool out: 0, or why not.
@@ -140,8 +142,9 @@ pub unsafe extern "C" fn fv_pool_close(pool: *mut FvPool) -> u32
 /// A number about the pool.
 #[unsafe(no_mangle)]
 pub unsafe extern "C" fn fv_pool_stat(pool: *mut FvPool, which: u32) -> u64
-    requires* { sem 𝓛 (pool_at pool) }
-    ensures* { sem 𝓛 (pool_at pool) }
+    ghost before: { PoolValue }
+    requires* { sem 𝓛 (lies_at pool_row full_share pool before) }
+    ensures* { ∃ₛ (λ (after : PoolValue). sem 𝓛 (lies_at pool_row full_share pool after) ∗ ⌜ TellsPoolStat which result before after ⌝) }
 {
     let pool = unsafe { &mut *(pool as *mut Pool<'static>) };
     pool.stat(which)
@@ -150,9 +153,9 @@ pub unsafe extern "C" fn fv_pool_stat(pool: *mut FvPool, which: u32) -> u64
 /// Lends a buffer of at least so many bytes: 0, or why not.
 #[unsafe(no_mangle)]
 pub unsafe extern "C" fn fv_alloc(allocator: *mut FvAllocator, buf: *mut FvBuf, size: usize) -> u32
-    ghost before: { BufValue }
-    requires* { sem 𝓛 (allocator_at allocator) ∗ sem 𝓛 (lies_at buf_row full_share buf before) }
-    ensures* { sem 𝓛 (allocator_at allocator) ∗ ∃ₛ (λ (after : BufValue). sem 𝓛 (lies_at buf_row full_share buf after) ∗ ⌜ LendsInto size result before after ⌝) }
+    ghost before: { AllocatorValue × BufValue }
+    requires* { sem 𝓛 (lies_at allocator_row full_share allocator before.0) ∗ sem 𝓛 (lies_at buf_row full_share buf before.1) }
+    ensures* { ∃ₛ (λ (after : AllocatorValue × BufValue). sem 𝓛 (lies_at allocator_row full_share allocator after.0) ∗ (sem 𝓛 (lies_at buf_row full_share buf after.1) ∗ ⌜ LendsInto size result before.0 after.0 before.1 after.1 ⌝)) }
 {
     let allocator = unsafe { &mut *(allocator as *mut AllocatorHandle<'static>) };
     let buf = unsafe { &mut *(buf as *mut BufHandle<'static>) };
@@ -162,9 +165,9 @@ pub unsafe extern "C" fn fv_alloc(allocator: *mut FvAllocator, buf: *mut FvBuf, 
 /// Takes a buffer back, at any allocator of its pool: 0, or why not.
 #[unsafe(no_mangle)]
 pub unsafe extern "C" fn fv_free(allocator: *mut FvAllocator, buf: *mut FvBuf) -> u32
-    ghost before: { BufValue }
-    requires* { sem 𝓛 (allocator_at allocator) ∗ sem 𝓛 (lies_at buf_row full_share buf before) }
-    ensures* { sem 𝓛 (allocator_at allocator) ∗ ∃ₛ (λ (after : BufValue). sem 𝓛 (lies_at buf_row full_share buf after) ∗ ⌜ TakesOut result before after ⌝) }
+    ghost before: { AllocatorValue × BufValue }
+    requires* { sem 𝓛 (lies_at allocator_row full_share allocator before.0) ∗ sem 𝓛 (lies_at buf_row full_share buf before.1) }
+    ensures* { ∃ₛ (λ (after : AllocatorValue × BufValue). sem 𝓛 (lies_at allocator_row full_share allocator after.0) ∗ (sem 𝓛 (lies_at buf_row full_share buf after.1) ∗ ⌜ TakesOut result before.0 after.0 before.1 after.1 ⌝)) }
 {
     let allocator = unsafe { &mut *(allocator as *mut AllocatorHandle<'static>) };
     let buf = unsafe { &mut *(buf as *mut BufHandle<'static>) };
@@ -174,8 +177,9 @@ pub unsafe extern "C" fn fv_free(allocator: *mut FvAllocator, buf: *mut FvBuf) -
 /// Takes what came home, and posts all that is cached: 0, or why not.
 #[unsafe(no_mangle)]
 pub unsafe extern "C" fn fv_flush(allocator: *mut FvAllocator) -> u32
-    requires* { sem 𝓛 (allocator_at allocator) }
-    ensures* { sem 𝓛 (allocator_at allocator) }
+    ghost before: { AllocatorValue }
+    requires* { sem 𝓛 (lies_at allocator_row full_share allocator before) }
+    ensures* { ∃ₛ (λ (after : AllocatorValue). sem 𝓛 (lies_at allocator_row full_share allocator after) ∗ ⌜ Flushes result before after ⌝) }
 {
     let allocator = unsafe { &mut *(allocator as *mut AllocatorHandle<'static>) };
     allocator.flush()
@@ -184,8 +188,9 @@ pub unsafe extern "C" fn fv_flush(allocator: *mut FvAllocator) -> u32
 /// Takes what came home: 0, or why nothing was taken.
 #[unsafe(no_mangle)]
 pub unsafe extern "C" fn fv_collect(allocator: *mut FvAllocator) -> u32
-    requires* { sem 𝓛 (allocator_at allocator) }
-    ensures* { sem 𝓛 (allocator_at allocator) }
+    ghost before: { AllocatorValue }
+    requires* { sem 𝓛 (lies_at allocator_row full_share allocator before) }
+    ensures* { ∃ₛ (λ (after : AllocatorValue). sem 𝓛 (lies_at allocator_row full_share allocator after) ∗ ⌜ Collects result before after ⌝) }
 {
     let allocator = unsafe { &mut *(allocator as *mut AllocatorHandle<'static>) };
     allocator.collect()
@@ -194,8 +199,9 @@ pub unsafe extern "C" fn fv_collect(allocator: *mut FvAllocator) -> u32
 /// A number about the allocator.
 #[unsafe(no_mangle)]
 pub unsafe extern "C" fn fv_allocator_stat(allocator: *mut FvAllocator, which: u32) -> u64
-    requires* { sem 𝓛 (allocator_at allocator) }
-    ensures* { sem 𝓛 (allocator_at allocator) }
+    ghost before: { AllocatorValue }
+    requires* { sem 𝓛 (lies_at allocator_row full_share allocator before) }
+    ensures* { ∃ₛ (λ (after : AllocatorValue). sem 𝓛 (lies_at allocator_row full_share allocator after) ∗ ⌜ TellsStat which result before after ⌝) }
 {
     let allocator = unsafe { &mut *(allocator as *mut AllocatorHandle<'static>) };
     allocator.stat(which)
@@ -241,9 +247,9 @@ pub unsafe extern "C" fn fv_burst_open(
     burst: *mut FvBurst,
     places: usize,
 ) -> u32
-    ghost before: { BurstValue }
-    requires* { sem 𝓛 (allocator_at allocator) ∗ sem 𝓛 (lies_at burst_row full_share burst before) }
-    ensures* { sem 𝓛 (allocator_at allocator) ∗ ∃ₛ (λ (after : BurstValue). sem 𝓛 (lies_at burst_row full_share burst after) ∗ ⌜ OpensBurst places result before after ⌝) }
+    ghost before: { AllocatorValue × BurstValue }
+    requires* { sem 𝓛 (lies_at allocator_row full_share allocator before.0) ∗ sem 𝓛 (lies_at burst_row full_share burst before.1) }
+    ensures* { ∃ₛ (λ (after : AllocatorValue × BurstValue). sem 𝓛 (lies_at allocator_row full_share allocator after.0) ∗ (sem 𝓛 (lies_at burst_row full_share burst after.1) ∗ ⌜ OpensBurst places result before.0 after.0 before.1 after.1 ⌝)) }
 {
     let allocator = unsafe { &mut *(allocator as *mut AllocatorHandle<'static>) };
     let burst = unsafe { &mut *(burst as *mut BurstHandle<'static>) };
@@ -258,9 +264,9 @@ pub unsafe extern "C" fn fv_burst_fill(
     size: usize,
     count: usize,
 ) -> u32
-    ghost before: { BurstValue }
-    requires* { sem 𝓛 (allocator_at allocator) ∗ sem 𝓛 (lies_at burst_row full_share burst before) }
-    ensures* { sem 𝓛 (allocator_at allocator) ∗ ∃ₛ (λ (after : BurstValue). sem 𝓛 (lies_at burst_row full_share burst after) ∗ ⌜ Fills size count result before after ⌝) }
+    ghost before: { AllocatorValue × BurstValue }
+    requires* { sem 𝓛 (lies_at allocator_row full_share allocator before.0) ∗ sem 𝓛 (lies_at burst_row full_share burst before.1) }
+    ensures* { ∃ₛ (λ (after : AllocatorValue × BurstValue). sem 𝓛 (lies_at allocator_row full_share allocator after.0) ∗ (sem 𝓛 (lies_at burst_row full_share burst after.1) ∗ ⌜ Fills size count result before.0 after.0 before.1 after.1 ⌝)) }
 {
     let allocator = unsafe { &mut *(allocator as *mut AllocatorHandle<'static>) };
     let burst = unsafe { &mut *(burst as *mut BurstHandle<'static>) };
@@ -270,9 +276,9 @@ pub unsafe extern "C" fn fv_burst_fill(
 /// Takes all buffers of a burst back: 0, or why not.
 #[unsafe(no_mangle)]
 pub unsafe extern "C" fn fv_burst_free(allocator: *mut FvAllocator, burst: *mut FvBurst) -> u32
-    ghost before: { BurstValue }
-    requires* { sem 𝓛 (allocator_at allocator) ∗ sem 𝓛 (lies_at burst_row full_share burst before) }
-    ensures* { sem 𝓛 (allocator_at allocator) ∗ ∃ₛ (λ (after : BurstValue). sem 𝓛 (lies_at burst_row full_share burst after) ∗ ⌜ TakesBurst result before after ⌝) }
+    ghost before: { AllocatorValue × BurstValue }
+    requires* { sem 𝓛 (lies_at allocator_row full_share allocator before.0) ∗ sem 𝓛 (lies_at burst_row full_share burst before.1) }
+    ensures* { ∃ₛ (λ (after : AllocatorValue × BurstValue). sem 𝓛 (lies_at allocator_row full_share allocator after.0) ∗ (sem 𝓛 (lies_at burst_row full_share burst after.1) ∗ ⌜ TakesBurst result before.0 after.0 before.1 after.1 ⌝)) }
 {
     let allocator = unsafe { &mut *(allocator as *mut AllocatorHandle<'static>) };
     let burst = unsafe { &mut *(burst as *mut BurstHandle<'static>) };
@@ -317,8 +323,9 @@ pub unsafe extern "C" fn fv_burst_len(burst: *mut FvBurst) -> u64
 /// Tells where the bytes of a buffer of the burst lie: 0, or why not.
 #[unsafe(no_mangle)]
 pub unsafe extern "C" fn fv_burst_at(burst: *mut FvBurst, span: *mut FvSpan, index: usize) -> u32
-    requires* { sem 𝓛 (burst_at burst) ∗ sem 𝓛 (span_at span) }
-    ensures* { sem 𝓛 (burst_at burst) ∗ sem 𝓛 (span_at span) }
+    ghost before: { BurstValue × SpanValue }
+    requires* { sem 𝓛 (lies_at burst_row full_share burst before.0) ∗ sem 𝓛 (lies_at span_row full_share span before.1) }
+    ensures* { ∃ₛ (λ (after : BurstValue × SpanValue). sem 𝓛 (lies_at burst_row full_share burst after.0) ∗ (sem 𝓛 (lies_at span_row full_share span after.1) ∗ ⌜ TellsSpan index result before.0 after.0 before.1 after.1 ⌝)) }
 {
     let burst = unsafe { &mut *(burst as *mut BurstHandle<'static>) };
     let span = unsafe { &mut *(span as *mut Span) };

@@ -19,6 +19,7 @@ use Rattle.pool_desk.proofs.Travels.{desk_send}
 use Rattle.link_inbox.specs.contracts.inbox.LinkInbox as LinkInbox
 use Rattle.link_inbox.proofs.Travels.{link_inbox_sync, seat_send, take_send}
 use Rattle.slot_chain.specs.contracts.parcel.BufParcel as BufParcel
+use Rattle.slot_audit.specs.contracts.drawn.Drawn as Drawn
 use Rattle.chunk_stock.specs.contracts.drawer.Stock as Stock
 use Rattle.chunk_stock.specs.contracts.drawer.Drawer as Drawer
 use Rattle.seated_desk.specs.contracts.buf_handle.BufHandle as BufHandle
@@ -58,8 +59,11 @@ out_send a = send_fields (PostingEnd.the_type a) (Arc-send (LinkInbox.the_row a)
 number_send : IsSend u64
 number_send = search (sendable, crosses) depth 20
 
+drawn_send : IsSend Drawn.the_row
+drawn_send = search (sendable, crosses, option_send) depth 40 fits 6000
+
 drawer_all : (a : NamedLft) → AllSend (fields (Drawer.the_type a))
-drawer_all a = (Arc-send (Stock.the_row a) (stock_send a) (stock_sync a), (search (sendable, crosses, token_send, option_send, part_send) depth 40 fits 6000, (search (sendable, crosses) depth 20, tt)))
+drawer_all a = (Arc-send (Stock.the_row a) (stock_send a) (stock_sync a), (search (sendable, crosses, token_send, option_send, part_send) depth 40 fits 6000, (drawn_send, (search (sendable, crosses) depth 20, tt))))
 
 heap_field : IsSend (Heap.the_field).row
 heap_field = search (sendable, crosses) depth 20
@@ -73,7 +77,7 @@ drawer_field a = struct_send (shape (Drawer.the_type a)) (drawer_all a)
 pub station_send : (a : NamedLft) → IsSend (Station.the_row a)
 station_send a =
     let n = number_send in
-    send_fields (Station.the_type a) (heap_field, (desk_send a, (in_field a, (Vec-send (PostingEnd.the_row a) (out_send a), (drawer_field a, (n, (n, (n, (n, (n, (n, (n, tt))))))))))))
+    send_fields (Station.the_type a) (heap_field, (n, (desk_send a, (in_field a, (Vec-send (PostingEnd.the_row a) (out_send a), (drawer_field a, (n, (n, (n, (n, (n, (n, (n, tt)))))))))))))
 
 pub seated_send : (a : NamedLft) → IsSend (AllocatorHandle.the_row a)
 seated_send a = search (sendable, crosses, option_send, station_send) depth 40 fits 6000
@@ -91,4 +95,4 @@ pointer_send : IsSend RawPtr
 pointer_send = search sendable
 
 pub buf_handle_send : (a : NamedLft) → IsSend (BufHandle.the_row a)
-buf_handle_send a = send_fields (BufHandle.the_type a) (pointer_send, (search (sendable, crosses, option_send, buf_send) depth 40 fits 6000, tt))
+buf_handle_send a = send_fields (BufHandle.the_type a) (pointer_send, (number_send, (search (sendable, crosses, option_send, buf_send) depth 40 fits 6000, tt)))

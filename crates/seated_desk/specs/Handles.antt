@@ -2,19 +2,38 @@
 use Rattle.std.specs.Prelude.{◌≡◌, ◌≢◌, ◌≤◌, ℕ, Option, Some, None}
 use Rattle.region_cut.specs.Classes.{size_of}
 use Rattle.slot_chain.specs.Buffer.{Buffer}
+use Rattle.seated_desk.specs.Answers.{refusal_number}
+use Rattle.seated_desk.specs.Kept.{AtStation, IsSameIn}
+use Rattle.seated_desk.specs.declared.allocator_handle.AllocatorHandle.{AllocatorHandle}
 use Rattle.seated_desk.specs.declared.buf_handle.BufHandle.{BufHandle}
+use Rattle.seated_desk.specs.declared.refusal.Refusal.TheVariants.{Stranger}
 
--- an answer of 0 has put a buffer of at least n bytes into the handle, which held none; any other leaves it as it was
-abbrev pub LendsInto : ℕ → ℕ → BufHandle → BufHandle → Type 0
-LendsInto n answer old new =
-    (answer ≡ 0 → (old.buf ≡ None) × ((b : Buffer) × (new.buf ≡ Some b) × (n ≤ size_of b.class)))
-    × (answer ≢ 0 → new ≡ old)
+-- the handle holds a buffer
+abbrev pub HasBuffer : BufHandle → Type 0
+HasBuffer h = (b : Buffer) × (h.buf ≡ Some b)
 
--- an answer of 0 has taken the handle's buffer out, and any other leaves it there
-abbrev pub TakesOut : ℕ → BufHandle → BufHandle → Type 0
-TakesOut answer old new =
-    (answer ≡ 0 → ((b : Buffer) × (old.buf ≡ Some b)) × (new.buf ≡ None))
-    × (answer ≢ 0 → new.buf ≡ old.buf)
+-- an answer of 0 has put a buffer of at least n bytes into the handle, which held none, and knows this pool now; any
+-- other leaves it as it was
+pub record Lends (n pool answer : ℕ) (old new : BufHandle) : Type 0 where
+  pub lent : answer ≡ 0 → (old.buf ≡ None) × ((b : Buffer) × (new.buf ≡ Some b) × (n ≤ size_of b.class)) × (new.pool ≡ pool)
+  pub refused : answer ≢ 0 → new ≡ old
+
+-- so does an allocator of its pool
+abbrev pub LendsInto : ℕ → ℕ → AllocatorHandle → AllocatorHandle → BufHandle → BufHandle → Type 0
+LendsInto n answer before after old new =
+    IsSameIn before.station after.station × AtStation before.station answer old new (λ s. Lends n s.pool answer old new)
+
+-- an answer of 0 has taken the handle's buffer out, which is of this pool; any other leaves it there. Another pool's
+-- buffer is a stranger
+pub record Frees (pool answer : ℕ) (old new : BufHandle) : Type 0 where
+  pub taken : answer ≡ 0 → HasBuffer old × (old.pool ≡ pool) × (new.buf ≡ None)
+  pub refused : answer ≢ 0 → new ≡ old
+  pub stranger : HasBuffer old → old.pool ≢ pool → answer ≡ refusal_number Stranger
+
+-- so does an allocator of its pool
+abbrev pub TakesOut : ℕ → AllocatorHandle → AllocatorHandle → BufHandle → BufHandle → Type 0
+TakesOut answer before after old new =
+    IsSameIn before.station after.station × AtStation before.station answer old new (λ s. Frees s.pool answer old new)
 
 -- how many bytes the buffer has that a handle holds, and how many of them are filled; none where it holds none
 abbrev pub capacity_in : Option Buffer → ℕ

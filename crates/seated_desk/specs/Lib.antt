@@ -1,6 +1,9 @@
 pub mod Answers
 pub mod Bursts
+pub mod Claims
 pub mod Handles
+pub mod Kept
 pub mod Ready
 pub mod Settled
 pub mod Shelves
+pub mod Stats

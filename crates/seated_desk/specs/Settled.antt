@@ -2,16 +2,10 @@
 use Rattle.std.specs.Prelude.{◌≡◌, ℕ, List, [], ◌∷◌, ◌++◌, Option, map, IsPermutation}
 use Rattle.region_cut.specs.Carved.{Carved}
 use Rattle.region_cut.specs.declared.slot.Slot.{Slot}
-use Rattle.pool_desk.specs.Desks.{DeskState}
 use Rattle.pool_desk.specs.Slots.{slots_in}
 use Rattle.slot_audit.specs.Audit.{FindsEachSlot}
+use Rattle.seated_desk.specs.Claims.{AreNoted}
 use Rattle.seated_desk.specs.declared.station.Station.{Station}
-
--- number, digits and chunks are the same
-pub record IsSameDesk (old new : DeskState) : Type 0 where
-  pub number : new.number ≡ old.number
-  pub digits : new.digits ≡ old.digits
-  pub drawn : new.drawn ≡ old.drawn
 
 -- what stays of a station: its number, and the chunks that it claimed
 abbrev pub desk_of : Station → ℕ × List Carved
@@ -29,15 +23,22 @@ abbrev pub listed : List Station → List Slot
 listed [] = []
 listed (s ∷ more) = station_slots s ++ listed more
 
+-- the chunks that the stations claimed
+abbrev pub claimed : List Station → List Carved
+claimed [] = []
+claimed (s ∷ more) = s.desk.drawn ++ claimed more
+
 -- the stations have each slot of each chunk that is noted once, and no other
 pub record AreWhole (drawn : List (Option ℕ)) (stations : List Station) : Type 0 where
   pub found : List Slot
   pub each : IsPermutation (listed stations) found
   pub once : FindsEachSlot drawn found
 
--- the audit found nothing wrong: these stations, once settled, have each slot of each chunk that was noted as drawn
+-- the audit found nothing wrong: these stations, once settled, have each slot of each chunk that they claimed, once,
+-- and no other
 pub record IsAudited (stations : List Station) : Type 0 where
   pub settled : List Station
   pub drawn : List (Option ℕ)
   pub same : AreSettled stations settled
+  pub noted : AreNoted drawn (claimed stations)
   pub whole : AreWhole drawn settled

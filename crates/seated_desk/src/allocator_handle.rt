@@ -1,6 +1,7 @@
 //! Where a program in C keeps one allocator of a pool.
 ghost use Rattle.seated_desk.specs.Bursts.{Fills, OpensBurst, TakesBurst};
 ghost use Rattle.seated_desk.specs.Handles.{LendsInto, TakesOut};
+ghost use Rattle.seated_desk.specs.Stats.{Collects, Flushes, TellsStat};
 
 use crate::buf_handle::BufHandle;
 use crate::burst_handle::BurstHandle;
@@ -26,7 +27,7 @@ impl<'r> AllocatorHandle<'r> {
     /// `Holds`.
     #[inline(always)]
     pub fn alloc(&mut self, handle: &mut BufHandle<'r>, size: usize) -> u32
-        ensures { LendsInto size result handle.old handle.new }
+        ensures { LendsInto size result self.old self.new handle.old handle.new }
     {
         match &mut self.station {
             Some(station) => answer(station.alloc(handle, size)),
@@ -35,10 +36,10 @@ impl<'r> AllocatorHandle<'r> {
     }
 
     /// Takes the handle's buffer back, which any allocator of its pool may have lent: `Empty` where it holds none,
-    /// `Stranger` where no allocator of the pool has the number of its owner.
+    /// `Stranger` where it is another pool's.
     #[inline(always)]
     pub fn free(&mut self, handle: &mut BufHandle<'r>) -> u32
-        ensures { TakesOut result handle.old handle.new }
+        ensures { TakesOut result self.old self.new handle.old handle.new }
     {
         match &mut self.station {
             Some(station) => answer(station.free(handle)),
@@ -49,7 +50,7 @@ impl<'r> AllocatorHandle<'r> {
     /// Opens a burst with room for `places` buffers of this allocator, in a handle that holds no buffer: `Holds`, or
     /// `NoMemory`.
     pub fn open(&mut self, burst: &mut BurstHandle<'r>, places: usize) -> u32
-        ensures { OpensBurst places result burst.old burst.new }
+        ensures { OpensBurst places result self.old self.new burst.old burst.new }
     {
         match &mut self.station {
             Some(station) => answer(station.open(burst, places)),
@@ -58,9 +59,9 @@ impl<'r> AllocatorHandle<'r> {
     }
 
     /// Lends `count` buffers of at least `size` bytes into a burst of this allocator: as `alloc`, `Stranger` where the
-    /// burst is another's, or `Full`. What was lent before a refusal stays in the burst.
+    /// burst is another allocator's or another pool's, or `Full`. What was lent before a refusal stays in the burst.
     pub fn fill(&mut self, burst: &mut BurstHandle<'r>, size: usize, count: usize) -> u32
-        ensures { Fills size count result burst.old burst.new }
+        ensures { Fills size count result self.old self.new burst.old burst.new }
     {
         match &mut self.station {
             Some(station) => answer(station.fill(burst, size, count)),
@@ -69,9 +70,9 @@ impl<'r> AllocatorHandle<'r> {
     }
 
     /// Takes back all buffers of a burst, which any allocator of the pool may have opened: `Empty` where it is not
-    /// open, or `Stranger`. It costs as much as one buffer does.
+    /// open, or `Stranger` where it is another pool's. It costs as much as one buffer does.
     pub fn free_all(&mut self, burst: &mut BurstHandle<'r>) -> u32
-        ensures { TakesBurst result burst.old burst.new }
+        ensures { TakesBurst result self.old self.new burst.old burst.new }
     {
         match &mut self.station {
             Some(station) => answer(station.free_all(burst)),
@@ -80,15 +81,22 @@ impl<'r> AllocatorHandle<'r> {
     }
 
     /// Takes what came home, at most 64 batches: 0 where a batch came, and `Empty` where none did.
-    pub fn collect(&mut self) -> u32 {
-        match &mut self.station {
-            Some(station) => answer(station.collect()),
-            None => Refusal::Empty.number(),
+    pub fn collect(&mut self) -> u32
+        ensures { Collects result self.old self.new }
+    {
+        let Some(station) = &mut self.station else {
+            return Refusal::Empty.number();
+        };
+        if station.take() == 0 {
+            return Refusal::Empty.number();
         }
+        0
     }
 
     /// Takes what came home, and posts all that is cached, until an inbox has no room.
-    pub fn flush(&mut self) -> u32 {
+    pub fn flush(&mut self) -> u32
+        ensures { Flushes result self.old self.new }
+    {
         let Some(station) = &mut self.station else {
             return Refusal::Empty.number();
         };
@@ -100,7 +108,9 @@ impl<'r> AllocatorHandle<'r> {
     /// A number about the allocator: 0 its own number, 1 buffers lent, 2 buffers freed here, 3 batches posted, 4 batches
     /// taken, 5 chunks drawn, 6 slots at home, 7 buffers cached, 8 bytes cached, 9 chunks in the region. The greatest
     /// number where it is not attached, and for any other `which`.
-    pub fn stat(&mut self, which: u32) -> u64 {
+    pub fn stat(&mut self, which: u32) -> u64
+        ensures { TellsStat which result self.old self.new }
+    {
         match &self.station {
             Some(station) => station.stat(which),
             None => u64::MAX,

@@ -1,12 +1,12 @@
 //! Where a program in C keeps one buffer.
-ghost use Rattle.std.specs.Prelude.{◌≡◌, None, Some};
+ghost use Rattle.std.specs.Prelude.{◌≡◌, None, Some, MatchOption};
 ghost use Rattle.seated_desk.specs.Answers.{answer_of};
 ghost use Rattle.seated_desk.specs.Handles.{SetsFilled, TellsCapacity, TellsFilled};
 
 use crate::refusal::{Refusal, answer};
 use crate::start::start_of;
 use slot_chain::Buf;
-use std::ptr;
+use std::{mem, ptr};
 
 /// A handle, which holds one buffer or none, and says where the buffer's bytes lie.
 ///
@@ -16,6 +16,8 @@ use std::ptr;
 #[derive(Drop)]
 pub struct BufHandle<'r> {
     pub(crate) at: *const u8,
+    // The number of the buffer's pool.
+    pub(crate) pool: u64,
     pub(crate) buf: Option<Buf<'r>>,
 }
 
@@ -29,16 +31,35 @@ impl<'r> BufHandle<'r> {
     {
         BufHandle {
             at: ptr::null(),
+            pool: 0,
             buf: None,
         }
     }
 
-    /// A handle that holds this buffer.
-    pub(crate) fn of(buf: Buf<'r>) -> BufHandle<'r>
-        ensures { result.buf ≡ Some buf.entry }
+    /// A handle that holds this buffer, of the pool of this number.
+    pub(crate) fn of(buf: Buf<'r>, pool: u64) -> BufHandle<'r>
+        ensures buf { result.buf ≡ Some buf.entry }
+        ensures pool { result.pool ≡ pool }
     {
         let at = start_of(buf.bytes());
-        BufHandle { at, buf: Some(buf) }
+        BufHandle {
+            at,
+            pool,
+            buf: Some(buf),
+        }
+    }
+
+    /// Takes the buffer out.
+    #[inline(always)]
+    pub(crate) fn take(&mut self) -> Option<Buf<'r>>
+        ensures { MatchOption result ((self.old.buf ≡ None) × (self.new ≡ self.old))
+            (λ b. (self.old.buf ≡ Some b) × (self.new ≡ record self.old { at = self.new.at; buf = None })) }
+    {
+        let Some(buf) = mem::replace(&mut self.buf, None) else {
+            return None;
+        };
+        self.at = ptr::null();
+        Some(buf)
     }
 
     /// How many bytes the buffer has, which is the size of its class; 0 where the handle holds none.

@@ -1,17 +1,18 @@
 //! Where a program in C keeps a burst: buffers of one allocator that are handed over and freed as a whole.
 ghost use Rattle.std.specs.Prelude.{◌≡◌, None};
 ghost use Rattle.seated_desk.specs.Answers.{answer_of};
-ghost use Rattle.seated_desk.specs.Bursts.{PutsIn, TakesLast, TellsCount};
+ghost use Rattle.seated_desk.specs.Bursts.{PutsIn, TakesLast, TellsCount, TellsSpan};
 
 use crate::buf_handle::BufHandle;
 use crate::refusal::{Refusal, answer};
 use crate::span::Span;
 use slot_chain::BufParcel;
-use std::mem;
 
 /// A handle, which holds one parcel of buffers or none.
 #[derive(Drop)]
 pub struct BurstHandle<'r> {
+    // The number of the buffers' pool.
+    pub(crate) pool: u64,
     pub(crate) parcel: Option<BufParcel<'r>>,
 }
 
@@ -20,7 +21,10 @@ impl<'r> BurstHandle<'r> {
     pub fn new() -> BurstHandle<'r>
         ensures { result.parcel ≡ None }
     {
-        BurstHandle { parcel: None }
+        BurstHandle {
+            pool: 0,
+            parcel: None,
+        }
     }
 
     /// How many buffers the burst has; 0 where it is not open.
@@ -34,7 +38,7 @@ impl<'r> BurstHandle<'r> {
     }
 
     /// Puts the handle's buffer to the end. `Empty` where the burst is not open or the handle holds none, `Stranger`
-    /// where the buffer is another allocator's, `Full` where no place is left.
+    /// where the buffer is another allocator's or another pool's, `Full` where no place is left.
     pub fn push(&mut self, handle: &mut BufHandle<'r>) -> u32
         ensures { PutsIn result self.old self.new handle.old handle.new }
     {
@@ -47,21 +51,21 @@ impl<'r> BurstHandle<'r> {
         let Some(parcel) = &mut self.parcel else {
             return Err(Refusal::Empty);
         };
-        let BufHandle { at: _, buf } = mem::replace(handle, BufHandle::new());
-        let Some(buf) = buf else {
+        let Some(held) = &handle.buf else {
             return Err(Refusal::Empty);
         };
-        let is_own = buf.owner() == parcel.owner();
+        if handle.pool != self.pool || held.owner() != parcel.owner() {
+            return Err(Refusal::Stranger);
+        }
+        if parcel.is_full() {
+            return Err(Refusal::Full);
+        }
+        let Some(buf) = handle.take() else {
+            return Err(Refusal::Empty);
+        };
         match parcel.push(buf) {
             Ok(()) => Ok(()),
-            Err(buf) => {
-                *handle = BufHandle::of(buf);
-                Err(if is_own {
-                    Refusal::Full
-                } else {
-                    Refusal::Stranger
-                })
-            }
+            Err(_) => unreachable!(),
         }
     }
 
@@ -85,12 +89,14 @@ impl<'r> BurstHandle<'r> {
         let Some(buf) = parcel.pop() else {
             return Err(Refusal::Empty);
         };
-        *handle = BufHandle::of(buf);
+        *handle = BufHandle::of(buf, self.pool);
         Ok(())
     }
 
     /// Tells where the bytes of the buffer at this place lie, counted from 0. `Empty` where there is none.
-    pub fn span(&mut self, span: &mut Span, index: usize) -> u32 {
+    pub fn span(&mut self, span: &mut Span, index: usize) -> u32
+        ensures { TellsSpan index result self.old self.new span.old span.new }
+    {
         let Some(parcel) = &self.parcel else {
             return Refusal::Empty.number();
         };

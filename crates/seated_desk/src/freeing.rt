@@ -1,12 +1,13 @@
 //! What is freed at a station.
 ghost use Rattle.seated_desk.specs.Answers.{answer_of};
-ghost use Rattle.seated_desk.specs.Bursts.{TakesBurst};
-ghost use Rattle.seated_desk.specs.Handles.{TakesOut};
+ghost use Rattle.seated_desk.specs.Bursts.{FreesAll};
+ghost use Rattle.seated_desk.specs.Handles.{Frees};
+ghost use Rattle.seated_desk.specs.Kept.{IsSameStation, KeepsStation};
 
 use crate::buf_handle::BufHandle;
 use crate::burst_handle::BurstHandle;
 use crate::refusal::Refusal;
-use crate::station::{Station, is_number};
+use crate::station::{MOST_DESKS, Station};
 use pool_desk::Freed;
 use std::mem;
 
@@ -14,7 +15,9 @@ impl<'r> Station<'r> {
     // Posts what is cached, unless a post was refused and little has come since.
     #[cold]
     #[inline(never)]
-    fn post_again(&mut self) {
+    fn post_again(&mut self)
+        ensures { KeepsStation self.old self.new }
+    {
         if self.desk.cached_bytes() < self.post_from {
             return;
         }
@@ -28,16 +31,18 @@ impl<'r> Station<'r> {
     /// Takes the handle's buffer back.
     #[inline(always)]
     pub(crate) fn free(&mut self, handle: &mut BufHandle<'r>) -> Result<(), Refusal>
-        ensures { TakesOut (answer_of result) handle.old handle.new }
+        ensures station { IsSameStation self.old self.new }
+        ensures frees { Frees self.old.pool (answer_of result) handle.old handle.new }
     {
-        let BufHandle { at: _, buf } = mem::replace(handle, BufHandle::new());
-        let Some(buf) = buf else {
+        let Some(held) = &handle.buf else {
             return Err(Refusal::Empty);
         };
-        if !is_number(buf.owner(), self.desk.digits()) {
-            *handle = BufHandle::of(buf);
+        if handle.pool != self.pool || held.owner() >= MOST_DESKS {
             return Err(Refusal::Stranger);
         }
+        let Some(buf) = handle.take() else {
+            return Err(Refusal::Empty);
+        };
         self.since = self.since.wrapping_add(1);
         self.freed = self.freed.wrapping_add(1);
         if let Freed::Due = self.desk.free(buf) {
@@ -48,15 +53,18 @@ impl<'r> Station<'r> {
 
     /// Takes back all buffers of a burst.
     pub(crate) fn free_all(&mut self, burst: &mut BurstHandle<'r>) -> Result<(), Refusal>
-        ensures { TakesBurst (answer_of result) burst.old burst.new }
+        ensures station { IsSameStation self.old self.new }
+        ensures frees { FreesAll self.old.pool (answer_of result) burst.old burst.new }
     {
+        let Some(held) = &burst.parcel else {
+            return Err(Refusal::Empty);
+        };
+        if burst.pool != self.pool || held.owner() >= MOST_DESKS {
+            return Err(Refusal::Stranger);
+        }
         let Some(parcel) = mem::replace(&mut burst.parcel, None) else {
             return Err(Refusal::Empty);
         };
-        if !is_number(parcel.owner(), self.desk.digits()) {
-            burst.parcel = Some(parcel);
-            return Err(Refusal::Stranger);
-        }
         self.since = self.since.wrapping_add(1);
         self.freed = self.freed.wrapping_add(parcel.len() as u64);
         if let Freed::Due = self.desk.free_all(parcel) {

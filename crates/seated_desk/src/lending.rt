@@ -1,17 +1,18 @@
 //! What a station lends.
-ghost use Rattle.std.specs.Prelude.{◌≡◌, ◌<◌, ◌≤◌, IfOk};
+ghost use Rattle.std.specs.Prelude.{◌≡◌, ◌<◌, ◌≤◌, ℕ, IfOk, MatchResult};
 ghost use Rattle.region_cut.specs.Classes.{classes_of, size_of};
 ghost use Rattle.pool_desk.specs.Desks.{profile_at};
 ghost use Rattle.seated_desk.specs.Answers.{answer_of};
-ghost use Rattle.seated_desk.specs.Bursts.{Adds, Fills, OpensBurst};
-ghost use Rattle.seated_desk.specs.Handles.{LendsInto};
+ghost use Rattle.seated_desk.specs.Bursts.{Adds, FillsAt, OpensAt};
+ghost use Rattle.seated_desk.specs.Handles.{Lends};
+ghost use Rattle.seated_desk.specs.Kept.{IsSameStation, KeepsStation};
 
 use crate::buf_handle::BufHandle;
 use crate::burst_handle::BurstHandle;
 use crate::refusal::Refusal;
-use crate::station::{Station, is_number};
+use crate::station::{MOST_DESKS, Station};
 use pool_desk::DeskError;
-use region_cut::Class;
+use region_cut::{Class, Profile};
 use slot_chain::{Buf, BufParcel};
 
 // How many calls go by between two looks into the inbox.
@@ -23,7 +24,7 @@ impl<'r> Station<'r> {
     #[inline(never)]
     fn fetch(&mut self, class: Class)
         requires { class < classes_of (profile_at self.old.desk) }
-        ensures { self.new.desk.digits ≡ self.old.desk.digits }
+        ensures { IsSameStation self.old self.new }
     {
         self.since = 0;
         self.take();
@@ -42,7 +43,7 @@ impl<'r> Station<'r> {
     #[inline(always)]
     fn provide(&mut self, class: Class)
         requires { class < classes_of (profile_at self.old.desk) }
-        ensures { self.new.desk.digits ≡ self.old.desk.digits }
+        ensures { IsSameStation self.old self.new }
     {
         self.since = self.since.wrapping_add(1);
         if self.since >= LOOK_EVERY || !self.desk.has_home(class) {
@@ -53,9 +54,10 @@ impl<'r> Station<'r> {
     // A buffer of at least this size.
     #[inline(always)]
     fn lend(&mut self, size: usize) -> Result<Buf<'r>, Refusal>
-        ensures { IfOk result (λ b. size ≤ size_of b.class) }
+        ensures station { IsSameStation self.old self.new }
+        ensures size { IfOk result (λ b. size ≤ size_of b.class) }
     {
-        let Some(class) = self.desk.digits().profile().class_for(size) else {
+        let Some(class) = Profile::Pool.class_for(size) else {
             return Err(Refusal::TooLarge);
         };
         self.provide(class);
@@ -72,18 +74,21 @@ impl<'r> Station<'r> {
     /// Lends a buffer into a handle that holds none.
     #[inline(always)]
     pub(crate) fn alloc(&mut self, handle: &mut BufHandle<'r>, size: usize) -> Result<(), Refusal>
-        ensures { LendsInto size (answer_of result) handle.old handle.new }
+        ensures station { IsSameStation self.old self.new }
+        ensures lends { Lends size self.old.pool (answer_of result) handle.old handle.new }
     {
         if handle.buf.is_some() {
             return Err(Refusal::Holds);
         }
-        *handle = BufHandle::of(self.lend(size)?);
+        let buf = self.lend(size)?;
+        *handle = BufHandle::of(buf, self.pool);
         Ok(())
     }
 
     /// Opens a burst with room for so many buffers, where the handle holds no buffer.
     pub(crate) fn open(&mut self, burst: &mut BurstHandle<'r>, places: usize) -> Result<(), Refusal>
-        ensures { OpensBurst places (answer_of result) burst.old burst.new }
+        ensures station { IsSameStation self.old self.new }
+        ensures opens { OpensAt places self.old.pool (answer_of result) burst.old burst.new }
     {
         if burst.len() > 0 {
             return Err(Refusal::Holds);
@@ -91,6 +96,7 @@ impl<'r> Station<'r> {
         let Ok(parcel) = self.desk.parcel(self.alloc, places) else {
             return Err(Refusal::NoMemory);
         };
+        burst.pool = self.pool;
         burst.parcel = Some(parcel);
         Ok(())
     }
@@ -102,12 +108,13 @@ impl<'r> Station<'r> {
         size: usize,
         count: usize,
     ) -> Result<(), Refusal>
-        ensures { Fills size count (answer_of result) burst.old burst.new }
+        ensures station { IsSameStation self.old self.new }
+        ensures fills { FillsAt size count self.old.pool (answer_of result) burst.old burst.new }
     {
         let Some(parcel) = &mut burst.parcel else {
             return Err(Refusal::Empty);
         };
-        if parcel.owner() != self.desk.number() {
+        if burst.pool != self.pool || parcel.owner() != self.desk.number() {
             return Err(Refusal::Stranger);
         }
         self.fill_up(parcel, size, count)
@@ -120,7 +127,9 @@ impl<'r> Station<'r> {
         size: usize,
         count: usize,
     ) -> Result<(), Refusal>
-        ensures { IfOk result (λ _. Adds size count parcel.old parcel.new) }
+        ensures station { IsSameStation self.old self.new }
+        ensures adds { MatchResult result (λ _. Adds size count parcel.old parcel.new)
+            (λ _. (n : ℕ) × (n ≤ count) × Adds size n parcel.old parcel.new) }
     {
         for lent in 0..count {
             if parcel.is_full() {
@@ -136,8 +145,10 @@ impl<'r> Station<'r> {
     }
 
     // Takes back a buffer that found no place.
-    fn keep(&mut self, buf: Buf<'r>) {
-        if is_number(buf.owner(), self.desk.digits()) {
+    fn keep(&mut self, buf: Buf<'r>)
+        ensures { KeepsStation self.old self.new }
+    {
+        if buf.owner() < MOST_DESKS {
             let _freed = self.desk.free(buf);
         }
     }

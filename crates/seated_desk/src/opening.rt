@@ -1,11 +1,12 @@
 //! How a pool is opened: inboxes, the ends of them that each desk has, and the stations.
-ghost use Rattle.std.specs.Prelude.{◌≡◌, ◌≤◌, length, None, IfOk};
+ghost use Rattle.std.specs.Prelude.{◌≡◌, ◌≤◌, length, All, None, IfOk};
 ghost use Rattle.std.specs.Arc.{arc_value};
+ghost use Rattle.chunk_stock.specs.Notes.{NotesNone};
 ghost use Rattle.seated_desk.specs.Ready.{AreReady};
 ghost use Rattle.seated_desk.specs.Shelves.{AreNumbered};
 
 use crate::ends::{PostingEnd, TakingEnd};
-use crate::station::{Station, is_number};
+use crate::station::{MOST_DESKS, Station};
 use chunk_stock::Drawer;
 use digit_route::Digits;
 use link_inbox::{LinkInbox, SendSeat};
@@ -96,37 +97,43 @@ pub(crate) fn ends_of_all<'r>(
 // A station of the desk with this number.
 fn station<'r>(
     alloc: Global,
+    pool: u64,
     number: u16,
     digits: Digits,
     limit: u64,
     ends: DeskEnds<'r>,
     drawer: Drawer<'r>,
 ) -> Result<Station<'r>, NoMemory>
-    requires { limit ≤ 1048576 }
-    ensures { IfOk result (λ s. s.desk.number ≡ number) }
+    requires limit { limit ≤ 1048576 }
+    requires bits { digits.bits ≡ 6 }
+    requires new { NotesNone drawer.drawn }
+    ensures { IfOk result (λ s. (s.desk.number ≡ number) × (s.pool ≡ pool)) }
 {
     let DeskEnds { inward, outward } = ends;
     let Some(inward) = inward else {
         return Err(NoMemory);
     };
-    if !is_number(number, digits) {
+    if number >= MOST_DESKS {
         return Err(NoMemory);
     }
     let desk = IdleDesk::new(number, digits, limit).adopt(0);
-    Ok(Station::new(alloc, desk, inward, outward, drawer))
+    Ok(Station::new(alloc, pool, desk, inward, outward, drawer))
 }
 
-/// A station for each of so many desks, numbered from 0.
+/// A station of this pool for each of so many desks, numbered from 0.
 pub(crate) fn stations<'r>(
     alloc: Global,
+    pool: u64,
     digits: Digits,
     limit: u64,
     ends: Vec<DeskEnds<'r>>,
     drawers: Vec<Drawer<'r>>,
     desks: u16,
 ) -> Result<Vec<Station<'r>>, NoMemory>
-    requires { limit ≤ 1048576 }
-    ensures { IfOk result (λ shelf. AreNumbered shelf.items) }
+    requires limit { limit ≤ 1048576 }
+    requires bits { digits.bits ≡ 6 }
+    requires new { All (λ d. NotesNone d.drawn) drawers.items }
+    ensures { IfOk result (λ shelf. AreNumbered pool shelf.items) }
 {
     let mut ends = ends.into_iter();
     let mut drawers = drawers.into_iter();
@@ -135,7 +142,7 @@ pub(crate) fn stations<'r>(
         let (Some(own), Some(drawer)) = (ends.next(), drawers.next()) else {
             return Err(NoMemory);
         };
-        shelf.push(station(alloc, number, digits, limit, own, drawer)?)?;
+        shelf.push(station(alloc, pool, number, digits, limit, own, drawer)?)?;
     }
     Ok(shelf)
 }

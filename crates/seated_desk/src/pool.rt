@@ -1,6 +1,10 @@
 //! A pool: its allocators that no thread holds.
+ghost use Rattle.std.specs.Prelude.{◌≤◌, IfOk, length};
+ghost use Rattle.region_cut.specs.Limits.{chunk_limit};
+ghost use Rattle.chunk_stock.specs.Rule.{AreNumbered};
 ghost use Rattle.seated_desk.specs.Answers.{answer_of};
 ghost use Rattle.seated_desk.specs.Shelves.{Closes, HandsOut, Opens, TakesBack};
+ghost use Rattle.seated_desk.specs.Stats.{TellsPoolStat};
 
 use crate::allocator_handle::AllocatorHandle;
 use crate::opening::{ends_of_all, stations};
@@ -29,12 +33,16 @@ pub struct Pool<'r> {
     pub(crate) alloc: Global,
     pub(crate) shelf: Vec<Station<'r>>,
     pub(crate) allocators: u16,
+    // By which its allocators and buffers know it.
+    pub(crate) number: u64,
     // The slot that the last audit named: its chunk times 256, and its index.
     pub(crate) fault: u64,
 }
 
 // The chunks of a region: from 1 to 1,024.
-fn parts_of<'r>(alloc: Global, region: &'r mut [u8]) -> Result<Vec<Part<'r>>, Refusal> {
+fn parts_of<'r>(alloc: Global, region: &'r mut [u8]) -> Result<Vec<Part<'r>>, Refusal>
+    ensures { IfOk result (λ parts. AreNumbered parts.items × (length parts.items ≤ chunk_limit)) }
+{
     match cut(alloc, region) {
         Ok(parts) if !parts.is_empty() => Ok(parts),
         Err(CutError::NoMemory) => Err(Refusal::NoMemory),
@@ -59,19 +67,28 @@ impl<'r> Pool<'r> {
             alloc,
             shelf: Vec::new(alloc),
             allocators: 0,
+            number: 0,
             fault: 0,
         }
     }
 
     /// Opens the pool over a region, which is cut into chunks of 4,096 bytes, with 1 to 64 allocators. Their numbers are
     /// read in digits of `bits` bits, 1 to 6. Each posts what it cached once that is more than `limit` bytes, of which
-    /// 1,048,576 are the most. `Holds` where it is open, `BadArgument`, or `NoMemory`.
+    /// 1,048,576 are the most. `number` is the pool's own: by it an allocator tells a buffer of another pool.
+    /// `Holds` where it is open, `BadArgument`, or `NoMemory`.
     ///
     /// It takes memory for 16 nodes for each two allocators, some 100 bytes each.
-    pub fn open(&mut self, region: &'r mut [u8], allocators: u32, bits: u32, limit: u64) -> u32
-        ensures { Opens result self.old self.new }
+    pub fn open(
+        &mut self,
+        region: &'r mut [u8],
+        allocators: u32,
+        bits: u32,
+        limit: u64,
+        number: u64,
+    ) -> u32
+        ensures { Opens number result self.old self.new }
     {
-        answer(self.open_over(region, allocators, bits, limit))
+        answer(self.open_over(region, allocators, bits, limit, number))
     }
 
     fn open_over(
@@ -80,8 +97,9 @@ impl<'r> Pool<'r> {
         allocators: u32,
         bits: u32,
         limit: u64,
+        number: u64,
     ) -> Result<(), Refusal>
-        ensures { Opens (answer_of result) self.old self.new }
+        ensures { Opens number (answer_of result) self.old self.new }
     {
         if self.allocators > 0 {
             return Err(Refusal::Holds);
@@ -100,11 +118,12 @@ impl<'r> Pool<'r> {
         let Ok(ends) = ends_of_all(self.alloc, digits, desks) else {
             return Err(Refusal::NoMemory);
         };
-        let Ok(shelf) = stations(self.alloc, digits, limit, ends, drawers, desks) else {
+        let Ok(shelf) = stations(self.alloc, number, digits, limit, ends, drawers, desks) else {
             return Err(Refusal::NoMemory);
         };
         self.shelf = shelf;
         self.allocators = desks;
+        self.number = number;
         Ok(())
     }
 
@@ -125,17 +144,19 @@ impl<'r> Pool<'r> {
     }
 
     /// Takes an allocator back, once it has taken what came and posted what it can: `Empty` where the handle is not
-    /// attached, `Stranger` where all of the pool's are back.
+    /// attached, `Stranger` where it is another pool's.
     pub fn detach(&mut self, allocator: &mut AllocatorHandle<'r>) -> u32
         ensures { TakesBack result self.old self.new allocator.old allocator.new }
     {
+        let Some(held) = &allocator.station else {
+            return Refusal::Empty.number();
+        };
+        if held.pool != self.number || self.shelf.len() >= self.allocators as usize {
+            return Refusal::Stranger.number();
+        }
         let Some(mut station) = mem::replace(&mut allocator.station, None) else {
             return Refusal::Empty.number();
         };
-        if self.shelf.len() >= self.allocators as usize {
-            allocator.station = Some(station);
-            return Refusal::Stranger.number();
-        }
         station.take();
         station.post();
         match self.shelf.push(station) {
@@ -174,7 +195,9 @@ impl<'r> Pool<'r> {
 
     /// A number about the pool: 0 its allocators, 1 those that are here, 2 the slot that the last fault named, as 256
     /// times its chunk and its index. The greatest number for any other `which`.
-    pub fn stat(&mut self, which: u32) -> u64 {
+    pub fn stat(&mut self, which: u32) -> u64
+        ensures { TellsPoolStat which result self.old self.new }
+    {
         match which {
             0 => self.allocators as u64,
             1 => self.shelf.len() as u64,

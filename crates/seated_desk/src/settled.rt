@@ -1,7 +1,8 @@
 //! The end of a pool, once all its stations are back.
-ghost use Rattle.std.specs.Prelude.{IfOk, OnOk};
+ghost use Rattle.std.specs.Prelude.{ℕ, List, Option, IfOk, OnOk};
+ghost use Rattle.seated_desk.specs.Claims.{AreNoted};
 ghost use Rattle.slot_chain.specs.Slots.{AddsSlots};
-ghost use Rattle.seated_desk.specs.Settled.{AreSettled, AreWhole, listed};
+ghost use Rattle.seated_desk.specs.Settled.{AreSettled, AreWhole, claimed, listed};
 
 use crate::station::Station;
 use region_cut::Slot;
@@ -45,20 +46,22 @@ fn list_all(shelf: &[Station<'_>], found: &mut Vec<Slot>) -> Result<(), NoMemory
     Ok(())
 }
 
-// Which chunks the stock counts as drawn.
-fn noted(alloc: Global, shelf: &[Station<'_>]) -> Result<Drawn, Fault> {
+// Which chunks the stations claimed.
+fn noted(alloc: Global, shelf: &[Station<'_>]) -> Result<Drawn, Fault>
+    ensures { IfOk result (λ drawn. AreNoted drawn (claimed shelf.now)) }
+{
     let Ok(mut drawn) = Drawn::new(alloc) else {
         return Err(Fault::NoMemory);
     };
-    if let Some(station) = shelf.first() {
+    for station in shelf {
         station.drawer.note_all(&mut drawn);
     }
     Ok(drawn)
 }
 
-/// Whether each slot of each chunk that is drawn is at one of the stations, once.
+/// Whether each slot of each chunk that the stations claimed is at one of them, once.
 pub(crate) fn judge(alloc: Global, shelf: &[Station<'_>]) -> Result<(), Fault>
-    ensures { IfOk result (λ _. (drawn : _) × AreWhole drawn shelf.now) }
+    ensures { IfOk result (λ _. (drawn : List (Option ℕ)) × AreNoted drawn (claimed shelf.now) × AreWhole drawn shelf.now) }
 {
     let drawn = noted(alloc, shelf)?;
     let mut found = Vec::new(alloc);

@@ -1,4 +1,7 @@
 //! Where the bytes of a buffer lie.
+ghost use Rattle.std.specs.Prelude.{◌≡◌};
+ghost use Rattle.region_cut.specs.Classes.{size_of};
+
 use crate::start::start_of;
 use slot_chain::Buf;
 use std::ptr;
@@ -21,7 +24,9 @@ impl Span {
     }
 
     /// The bytes of this buffer.
-    pub(crate) fn of(buf: &Buf<'_>) -> Span {
+    pub(crate) fn of(buf: &Buf<'_>) -> Span
+        ensures { result.len ≡ size_of buf.now.class }
+    {
         let bytes = buf.bytes();
         Span {
             at: start_of(bytes),

@@ -1,19 +1,21 @@
 //! A desk with its ways to the other desks.
-ghost use Rattle.std.specs.Prelude.{◌≡◌, ◌<◌, ◌^◌, IsTrue, IfSome, OnOk};
+ghost use Rattle.std.specs.Prelude.{◌≡◌, ◌<◌, ◌≤◌, ◌^◌, IsTrue, IfSome, OnOk};
 ghost use Rattle.slot_chain.specs.Slots.{AddsSlots};
-ghost use Rattle.seated_desk.specs.Settled.{IsSameDesk, station_slots};
+ghost use Rattle.seated_desk.specs.Claims.{AreNoted, IsSameDesk};
 
 use crate::ends::{PostingEnd, TakingEnd};
-use crate::refusal::Refusal;
 use chunk_stock::Drawer;
-use digit_route::{Batch, Digits};
+use digit_route::Batch;
 use pool_desk::Desk;
-use region_cut::{Profile, Slot};
+use region_cut::Slot;
 use slot_chain::NoMemory;
 use std::alloc::Global;
 
 // How many batches are taken at a time.
 const MOST_TAKEN: u32 = 64;
+
+/// The most desks of a pool, whose numbers have 6 bits.
+pub(crate) const MOST_DESKS: u16 = 64;
 
 // How many batches are posted at a time.
 const MOST_POSTED: u32 = 4096;
@@ -22,6 +24,8 @@ const MOST_POSTED: u32 = 4096;
 #[derive(Drop)]
 pub(crate) struct Station<'r> {
     pub(crate) alloc: Global,
+    // The number of its pool.
+    pub(crate) pool: u64,
     pub(crate) desk: Desk<'r>,
     pub(crate) inward: TakingEnd<'r>,
     pub(crate) outward: Vec<PostingEnd<'r>>,
@@ -35,16 +39,8 @@ pub(crate) struct Station<'r> {
     pub(crate) posted: u64,
     pub(crate) taken: u64,
     pub(crate) claimed: u64,
-}
-
-/// Whether a desk may have the number.
-pub(crate) fn is_number(owner: u16, digits: Digits) -> bool
-    ensures { IsTrue result → owner < 2 ^ digits.bits }
-{
-    match digits.profile() {
-        Profile::Pool => owner < 64,
-        Profile::Pool2 => owner < 4096,
-    }
+    ghost noted: { AreNoted drawer.drawn desk.drawn },
+    ghost bits: { desk.digits.bits ≡ 6 },
 }
 
 // The next batch to be posted, of a first round while there is one.
@@ -59,18 +55,27 @@ fn next_of<'r>(desk: &mut Desk<'r>) -> Option<Batch<'r>>
 }
 
 impl<'r> Station<'r> {
-    /// A station that counted nothing yet.
+    ghost use Rattle.seated_desk.specs.Kept.{KeepsStation};
+    ghost use Rattle.seated_desk.specs.Settled.{station_slots};
+    ghost use Rattle.seated_desk.specs.Stats.{IsStatOf};
+
+    /// A station of this pool that counted nothing yet.
     pub(crate) fn new(
         alloc: Global,
+        pool: u64,
         desk: Desk<'r>,
         inward: TakingEnd<'r>,
         outward: Vec<PostingEnd<'r>>,
         drawer: Drawer<'r>,
     ) -> Station<'r>
-        ensures { result.desk ≡ desk.entry }
+        requires noted { AreNoted drawer.drawn desk.drawn }
+        requires bits { desk.digits.bits ≡ 6 }
+        ensures desk { result.desk ≡ desk.entry }
+        ensures pool { result.pool ≡ pool }
     {
         Station {
             alloc,
+            pool,
             desk,
             inward,
             outward,
@@ -87,7 +92,9 @@ impl<'r> Station<'r> {
 
     /// Takes what came in batches, at most 64. Says how many.
     pub(crate) fn take(&mut self) -> u32
-        ensures { IsSameDesk self.old.desk self.new.desk }
+        ensures keeps { KeepsStation self.old self.new }
+        ensures none { result ≡ 0 → self.new.desk ≡ self.old.desk }
+        ensures most { result ≤ 64 }
     {
         for count in 0..MOST_TAKEN {
             let Some(batch) = self.inward.take() else {
@@ -102,17 +109,9 @@ impl<'r> Station<'r> {
         MOST_TAKEN
     }
 
-    /// Takes what came: `Empty` where nothing did.
-    pub(crate) fn collect(&mut self) -> Result<(), Refusal> {
-        match self.take() {
-            0 => Err(Refusal::Empty),
-            _ => Ok(()),
-        }
-    }
-
     // Posts one batch. Says whether there was one, and it was not refused.
     fn post_one(&mut self) -> bool
-        ensures { IsSameDesk self.old.desk self.new.desk }
+        ensures { KeepsStation self.old self.new }
     {
         let Some(batch) = next_of(&mut self.desk) else {
             return false;
@@ -135,7 +134,7 @@ impl<'r> Station<'r> {
 
     /// Posts all that is cached, until a batch is refused. Says how many batches.
     pub(crate) fn post(&mut self) -> u32
-        ensures { IsSameDesk self.old.desk self.new.desk }
+        ensures { KeepsStation self.old self.new }
     {
         for count in 0..MOST_POSTED {
             if !self.post_one() {
@@ -153,7 +152,9 @@ impl<'r> Station<'r> {
     }
 
     /// A number about it, as `AllocatorHandle::stat` says.
-    pub(crate) fn stat(&self, which: u32) -> u64 {
+    pub(crate) fn stat(&self, which: u32) -> u64
+        ensures { IsStatOf which result self.now }
+    {
         match which {
             0 => self.desk.number() as u64,
             1 => self.lent,

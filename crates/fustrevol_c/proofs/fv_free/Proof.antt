@@ -3,7 +3,7 @@ use Rattle.fustrevol_c.proofs.Steps.{◌≡◌, ◌∙◌, sym, ap, subst, ℕ, 
 use base.Fml.{Lft}
 use contract.BorrowLft.{⊑_static}
 use mir.Val.{vptr}
-use Rattle.fustrevol_c.specs.Places.{allocator_row, buf_row, allocator_at}
+use Rattle.fustrevol_c.specs.Places.{allocator_row, buf_row}
 use Rattle.fustrevol_c.specs.contracts.fv_free as f
 use Rattle.fustrevol_c.proofs.fv_free.Statement.{statement}
 use Rattle.fustrevol_c.proofs.fv_free.Code as code
@@ -26,8 +26,8 @@ fv_free_spec 𝓤 𝓛 𝓜 𝓡 wired =
     f.Key.name code.function (code.unfolded 𝓤 𝓛.H 𝓜 𝓡 wired)
     (λ κs. (rawptr_vals, (rawptr_vals, tt))) (λ κs. (rawptr_Tells, (rawptr_Tells, tt))) (λ κs qs bounds a n are.
     let y : Ptr → Ptr → W.Ghost = λ p r. ((κs, qs, bounds, (p, (r, tt)), (rawptr_vals p, (rawptr_vals r, tt))), n) in
-    qed 𝓛 (raw (on_entry 𝓛 f.signature κs qs a (y a.0 a.1.0).0.4) ∷ (‵ (allocator_at a.0) ⊛ ‵ (lies_at buf_row full_share a.1.0 n)) ∷ []) ∵ drop ! $ split ! $ fpick ! (λ s.
-    in_a_block ! a.0 (λ p. lies_at allocator_row full_share p s) (id⊢ 𝓤 _) (λ b o e. move ! (1 ∷ []) $ let s₂ = n in
+    qed 𝓛 (raw (on_entry 𝓛 f.signature κs qs a (y a.0 a.1.0).0.4) ∷ (‵ (lies_at allocator_row full_share a.0 n.0) ⊛ ‵ (lies_at buf_row full_share a.1.0 n.1)) ∷ []) ∵ drop ! $ split ! $ let s = n.0 in
+    in_a_block ! a.0 (λ p. lies_at allocator_row full_share p s) (id⊢ 𝓤 _) (λ b o e. move ! (1 ∷ []) $ let s₂ = n.1 in
     in_a_block ! a.1.0 (λ p. lies_at buf_row full_share p s₂) (id⊢ 𝓤 _) (λ b₂ o₂ e₂.
     regoal ! (λ p. prop (WpFn 𝓤 𝓛.H 𝓣.C 𝓣.Λ code.function (rawptr_vals p ++ (rawptr_vals a.1.0 ++ ([]))) (W.post (y p a.1.0)))) e refl $
     regoal ! (λ p. prop (WpFn 𝓤 𝓛.H 𝓣.C 𝓣.Λ code.function (vptr b o ∷ (rawptr_vals p ++ ([]))) (W.post (y (block_ptr b o) p)))) e₂ refl $
@@ -61,16 +61,15 @@ fv_free_spec 𝓤 𝓛 𝓜 𝓡 wired =
     calls_at ! (framed 𝓤 𝓛.H 𝓜 (tables 𝓤 𝓛.H 𝓜 𝓡 𝓡.env)) G (met 𝓤 𝓛 𝓜 𝓡 (code.calls-seated_desk::allocator_handle::AllocatorHandle::free 𝓡.env wired)) z
     (and_then ! (get ! refl) (and_then ! (get ! refl) (no_more !))) (λ v.
     use1 𝓛 (later (some (λ (u : ℕ). ((‵ (flft κ full_share) ⊛ (‵ (flft [] full_share) ⊛ (‵ (flft λ₂ full_share) ⊛ ‵ ftrue))) ⊛ ‵ (u32.own_val u (v ∷ []))) ⊛
-    some (λ (ws : allocator_row.Denot × (buf_row.Denot × Unit {0})). ‵ (lasts g.ended z.0.0 z.0.3 ws) ⊛ raw (fact 𝓤 (TakesOut u s₂ ws.1.0)))))) (id⊢ 𝓤 _) $
+    some (λ (ws : allocator_row.Denot × (buf_row.Denot × Unit {0})). ‵ (lasts g.ended z.0.0 z.0.3 ws) ⊛ raw (fact 𝓤 (TakesOut u s ws.0 s₂ ws.1.0)))))) (id⊢ 𝓤 _) $
     await ! tt $ pick ! (λ u. split ! $ split ! $ split ! $ lft_end ! tt $ move ! (1 ∷ []) $ split ! $ drop ! $ split ! $ lft_end ! tt $ move ! (4 ∷ []) $
     pick ! (λ ws. split ! $ move ! (1 ∷ []) $ heard ! _ (λ told. nothing ! $ move ! (1 ∷ 0 ∷ []) $ fsplit ! $ fsplit ! $
     move ! (6 ∷ 9 ∷ 0 ∷ []) $ use3 𝓛 (later (‵ (lies_at allocator_row full_share (block_ptr b o) ws.0))) (ref_back 𝓛 allocator_row κ γ ws.0 b o) $ await ! tt $
-    fpack ! allocator_row.Denot (λ t. lies_at allocator_row full_share (block_ptr b o) t) ws.0 $
     move ! (2 ∷ []) $ fsplit ! $ fsplit ! $
     move ! (6 ∷ 9 ∷ 0 ∷ []) $ use3 𝓛 (later (‵ (lies_at buf_row full_share (block_ptr b₂ o₂) ws.1.0))) (ref_back 𝓛 buf_row λ₂ γ₂ ws.1.0 b₂ o₂) $ await ! tt $
     move ! (7 ∷ 0 ∷ 3 ∷ []) $ peeks ! u32 _ (shows 𝓛 u32) u (v ∷ []) (λ is.
     lands_as ! refl refl ((uint_Lawful 𝓛 w32).typed u _ is).0 $
     returns ! (look_at ! 0 refl) $ free_all ! refl $ keep ! (2 ∷ 1 ∷ 0 ∷ []) $ move ! (2 ∷ 0 ∷ 1 ∷ []) $
     suffices ! _ (ends_at 𝓛 f.ended stayed c yy v u (tt, (tt, tt)) (tt, (tt, tt))) $
-    nothing ! $ nothing ! $ join ! $ nothing ! $ join ! $ nothing ! $ group ! 3 $ frame ! $ frame ! $
-    show ! (λ (t : buf_row.Denot). sep 𝓤 (sem 𝓛 (lies_at buf_row full_share (block_ptr b₂ o₂) t)) (fact 𝓤 (TakesOut u s₂ t))) ws.1.0 $ says ! told $ done !))))))))))))))
+    nothing ! $ nothing ! $ join ! $ nothing ! $ join ! $ nothing ! $ group ! 3 $ frame ! $
+    show ! (λ (t : allocator_row.Denot × buf_row.Denot). sep 𝓤 (sem 𝓛 (lies_at allocator_row full_share (block_ptr b o) t.0)) (sep 𝓤 (sem 𝓛 (lies_at buf_row full_share (block_ptr b₂ o₂) t.1)) (fact 𝓤 (TakesOut u s t.0 s₂ t.1)))) (ws.0, ws.1.0) $ frame ! $ says ! told $ done !)))))))))))))

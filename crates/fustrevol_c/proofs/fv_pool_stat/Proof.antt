@@ -3,12 +3,18 @@ use Rattle.fustrevol_c.proofs.Steps.{◌≡◌, ◌∙◌, sym, ap, subst, ℕ, 
 use base.Fml.{Lft}
 use contract.BorrowLft.{⊑_static}
 use mir.Val.{vptr}
-use Rattle.fustrevol_c.specs.Places.{pool_row, pool_at}
+use Rattle.fustrevol_c.specs.Places.{pool_row}
 use Rattle.fustrevol_c.specs.contracts.fv_pool_stat as f
 use Rattle.fustrevol_c.proofs.fv_pool_stat.Statement.{statement}
 use Rattle.fustrevol_c.proofs.fv_pool_stat.Code as code
 use Rattle.seated_desk.specs.contracts.pool.Pool.stat as g
 use Rattle.seated_desk.proofs.pool.Pool.stat.Met.{met}
+use Rattle.seated_desk.specs.Stats.{TellsPoolStat}
+use types.Logic.{sem}
+use base.Logic.{sep}
+use contract.Monad.{fact}
+use types.Kit.{show, frame}
+use denote.Triple.Walked.{says}
 
 abbrev stayed : Stays f.ended.signature.params f.ended.kept
 stayed = (stay_dropped _ yes, (stay_dropped _ yes, tt))
@@ -21,7 +27,7 @@ fv_pool_stat_spec 𝓤 𝓛 𝓜 𝓡 wired =
     (λ κs. (rawptr_vals, (uint_vals w32, tt))) (λ κs. (rawptr_Tells, (uint_Tells w32, tt))) (λ κs qs bounds a n are.
     let which = a.1.0 in
     let y : Ptr → W.Ghost = λ p. ((κs, qs, bounds, (p, (which, tt)), (rawptr_vals p, (uint_vals w32 which, tt))), n) in
-    qed 𝓛 (raw (on_entry 𝓛 f.signature κs qs a (y a.0).0.4) ∷ ‵ (pool_at a.0) ∷ []) ∵ drop ! $ fpick ! (λ s.
+    qed 𝓛 (raw (on_entry 𝓛 f.signature κs qs a (y a.0).0.4) ∷ ‵ (lies_at pool_row full_share a.0 n) ∷ []) ∵ drop ! $ let s = n in
     in_a_block ! a.0 (λ p. lies_at pool_row full_share p s) (id⊢ 𝓤 _) (λ b o e.
     regoal ! (λ p. prop (WpFn 𝓤 𝓛.H 𝓣.C 𝓣.Λ code.function (rawptr_vals p ++ (vint w32 which ∷ ([]))) (W.post (y p)))) e refl $
     let yy = y (block_ptr b o) in
@@ -44,12 +50,12 @@ fv_pool_stat_spec 𝓤 𝓛 𝓜 𝓡 wired =
     calls_at ! (framed 𝓤 𝓛.H 𝓜 (tables 𝓤 𝓛.H 𝓜 𝓡 𝓡.env)) G (met 𝓤 𝓛 𝓜 𝓡 (code.calls-seated_desk::pool::Pool::stat 𝓡.env wired)) z
     (and_then ! (get ! refl) (and_then ! (get ! refl) (no_more !))) (λ v.
     use1 𝓛 (later (some (λ (u : ℕ). ((‵ (flft κ full_share) ⊛ (‵ (flft [] full_share) ⊛ ‵ ftrue)) ⊛ ‵ (u64.own_val u (v ∷ []))) ⊛
-    some (λ (ws : pool_row.Denot × (Unit {0} × Unit {0})). ‵ (lasts g.ended z.0.0 z.0.3 ws) ⊛ raw (emp 𝓤))))) (id⊢ 𝓤 _) $
-    await ! tt $ pick ! (λ u. split ! $ split ! $ split ! $ lft_end ! tt $ move ! (3 ∷ []) $ pick ! (λ ws. split ! $ fsplit ! $ fsplit ! $
+    some (λ (ws : pool_row.Denot × (Unit {0} × Unit {0})). ‵ (lasts g.ended z.0.0 z.0.3 ws) ⊛ raw (fact 𝓤 (TellsPoolStat which u s ws.0)))))) (id⊢ 𝓤 _) $
+    await ! tt $ pick ! (λ u. split ! $ split ! $ split ! $ lft_end ! tt $ move ! (3 ∷ []) $ pick ! (λ ws. split ! $ move ! (1 ∷ []) $ heard ! _ (λ told. nothing ! $ move ! (1 ∷ 0 ∷ []) $ fsplit ! $ fsplit ! $
     move ! (4 ∷ 7 ∷ 0 ∷ []) $ use3 𝓛 (later (‵ (lies_at pool_row full_share (block_ptr b o) ws.0))) (ref_back 𝓛 pool_row κ γ ws.0 b o) $ await ! tt $
-    fpack ! pool_row.Denot (λ t. lies_at pool_row full_share (block_ptr b o) t) ws.0 $
     move ! (5 ∷ []) $ peeks ! u64 _ (shows 𝓛 u64) u (v ∷ []) (λ is.
     lands_as ! refl refl ((uint_Lawful 𝓛 w64).typed u _ is).0 $
     returns ! (look_at ! 0 refl) $ free_all ! refl $ keep ! (0 ∷ 1 ∷ []) $
     suffices ! _ (ends_at 𝓛 f.ended stayed c yy v u (tt, (tt, tt)) (tt, (tt, tt))) $
-    nothing ! $ nothing ! $ join ! $ nothing ! $ join ! $ nothing ! $ group ! 3 $ done !))))))))))
+    nothing ! $ nothing ! $ join ! $ nothing ! $ join ! $ nothing ! $ group ! 3 $ frame ! $
+    show ! (λ (t : pool_row.Denot). sep 𝓤 (sem 𝓛 (lies_at pool_row full_share (block_ptr b o) t)) (fact 𝓤 (TellsPoolStat which u s t))) ws.0 $ says ! told $ done !))))))))))

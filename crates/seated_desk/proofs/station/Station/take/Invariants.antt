@@ -1,5 +1,9 @@
-use Rattle.seated_desk.specs.Settled.{IsSameDesk}
+use Rattle.std.proofs.Common.{◌≡◌}
+use Rattle.seated_desk.specs.Kept.{KeepsStation}
 use Rattle.seated_desk.proofs.station.Station.take.Given as goal
 
 abbrev pub invariant-loop-count : goal.invariant-loop-count
-invariant-loop-count l = IsSameDesk l.initial.self.desk l.self.desk
+invariant-loop-count l = record {
+  keeps : KeepsStation l.initial.self l.self;
+  none : l.count ≡ 0 → l.self.desk ≡ l.initial.self.desk;
+}
