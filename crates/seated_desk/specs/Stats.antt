@@ -1,5 +1,5 @@
 -- What the numbers about a pool and an allocator are.
-use Rattle.std.specs.Prelude.{◌≡◌, ◌<◌, ◌-◌, ◌^◌, ℕ, Some, None, Option, length}
+use Rattle.std.specs.Prelude.{◌≡◌, ◌≢◌, ◌<◌, ◌≤◌, ◌+◌, ◌-◌, ◌%◌, ◌^◌, ℕ, Some, None, Option, length}
 use Rattle.slot_chain.specs.Counts.{capped, sizes}
 use Rattle.seated_desk.specs.Answers.{refusal_number}
 use Rattle.seated_desk.specs.Kept.{AtStation, KeepsIn}
@@ -45,14 +45,24 @@ pub record TellsPoolStat (which told : ℕ) (old new : Pool) : Type 0 where
 abbrev pub Flushes : ℕ → AllocatorHandle → AllocatorHandle → Type 0
 Flushes answer old new = KeepsIn old.station new.station × AtStation old.station answer old new (λ s. answer ≡ 0)
 
+-- the most batches that are taken at a time
+abbrev pub most_taken : ℕ
+most_taken = 64
+
+-- so many batches came, as the counter of 64 bits tells
+abbrev pub Took : ℕ → Option Station → Option Station → Type 0
+Took n (Some s) (Some t) = t.taken % 2 ^ 64 ≡ (s.taken + n) % 2 ^ 64
+Took n s t = ⊥
+
 -- the desk is the same
 abbrev pub HasSameDesk : Option Station → Option Station → Type 0
 HasSameDesk None None = Unit {0}
 HasSameDesk (Some s) (Some t) = t.desk ≡ s.desk
 HasSameDesk s t = ⊥
 
--- an allocator is kept, but for where slots are; where the answer isn't 0 nothing came, so these are where they were
+-- An allocator is kept, but for where slots are. At an answer of 0 one to 64 batches came, and at any other none, so its
+-- slots are where they were.
 pub record Collects (answer : ℕ) (old new : AllocatorHandle) : Type 0 where
   pub keeps : KeepsIn old.station new.station
-  pub nothing_came : answer ≡ refusal_number Empty → HasSameDesk old.station new.station
-  pub attached : answer ≡ 0 → (s : Station) × (old.station ≡ Some s)
+  pub came : answer ≡ 0 → (n : ℕ) × (0 < n) × (n ≤ most_taken) × Took n old.station new.station
+  pub nothing_came : answer ≢ 0 → (answer ≡ refusal_number Empty) × HasSameDesk old.station new.station

@@ -1,5 +1,5 @@
 //! A desk with its ways to the other desks.
-ghost use Rattle.std.specs.Prelude.{◌≡◌, ◌<◌, ◌≤◌, ◌^◌, IsTrue, IfSome, OnOk};
+ghost use Rattle.std.specs.Prelude.{◌≡◌, ◌+◌, ◌%◌, ◌≤◌, ◌^◌, IfSome, OnOk};
 ghost use Rattle.slot_chain.specs.Slots.{AddsSlots};
 ghost use Rattle.seated_desk.specs.Claims.{AreNoted, IsSameDesk};
 
@@ -57,7 +57,7 @@ fn next_of<'r>(desk: &mut Desk<'r>) -> Option<Batch<'r>>
 impl<'r> Station<'r> {
     ghost use Rattle.seated_desk.specs.Kept.{KeepsStation};
     ghost use Rattle.seated_desk.specs.Settled.{station_slots};
-    ghost use Rattle.seated_desk.specs.Stats.{IsStatOf};
+    ghost use Rattle.seated_desk.specs.Stats.{IsStatOf, most_taken};
 
     /// A station of this pool that counted nothing yet.
     pub(crate) fn new(
@@ -94,7 +94,8 @@ impl<'r> Station<'r> {
     pub(crate) fn take(&mut self) -> u32
         ensures keeps { KeepsStation self.old self.new }
         ensures none { result ≡ 0 → self.new.desk ≡ self.old.desk }
-        ensures most { result ≤ 64 }
+        ensures most { result ≤ most_taken }
+        ensures counted { self.new.taken % 2 ^ 64 ≡ (self.old.taken + result) % 2 ^ 64 }
     {
         for count in 0..MOST_TAKEN {
             let Some(batch) = self.inward.take() else {
