@@ -63,27 +63,33 @@
  *   - every call returns, has no undefined behaviour, and leaves in each object a valid value of its type;
  *   - fv_alloc: after FV_OK, `buf`, which held none, holds a buffer whose capacity is at least `size`;
  *     after any other answer, `buf` is as it was;
- *   - fv_free: after FV_OK, `buf` holds no buffer; after any other answer, it holds the same buffer;
+ *   - fv_free: after FV_OK, `buf` holds no buffer; after any other answer, it is as it was;
+ *   - what is of another pool is refused with FV_STRANGER, by every call that takes it back;
  *   - fv_buf_capacity, fv_buf_len and fv_buf_set_len tell and change what they say, and nothing else;
  *   - fv_pool_open: after FV_OK, no two allocators have the same number; after any other answer, the pool
  *     is as it was;
  *   - fv_pool_attach and fv_pool_detach: after FV_OK, one allocator has moved from the pool to `allocator`,
  *     or back with its chunks; after any other answer, the pool has those that it had;
- *   - fv_pool_close: after FV_OK, an audit found each slot of each chunk that was noted as drawn, once, and
+ *   - fv_pool_close: after FV_OK, an audit found each slot of each chunk that the allocators drew, once, and
  *     no other one; after FV_EMPTY and FV_FULL, the pool is as it was;
  *   - fv_burst_open, fv_burst_fill, fv_burst_push, fv_burst_pop, fv_burst_free: after FV_OK, the buffers that
  *     came are at the burst's end, or the last one, or all, left it; after any other answer, fv_burst_fill
- *     aside, the burst has those that it had; fv_burst_len tells how many;
+ *     aside, the burst is as it was. What fv_burst_fill lent before it stopped is at the burst's end.
+ *     fv_burst_len tells how many a burst has, and fv_burst_at how many bytes each of them;
+ *   - fv_flush and fv_collect keep the allocator, its chunks and its counts of what was lent and freed.
+ *     fv_collect answers FV_OK where one to 64 batches came, and else moves no slot;
+ *   - fv_pool_stat and fv_allocator_stat tell what the library counted, and change nothing;
  *   - a buffer's bytes are lent to nobody else until it is freed.
  *
  * These are true by how the library is built, and tested:
  *   - `at` and fv_burst_at tell where a buffer's bytes lie;
- *   - the chunks that were drawn are noted, and fv_pool_stat and fv_allocator_stat count what they say;
+ *   - the library counts what fv_allocator_stat says;
+ *   - each fv_pool_open gives the pool a number of its own, by which its allocators know what is theirs;
  *   - nothing that was freed is lost, so that fv_pool_close answers FV_OK where all buffers were freed;
  *   - after fv_pool_close the region is the caller's again, as the call says.
  *
  * WHAT THE CALLER KEEPS. No proof sees these rules, and breaking one of them is undefined behaviour, except
- * for the last two:
+ * for the last one:
  *   - Each object is initialised before its first use, in storage of the type's size, aligned to 16 bytes
  *     (fv_buf: 8 bytes).
  *   - One call at a time on one object. An object goes to another thread by a mutex, by starting or joining
@@ -92,8 +98,6 @@
  *   - The region is used only through its buffers, from fv_pool_open on.
  *   - malloc, realloc and free are not replaced by others while a pool is open. No call comes from a signal
  *     handler, nor from a forked child of a process with threads.
- *   - A buffer, a burst and an allocator go back to the pool they are of. Else another pool lends bytes of
- *     this one's region. The audits tell.
  *   - An object that holds something is neither initialised again nor let go. Else what it holds is lost.
  *     The audit tells. */
 #ifndef FUSTREVOL_H
@@ -132,8 +136,8 @@ enum fv_answer {
   FV_BAD_ARGUMENT = 8, /* a number is out of its range */
 
   /* Answers of fv_pool_close alone. The pool is closed. fv_pool_stat(pool, FV_POOL_FAULT) names the slot. */
-  FV_AUDIT_STRANGER = 101, /* a slot was found of a chunk that nobody drew: another pool's buffer */
-  FV_AUDIT_DOUBLED = 102,  /* a slot was found twice */
+  FV_AUDIT_STRANGER = 101, /* a slot was found of a chunk that nobody drew: a rule above was broken */
+  FV_AUDIT_DOUBLED = 102,  /* a slot was found twice: a rule above was broken */
   FV_AUDIT_MISSING = 103,  /* a slot was not found: its buffer was not freed */
   FV_AUDIT_NO_MEMORY = 104 /* malloc refused what the audit needs: it says nothing */
 };
@@ -210,8 +214,9 @@ void fv_burst_init(fv_burst *burst) FV_NOEXCEPT;
  * buffer goes home directly. With fewer, allocators pass batches on for others, so that each sends fewer
  * and larger ones.
  *
- * Takes some 50 bytes of memory for each chunk, 3 KB for each allocator, and 1.6 KB for each pair of them:
- * 7 MB for 64 allocators. No byte of the region is written.
+ * Takes some 40 bytes of memory for each chunk, 9 KB for each allocator, and 1.6 KB for each pair of them:
+ * 7 MB for 64 allocators. No byte of the region is written. The pool is another one than each before it: it
+ * takes no buffer back that an earlier one over the same region lent.
  *
  * FV_OK
  * FV_HOLDS         the pool is open
@@ -234,7 +239,7 @@ uint32_t fv_pool_attach(fv_pool *FV_RESTRICT pool, fv_allocator *FV_RESTRICT all
  *
  * FV_OK
  * FV_EMPTY      `allocator` holds none
- * FV_STRANGER   the pool has all its allocators: this one is of another pool
+ * FV_STRANGER   this one is of another pool
  * FV_NO_MEMORY  `allocator` holds it still */
 uint32_t fv_pool_detach(fv_pool *FV_RESTRICT pool, fv_allocator *FV_RESTRICT allocator) FV_NOEXCEPT;
 
@@ -279,7 +284,7 @@ uint32_t fv_alloc(fv_allocator *FV_RESTRICT allocator, fv_buf *FV_RESTRICT buf, 
  *
  * FV_OK
  * FV_EMPTY     `allocator` holds none, or `buf` holds none: it was freed, pushed or never lent
- * FV_STRANGER  kept for buffers of other pools: this version takes them */
+ * FV_STRANGER  the buffer is of another pool */
 uint32_t fv_free(fv_allocator *FV_RESTRICT allocator, fv_buf *FV_RESTRICT buf) FV_NOEXCEPT;
 
 /* Takes what came home, at most 64 batches, then posts all that is cached. Where the inbox of another
@@ -345,7 +350,7 @@ uint32_t fv_burst_open(fv_allocator *FV_RESTRICT allocator, fv_burst *FV_RESTRIC
  * FV_OK        all of them
  * FV_FULL      there was no place left
  * FV_TOO_LARGE, FV_USED_UP, FV_NO_MEMORY  as fv_alloc
- * FV_STRANGER  another allocator opened the burst
+ * FV_STRANGER  another allocator opened the burst, of this pool or another
  * FV_EMPTY     the burst is not open, or `allocator` holds none */
 uint32_t fv_burst_fill(fv_allocator *FV_RESTRICT allocator, fv_burst *FV_RESTRICT burst, size_t size,
                        size_t count) FV_NOEXCEPT;
@@ -354,14 +359,14 @@ uint32_t fv_burst_fill(fv_allocator *FV_RESTRICT allocator, fv_burst *FV_RESTRIC
  *
  * FV_OK
  * FV_EMPTY     the burst is not open, or `allocator` holds none
- * FV_STRANGER  kept, as of fv_free */
+ * FV_STRANGER  the burst is of another pool */
 uint32_t fv_burst_free(fv_allocator *FV_RESTRICT allocator, fv_burst *FV_RESTRICT burst) FV_NOEXCEPT;
 
 /* Puts a buffer to the end of a burst; `buf` holds none then.
  *
  * FV_OK
  * FV_FULL      there is no place left
- * FV_STRANGER  the buffer is not of the allocator that opened the burst
+ * FV_STRANGER  the buffer is not of the allocator that opened the burst, or of another pool
  * FV_EMPTY     the burst is not open, or `buf` holds no buffer */
 uint32_t fv_burst_push(fv_burst *FV_RESTRICT burst, fv_buf *FV_RESTRICT buf) FV_NOEXCEPT;
 
