@@ -30,7 +30,7 @@ impl<'r> AllocatorHandle<'r> {
         ensures { LendsInto size result self.old self.new handle.old handle.new }
     {
         match &mut self.station {
-            Some(station) => answer(station.alloc(handle, size)),
+            Some(station) => station.alloc(handle, size),
             None => Refusal::Empty.number(),
         }
     }

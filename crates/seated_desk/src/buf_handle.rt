@@ -49,6 +49,19 @@ impl<'r> BufHandle<'r> {
         }
     }
 
+    /// Puts a buffer of the pool of this number in, where there is none.
+    #[inline(always)]
+    pub(crate) fn put(&mut self, buf: Buf<'r>, pool: u64)
+        requires { self.old.buf ≡ None }
+        ensures buf { self.new.buf ≡ Some buf.entry }
+        ensures pool { self.new.pool ≡ pool }
+    {
+        self.at = start_of(buf.bytes());
+        self.pool = pool;
+        // there is none, so nothing is forgotten, and nothing has to be let go
+        mem::forget(mem::replace(&mut self.buf, Some(buf)));
+    }
+
     /// Takes the buffer out.
     #[inline(always)]
     pub(crate) fn take(&mut self) -> Option<Buf<'r>>

@@ -1,5 +1,5 @@
 //! What a station lends.
-ghost use Rattle.std.specs.Prelude.{◌≡◌, ◌<◌, ◌≤◌, ℕ, IfOk, MatchResult};
+ghost use Rattle.std.specs.Prelude.{◌≡◌, ◌<◌, ◌≤◌, ℕ, None, IfOk, MatchResult};
 ghost use Rattle.region_cut.specs.Classes.{classes_of, size_of};
 ghost use Rattle.pool_desk.specs.Desks.{profile_at};
 ghost use Rattle.seated_desk.specs.Answers.{answer_of};
@@ -40,7 +40,6 @@ impl<'r> Station<'r> {
     }
 
     // Looks into the inbox where that is due, or no slot is at home.
-    #[inline(always)]
     fn provide(&mut self, class: Class)
         requires { class < classes_of (profile_at self.old.desk) }
         ensures { IsSameStation self.old self.new }
@@ -51,16 +50,13 @@ impl<'r> Station<'r> {
         }
     }
 
-    // A buffer of at least this size.
+    // A buffer of the class, of a slot at home.
     #[inline(always)]
-    fn lend(&mut self, size: usize) -> Result<Buf<'r>, Refusal>
+    fn lend_class(&mut self, class: Class) -> Result<Buf<'r>, Refusal>
+        requires { class < classes_of (profile_at self.old.desk) }
         ensures station { IsSameStation self.old self.new }
-        ensures size { IfOk result (λ b. size ≤ size_of b.class) }
+        ensures class { IfOk result (λ b. b.class ≡ class) }
     {
-        let Some(class) = Profile::Pool.class_for(size) else {
-            return Err(Refusal::TooLarge);
-        };
-        self.provide(class);
         match self.desk.alloc_class(self.alloc, class) {
             Ok(buf) => {
                 self.lent = self.lent.wrapping_add(1);
@@ -71,18 +67,66 @@ impl<'r> Station<'r> {
         }
     }
 
-    /// Lends a buffer into a handle that holds none.
-    #[inline(always)]
-    pub(crate) fn alloc(&mut self, handle: &mut BufHandle<'r>, size: usize) -> Result<(), Refusal>
+    // A buffer of at least this size.
+    fn lend(&mut self, size: usize) -> Result<Buf<'r>, Refusal>
         ensures station { IsSameStation self.old self.new }
-        ensures lends { Lends size self.old.pool (answer_of result) handle.old handle.new }
+        ensures size { IfOk result (λ b. size ≤ size_of b.class) }
+    {
+        let Some(class) = Profile::Pool.class_for(size) else {
+            return Err(Refusal::TooLarge);
+        };
+        self.provide(class);
+        self.lend_class(class)
+    }
+
+    // Lends a buffer of the class into a handle that holds none: what `alloc` answers.
+    #[inline(always)]
+    fn lend_into(&mut self, handle: &mut BufHandle<'r>, class: Class) -> u32
+        requires class { class < classes_of (profile_at self.old.desk) }
+        requires empty { handle.old.buf ≡ None }
+        ensures station { IsSameStation self.old self.new }
+        ensures lends { Lends (size_of class) self.old.pool result handle.old handle.new }
+    {
+        match self.lend_class(class) {
+            Ok(buf) => {
+                handle.put(buf, self.pool);
+                0
+            }
+            Err(refusal) => refusal.number(),
+        }
+    }
+
+    // The same, once it took what came, and drew a chunk where no slot of the class was among it. It is a function of
+    // its own, called last, so that the short way of `alloc` saves no register.
+    #[cold]
+    #[inline(never)]
+    fn fetch_into(&mut self, handle: &mut BufHandle<'r>, class: Class) -> u32
+        requires class { class < classes_of (profile_at self.old.desk) }
+        requires empty { handle.old.buf ≡ None }
+        ensures station { IsSameStation self.old self.new }
+        ensures lends { Lends (size_of class) self.old.pool result handle.old handle.new }
+    {
+        self.fetch(class);
+        self.lend_into(handle, class)
+    }
+
+    /// Lends a buffer into a handle that holds none: 0, or the number of a refusal.
+    #[inline(always)]
+    pub(crate) fn alloc(&mut self, handle: &mut BufHandle<'r>, size: usize) -> u32
+        ensures station { IsSameStation self.old self.new }
+        ensures lends { Lends size self.old.pool result handle.old handle.new }
     {
         if handle.buf.is_some() {
-            return Err(Refusal::Holds);
+            return Refusal::Holds.number();
         }
-        let buf = self.lend(size)?;
-        *handle = BufHandle::of(buf, self.pool);
-        Ok(())
+        let Some(class) = Profile::Pool.class_for(size) else {
+            return Refusal::TooLarge.number();
+        };
+        self.since = self.since.wrapping_add(1);
+        if self.since >= LOOK_EVERY || !self.desk.has_home(class) {
+            return self.fetch_into(handle, class);
+        }
+        self.lend_into(handle, class)
     }
 
     /// Opens a burst with room for so many buffers, where the handle holds no buffer.
