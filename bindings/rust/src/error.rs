@@ -22,7 +22,7 @@ pub enum Error {
     Full,
     /// A number is out of its range.
     BadArgument,
-    /// The audit found a slot of another pool.
+    /// The audit found a slot of a chunk that nobody drew.
     AuditStranger,
     /// The audit found a slot twice.
     AuditDoubled,
