@@ -39,15 +39,13 @@ impl<'r> Station<'r> {
         self.claimed = self.claimed.wrapping_add(1);
     }
 
-    // Looks into the inbox where that is due, or no slot is at home.
-    fn provide(&mut self, class: Class)
-        requires { class < classes_of (profile_at self.old.desk) }
+    // Counts a call. Says whether a look into the inbox is due, or no slot of the class is at home.
+    #[inline(always)]
+    fn is_to_fetch(&mut self, class: Class) -> bool
         ensures { IsSameStation self.old self.new }
     {
         self.since = self.since.wrapping_add(1);
-        if self.since >= LOOK_EVERY || !self.desk.has_home(class) {
-            self.fetch(class);
-        }
+        self.since >= LOOK_EVERY || !self.desk.has_home(class)
     }
 
     // A buffer of the class, of a slot at home.
@@ -75,7 +73,9 @@ impl<'r> Station<'r> {
         let Some(class) = Profile::Pool.class_for(size) else {
             return Err(Refusal::TooLarge);
         };
-        self.provide(class);
+        if self.is_to_fetch(class) {
+            self.fetch(class);
+        }
         self.lend_class(class)
     }
 
@@ -122,8 +122,7 @@ impl<'r> Station<'r> {
         let Some(class) = Profile::Pool.class_for(size) else {
             return Refusal::TooLarge.number();
         };
-        self.since = self.since.wrapping_add(1);
-        if self.since >= LOOK_EVERY || !self.desk.has_home(class) {
+        if self.is_to_fetch(class) {
             return self.fetch_into(handle, class);
         }
         self.lend_into(handle, class)
