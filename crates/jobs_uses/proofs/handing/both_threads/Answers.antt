@@ -12,12 +12,13 @@ use Rattle.digit_route.proofs.Travels.{buf_send}
 use Rattle.batch_inbox.specs.declared.mail.Mailbox as Mailbox
 use Rattle.batch_inbox.specs.declared.mail.Receiver as Receiver
 use Rattle.batch_inbox.specs.declared.mail.Sender as Sender
+use Rattle.loan_ledger.proofs.Travels.{receipt_send}
 use Rattle.pool_fabric.specs.declared.naming.Naming as Naming
+use Rattle.pool_fabric.specs.contracts.parcel.Parcel as Parcel
+use Rattle.pool_fabric.specs.contracts.parcel.Parcel.TheInside as InParcel
 use Rattle.pool_fabric.proofs.Travels.{fabric_sync, held_send, send_fields, inbox_sync, take_send, seat_send}
 use Rattle.pool_jobs.specs.contracts.entrance.Entrance as Entrance
 use Rattle.pool_jobs.specs.contracts.gate.NoGate as NoGate
-use Rattle.pool_jobs.specs.contracts.buffers.parcel.Parcel as Parcel
-use Rattle.pool_jobs.specs.contracts.buffers.parcel.Parcel.TheInside as InParcel
 use Rattle.crossbeam_channel.proofs.channel.Sender.TheSendSync.{the_send as to_send}
 use Rattle.crossbeam_channel.proofs.channel.Receiver.TheSendSync.{the_send as from_send}
 use Rattle.jobs_uses.specs.contracts.handing.Packing as Packing
@@ -30,7 +31,7 @@ packed_send : (r : NamedLft) → IsSend (Packed.the_row r)
 packed_send r = search (sendable, crosses, buf_send) depth 40 fits 6000
 
 parcel_send : (r : NamedLft) (J : RattleType) (j : Naming.Ghosts J.Denot) → IsSend (Parcel.the_row r J j)
-parcel_send r X j = view_send _ _ _ _ _ (send_fields (InParcel.the_type r X j) (packed_send r, (search (sendable, crosses) depth 40 fits 6000, tt)))
+parcel_send r X j = view_send _ _ _ _ _ (send_fields (InParcel.the_type r X j) (packed_send r, (receipt_send, (search (sendable, crosses) depth 40 fits 6000, tt))))
 
 -- who is about to take up a station crosses where the inboxes and the gate are shared, and its seats cross
 module _ (a r : NamedLft) (M T S G J : RattleType) (m : Mailbox.Ghosts M.Denot) (t : Receiver.Ghosts T.Denot) (s : Sender.Ghosts S.Denot) (j : Naming.Ghosts J.Denot)
