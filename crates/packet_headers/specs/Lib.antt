@@ -1,0 +1,3 @@
+pub mod Captures
+pub mod Headers
+pub mod Layers
