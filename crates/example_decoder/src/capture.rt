@@ -1,0 +1,187 @@
+//! A capture that is read packet by packet.
+ghost use Rattle.std.specs.Prelude.{◌≤◌, length, IfOk};
+
+use fustrevol::PoolError;
+use packet_headers::{
+    ByteOrder, FILE_HEADER, FileError, FileHeader, LinkType, RECORD_HEADER, RecordError,
+    RecordHeader,
+};
+use std::fmt;
+use std::io::{self, BufReader, ErrorKind, Read};
+
+/// Where and why reading ended before the end of the capture.
+#[derive(Debug, Drop)]
+pub struct Stop {
+    /// How many bytes stand before the header, or the packet's header, that is not good.
+    pub offset: u64,
+    pub cause: Cause,
+}
+
+/// Why reading ended.
+#[derive(Debug, Drop)]
+pub enum Cause {
+    /// The file ends after so many bytes of its header.
+    NoHeader(usize),
+    /// The file's header is none.
+    Header(FileError),
+    /// The packets begin with something that is not known here.
+    Link(u32),
+    /// The file ends after so many bytes of a packet's header.
+    EndInHeader(usize),
+    /// The file ends before so many bytes of a packet.
+    EndInPacket(u32),
+    /// A packet's header is none.
+    Record(RecordError),
+    /// A read failed.
+    Read(io::Error),
+    /// There is no buffer.
+    Pool(PoolError),
+}
+
+impl Stop {
+    /// Whether the capture is to blame, and no read, and not the pool.
+    pub fn is_of_the_capture(&self) -> bool {
+        !matches!(self.cause, Cause::Read(_) | Cause::Pool(_))
+    }
+}
+
+impl fmt::Display for Stop {
+    fn fmt<W: fmt::Write>(&self, f: &mut fmt::Formatter<W>) -> fmt::Result {
+        let offset = self.offset;
+        write!(f, "offset {offset}: ")?;
+        match &self.cause {
+            Cause::NoHeader(0) => write!(f, "the file is empty"),
+            Cause::NoHeader(n) => write!(
+                f,
+                "the file ends after {n} of the 24 bytes of its header"
+            ),
+            Cause::Header(error) => write!(f, "{error}"),
+            Cause::Link(number) => write!(
+                f,
+                "unknown link type {number}: only Ethernet (1) and raw IP (101) are known"
+            ),
+            Cause::EndInHeader(n) => {
+                write!(
+                    f,
+                    "the file ends after {n} of the 16 bytes of a packet's header"
+                )
+            }
+            Cause::EndInPacket(n) => write!(
+                f,
+                "the file ends inside a packet of {n} captured bytes"
+            ),
+            Cause::Record(error) => write!(f, "{error}"),
+            Cause::Read(error) => write!(f, "{error}"),
+            Cause::Pool(error) => write!(f, "{error}"),
+        }
+    }
+}
+
+/// A capture whose header was read.
+#[derive(Drop)]
+pub struct Capture<I> {
+    reader: BufReader<I>,
+    order: ByteOrder,
+    /// What its packets begin with.
+    pub link: LinkType,
+    /// How many bytes were read, all of good packets but for the last one.
+    offset: u64,
+}
+
+// Reads until all is filled, or nothing more comes, and says how many bytes came.
+fn read_all<I: Read>(reader: &mut I, bytes: &mut [u8]) -> io::Result<usize>
+    ensures { IfOk result (λ n. n ≤ length bytes.old) }
+{
+    let mut filled = 0;
+    for _ in 0..u64::MAX {
+        if filled >= bytes.len() {
+            break;
+        }
+        match reader.read(&mut bytes[filled..]) {
+            Ok(0) => break,
+            Ok(n) => filled += n,
+            Err(error) if error.kind() == ErrorKind::Interrupted => (),
+            Err(error) => return Err(error),
+        }
+    }
+    Ok(filled)
+}
+
+impl<I: Read + Drop> Capture<I> {
+    /// Reads the header of a capture.
+    pub fn open(reader: BufReader<I>) -> Result<Capture<I>, Stop> {
+        let mut reader = reader;
+        let mut bytes = [0; FILE_HEADER];
+        let stop = |cause| Stop { offset: 0, cause };
+        let count = match read_all(&mut reader, &mut bytes) {
+            Ok(count) => count,
+            Err(error) => return Err(stop(Cause::Read(error))),
+        };
+        if count < FILE_HEADER {
+            return Err(stop(Cause::NoHeader(count)));
+        }
+        let header = match FileHeader::read(&bytes) {
+            Ok(header) => header,
+            Err(error) => return Err(stop(Cause::Header(error))),
+        };
+        let Some(link) = LinkType::from_number(header.link) else {
+            return Err(stop(Cause::Link(header.link)));
+        };
+        Ok(Capture {
+            reader,
+            order: header.order,
+            link,
+            offset: FILE_HEADER as u64,
+        })
+    }
+
+    /// That reading ends here.
+    pub fn stop(&self, cause: Cause) -> Stop {
+        Stop {
+            offset: self.offset,
+            cause,
+        }
+    }
+
+    /// The next packet's header, or `None` at the end of the capture.
+    pub fn next_record(&mut self) -> Result<Option<RecordHeader>, Stop> {
+        let mut bytes = [0; RECORD_HEADER];
+        match read_all(&mut self.reader, &mut bytes) {
+            Ok(0) => return Ok(None),
+            Ok(RECORD_HEADER) => (),
+            Ok(count) => return Err(self.stop(Cause::EndInHeader(count))),
+            Err(error) => return Err(self.stop(Cause::Read(error))),
+        }
+        match RecordHeader::read(self.order, &bytes) {
+            Ok(record) => Ok(Some(record)),
+            Err(error) => Err(self.stop(Cause::Record(error))),
+        }
+    }
+
+    /// Reads the packet behind this header: as much of it as there is room for, and the rest is passed over.
+    pub fn read_packet(&mut self, record: &RecordHeader, bytes: &mut [u8]) -> Result<(), Stop> {
+        let captured = record.captured as usize;
+        let kept = captured.min(bytes.len());
+        let count = match self.read_and_skip(&mut bytes[..kept], captured - kept) {
+            Ok(count) => count,
+            Err(error) => return Err(self.stop(Cause::Read(error))),
+        };
+        if count < captured as u64 {
+            return Err(self.stop(Cause::EndInPacket(record.captured)));
+        }
+        self.offset = self
+            .offset
+            .saturating_add(RECORD_HEADER as u64 + captured as u64);
+        Ok(())
+    }
+
+    // Reads these bytes and passes over so many, and says how many bytes there were.
+    fn read_and_skip(&mut self, bytes: &mut [u8], rest: usize) -> io::Result<u64> {
+        let count = read_all(&mut self.reader, bytes)? as u64;
+        if rest == 0 {
+            return Ok(count);
+        }
+        let skipped = io::copy(&mut self.reader.by_ref().take(rest as u64), &mut io::sink())?;
+        Ok(count.saturating_add(skipped))
+    }
+}

@@ -1,0 +1,107 @@
+//! The report as a table.
+
+use crate::counts::Count;
+use crate::report::{Report, transport_name};
+use packet_headers::Flow;
+use std::alloc::Global;
+use std::fmt;
+use std::io::{self, Write};
+use std::net::IpAddr;
+
+/// Writes the report as a table. At most so many bytes of a packet were kept.
+pub fn write_table<W: Write>(
+    alloc: Global,
+    report: &Report,
+    most: usize,
+    out: &mut W,
+) -> io::Result<()> {
+    write_protocols(alloc, report, out)?;
+    write_damage(report, most, out)?;
+    write_flows(report, out)
+}
+
+fn write_protocols<W: Write>(alloc: Global, report: &Report, out: &mut W) -> io::Result<()> {
+    writeln!(out, "{:<20}{:>12}{:>16}", "protocol", "packets", "bytes")?;
+    for (protocol, count) in report.protocols(alloc)? {
+        write_count(protocol.name(), count, out)?;
+    }
+    write_count("all", report.counts.all, out)
+}
+
+fn write_count<W: Write>(name: &str, count: Count, out: &mut W) -> io::Result<()> {
+    let Count { packets, bytes } = count;
+    writeln!(out, "{name:<20}{packets:>12}{bytes:>16}")
+}
+
+fn write_damage<W: Write>(report: &Report, most: usize, out: &mut W) -> io::Result<()> {
+    let damage = &report.counts.damage;
+    let malformed = damage.malformed();
+    writeln!(out, "\n{:<20}{:>12}", "damage", "packets")?;
+    writeln!(out, "{:<20}{malformed:>12}", "malformed")?;
+    for (name, packets) in [
+        ("  short header", damage.short_header),
+        ("  wrong version", damage.version),
+        ("  header length", damage.header_length),
+        ("  length", damage.length),
+    ] {
+        if packets > 0 {
+            writeln!(out, "{name:<20}{packets:>12}")?;
+        }
+    }
+    writeln!(
+        out,
+        "{:<20}{:>12}",
+        "cut by the capture", damage.cut_by_capture
+    )?;
+    writeln!(out, "cut to {most:<4} bytes   {:>12}", damage.cut_to_buffer)?;
+    writeln!(out, "{:<20}{:>12}", "cut in a header", damage.cut_header)
+}
+
+fn write_flows<W: Write>(report: &Report, out: &mut W) -> io::Result<()> {
+    let shown = report.top.len();
+    let all = report.counts.flow_count();
+    writeln!(out, "\nflows: {shown} of {all}")?;
+    for (flow, count) in &report.top {
+        let Count { packets, bytes } = *count;
+        writeln!(
+            out,
+            "{bytes:>16} bytes {packets:>9} packets  {}",
+            Shown(flow)
+        )?;
+    }
+    Ok(())
+}
+
+/// A flow as text.
+#[derive(Clone, Copy)]
+struct Shown<'a>(&'a Flow);
+
+impl fmt::Display for Shown<'_> {
+    fn fmt<W: fmt::Write>(&self, f: &mut fmt::Formatter<W>) -> fmt::Result {
+        let Flow {
+            source,
+            destination,
+            protocol,
+            ports,
+        } = *self.0;
+        match transport_name(protocol) {
+            Some(name) => write!(f, "{name} ")?,
+            None => write!(f, "protocol {protocol} ")?,
+        }
+        write_end(f, source, ports.map(|ports| ports.source))?;
+        write!(f, " > ")?;
+        write_end(f, destination, ports.map(|ports| ports.destination))
+    }
+}
+
+fn write_end<W: fmt::Write>(
+    f: &mut fmt::Formatter<W>,
+    address: IpAddr,
+    port: Option<u16>,
+) -> fmt::Result {
+    match (address, port) {
+        (IpAddr::V6(address), Some(port)) => write!(f, "[{address}]:{port}"),
+        (IpAddr::V4(address), Some(port)) => write!(f, "{address}:{port}"),
+        (address, None) => write!(f, "{address}"),
+    }
+}
