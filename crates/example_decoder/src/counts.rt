@@ -125,7 +125,7 @@ impl Counts {
         self.all.add(bytes);
         if let Some(count) = self
             .by_set
-            .get_mut(usize::from(note.decoded.protocols.bits()))
+            .get_mut(usize::from(note.decoded.protocols.bits))
         {
             count.add(bytes);
         }
@@ -141,7 +141,7 @@ impl Counts {
         let mut count = Count::NONE;
         for (bits, one) in self.by_set.iter().enumerate() {
             let bits = u16::try_from(bits).unwrap_or(0);
-            if Protocols::from_bits(bits).contains(protocol) {
+            if Protocols { bits }.contains(protocol) {
                 count = count.plus(*one);
             }
         }

@@ -79,7 +79,7 @@ impl Note {
             return;
         };
         front[..2].copy_from_slice(&self.kept.to_le_bytes());
-        front[2..4].copy_from_slice(&self.decoded.protocols.bits().to_le_bytes());
+        front[2..4].copy_from_slice(&self.decoded.protocols.bits.to_le_bytes());
         front[4] = fault_number(self.decoded.fault);
         front[5] = 0;
         if let Some(flow) = &self.decoded.flow {
@@ -91,7 +91,9 @@ impl Note {
     pub fn read(bytes: &[u8]) -> Option<Note> {
         let bytes = bytes.first_chunk::<NOTE>()?;
         let decoded = Decoded {
-            protocols: Protocols::from_bits(word_at(bytes, 2)),
+            protocols: Protocols {
+                bits: word_at(bytes, 2),
+            },
             flow: read_flow(bytes),
             fault: fault_of(bytes[4]),
         };

@@ -1,5 +1,5 @@
 -- Where headers stand in a layer, and what lies behind them.
-use Rattle.std.specs.Prelude.{ℕ, ◌≡◌, ◌+◌, ◌*◌, ◌<◌, ◌≤◌, List, length, take, drop, slice_index}
+use Rattle.std.specs.Prelude.{ℕ, ◌≡◌, ◌+◌, ◌*◌, ◌<◌, ◌≤◌, List, length, take, drop, slice_index, Result, Err}
 use Rattle.packet_headers.specs.declared.layer.Layer.{Layer}
 use Rattle.packet_headers.specs.declared.layer.Fault.{Fault}
 use Rattle.packet_headers.specs.declared.layer.Fault.TheVariants.{Cut, Short}
@@ -24,3 +24,7 @@ abbrev pub IsUnread : ℕ → Layer → Fault → Type 0
 IsUnread count layer Cut = (length layer.bytes.now < count) × (count ≤ layer.size)
 IsUnread count layer Short = layer.size < count
 IsUnread count layer _ = ⊥
+
+-- a header that is said to be cut is one of a layer that wasn't captured whole
+abbrev pub IsCutIfSaid : Layer → Result Unit Fault → Type 0
+IsCutIfSaid layer result = result ≡ Err Cut → length layer.bytes.now < layer.size

@@ -1,3 +1,4 @@
 pub mod Captures
 pub mod Headers
 pub mod Layers
+pub mod Protocols

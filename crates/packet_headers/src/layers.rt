@@ -1,4 +1,7 @@
 //! All layers of a packet.
+ghost use Rattle.std.specs.Prelude.{◌≡◌, ◌<◌, length, Some};
+ghost use Rattle.packet_headers.specs.Layers.{IsCutIfSaid};
+ghost use Rattle.packet_headers.specs.declared.layer.Fault.TheVariants.{Cut};
 
 use crate::arp::Arp;
 use crate::ethernet::{Ethernet, VlanTag};
@@ -50,10 +53,13 @@ const MOST_EXTENSIONS: usize = 32;
 /// Reads all headers of a packet.
 ///
 /// It is counted under each protocol whose header could be read. A frame with more than eight tags counts
-/// as [`Protocol::OtherNetwork`], a packet with more than 32 extensions as [`Protocol::OtherTransport`].
-pub fn decode(link: LinkType, packet: Layer<'_>) -> Decoded {
+/// as [`Protocol::OtherNetwork`], a packet with more than 32 extensions as [`Protocol::OtherTransport`]. A
+/// packet that was captured whole is never said to be cut.
+pub fn decode(link: LinkType, packet: Layer<'_>) -> Decoded
+    ensures { result.fault ≡ Some Cut → length packet.entry.bytes.now < packet.entry.size }
+{
     let mut decoded = Decoded {
-        protocols: Protocols::none(),
+        protocols: Protocols::NONE,
         flow: None,
         fault: None,
     };
@@ -69,7 +75,9 @@ fn is_tag(kind: u16) -> bool {
     matches!(kind, 0x8100 | 0x88a8 | 0x9100)
 }
 
-fn frame(decoded: &mut Decoded, packet: Layer<'_>) -> Result<(), Fault> {
+fn frame(decoded: &mut Decoded, packet: Layer<'_>) -> Result<(), Fault>
+    ensures { IsCutIfSaid packet.entry result }
+{
     let header = Ethernet::read(packet)?;
     decoded.protocols.insert(Protocol::Ethernet);
     let mut kind = header.kind;
@@ -87,7 +95,9 @@ fn frame(decoded: &mut Decoded, packet: Layer<'_>) -> Result<(), Fault> {
 }
 
 // What a frame of this kind carries.
-fn network(decoded: &mut Decoded, kind: u16, layer: Layer<'_>) -> Result<(), Fault> {
+fn network(decoded: &mut Decoded, kind: u16, layer: Layer<'_>) -> Result<(), Fault>
+    ensures { IsCutIfSaid layer.entry result }
+{
     match kind {
         0x0800 => ip_of_4(decoded, layer),
         0x0806 => {
@@ -104,7 +114,9 @@ fn network(decoded: &mut Decoded, kind: u16, layer: Layer<'_>) -> Result<(), Fau
 }
 
 // A packet that tells its version itself.
-fn any_ip(decoded: &mut Decoded, layer: Layer<'_>) -> Result<(), Fault> {
+fn any_ip(decoded: &mut Decoded, layer: Layer<'_>) -> Result<(), Fault>
+    ensures { IsCutIfSaid layer.entry result }
+{
     layer.has(1)?;
     match layer.byte(0) / 16 {
         6 => ip_of_6(decoded, layer),
@@ -112,7 +124,9 @@ fn any_ip(decoded: &mut Decoded, layer: Layer<'_>) -> Result<(), Fault> {
     }
 }
 
-fn ip_of_4(decoded: &mut Decoded, layer: Layer<'_>) -> Result<(), Fault> {
+fn ip_of_4(decoded: &mut Decoded, layer: Layer<'_>) -> Result<(), Fault>
+    ensures { IsCutIfSaid layer.entry result }
+{
     let header = Ipv4::read(layer)?;
     decoded.protocols.insert(Protocol::Ipv4);
     let mut flow = Flow {
@@ -130,7 +144,9 @@ fn ip_of_4(decoded: &mut Decoded, layer: Layer<'_>) -> Result<(), Fault> {
     ended
 }
 
-fn ip_of_6(decoded: &mut Decoded, layer: Layer<'_>) -> Result<(), Fault> {
+fn ip_of_6(decoded: &mut Decoded, layer: Layer<'_>) -> Result<(), Fault>
+    ensures { IsCutIfSaid layer.entry result }
+{
     let header = Ipv6::read(layer)?;
     decoded.protocols.insert(Protocol::Ipv6);
     let mut flow = Flow {
@@ -145,7 +161,9 @@ fn ip_of_6(decoded: &mut Decoded, layer: Layer<'_>) -> Result<(), Fault> {
 }
 
 // The extensions of an IPv6 packet, and what it carries. The flow's protocol is what follows.
-fn extended(protocols: &mut Protocols, flow: &mut Flow, layer: Layer<'_>) -> Result<(), Fault> {
+fn extended(protocols: &mut Protocols, flow: &mut Flow, layer: Layer<'_>) -> Result<(), Fault>
+    ensures { IsCutIfSaid layer.entry result }
+{
     let mut payload = layer;
     let mut place = Place {
         offset: 0,
@@ -172,7 +190,9 @@ fn carried(
     flow: &mut Flow,
     place: Place,
     layer: Layer<'_>,
-) -> Result<(), Fault> {
+) -> Result<(), Fault>
+    ensures { IsCutIfSaid layer.entry result }
+{
     if place.has_more || place.offset != 0 {
         protocols.insert(Protocol::Fragment);
     }

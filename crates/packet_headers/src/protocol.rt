@@ -1,5 +1,6 @@
 //! The protocols that a packet is counted under.
-ghost use Rattle.std.specs.Prelude.{◌≡◌, true, false};
+ghost use Rattle.std.specs.Prelude.{◌≡◌, ◌≢◌, ◌↔◌, bit_and, bit_or, IsTrue};
+ghost use Rattle.packet_headers.specs.Protocols.{bit_of};
 
 /// How many protocols there are.
 pub const PROTOCOLS: usize = 12;
@@ -61,7 +62,9 @@ impl Protocol {
     }
 
     // The bit that stands for it in a set.
-    fn bit(self) -> u16 {
+    fn bit(self) -> u16
+        ensures { result ≡ bit_of self }
+    {
         match self {
             Protocol::Ethernet => 1,
             Protocol::Vlan => 2,
@@ -82,32 +85,25 @@ impl Protocol {
 /// A set of protocols.
 #[derive(Clone, Copy, Debug, PartialEq, Eq)]
 pub struct Protocols {
-    bits: u16,
+    /// A bit for each, in the order of [`Protocol::ALL`], the least first.
+    pub bits: u16,
 }
 
 impl Protocols {
     /// None of them.
-    pub fn none() -> Protocols {
-        Protocols { bits: 0 }
-    }
-
-    /// The set whose bits these are, in the order of [`Protocol::ALL`], the least first.
-    pub fn from_bits(bits: u16) -> Protocols {
-        Protocols { bits }
-    }
-
-    /// Its bits.
-    pub fn bits(self) -> u16 {
-        self.bits
-    }
+    pub const NONE: Protocols = Protocols { bits: 0 };
 
     /// Puts one in.
-    pub fn insert(&mut self, protocol: Protocol) {
+    pub fn insert(&mut self, protocol: Protocol)
+        ensures { self.new.bits ≡ bit_or self.old.bits (bit_of protocol) }
+    {
         self.bits |= protocol.bit();
     }
 
     /// Whether it is in it.
-    pub fn contains(self, protocol: Protocol) -> bool {
+    pub fn contains(self, protocol: Protocol) -> bool
+        ensures { IsTrue result ↔ (bit_and self.bits (bit_of protocol) ≢ 0) }
+    {
         self.bits & protocol.bit() != 0
     }
 }
