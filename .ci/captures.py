@@ -205,7 +205,8 @@ def counted(packets, keep=512):
             add(protocols, name, size)
         if flow:
             add(flows, tuple(sorted(flow.items())), size)
-    top = [{**dict(flow), "name": NAMES.get(dict(flow)["protocol"], ""), **count} for flow, count in flows.items()]
+    none = {"source_port": None, "destination_port": None}
+    top = [{**none, **dict(flow), "name": NAMES.get(dict(flow)["protocol"], ""), **count} for flow, count in flows.items()]
     sums = {"packets": len(packets), "bytes": sum(len(packet.data) for packet in packets)}
     return {**sums, "protocols": protocols, "damage": damage, "flows": len(flows), "top": sorted(top, key=place), "error": None}
 
@@ -219,5 +220,5 @@ def add(counts, key, size):
 def place(flow):
     """The flow's place: those with most bytes first, and those with as many in the order of addresses and ports."""
     ends = [ipaddress.ip_address(flow[name]) for name in ("source", "destination")]
-    ports = [(flow.get(name, -1)) for name in ("source_port", "destination_port")]
+    ports = [-1 if flow[name] is None else flow[name] for name in ("source_port", "destination_port")]
     return (-flow["bytes"], *[(end.version, int(end)) for end in ends], flow["protocol"], *ports)

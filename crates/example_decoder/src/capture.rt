@@ -6,35 +6,38 @@ use packet_headers::{
     ByteOrder, FILE_HEADER, FileError, FileHeader, LinkType, RECORD_HEADER, RecordError,
     RecordHeader,
 };
-use std::fmt;
 use std::io::{self, BufReader, ErrorKind, Read};
+use thiserror::Error;
 
 /// Where and why reading ended before the end of the capture.
-#[derive(Debug, Drop)]
+#[derive(Debug, Drop, Error)]
+#[error("offset {offset}: {cause}")]
 pub struct Stop {
-    /// How many bytes stand before the header, or the packet's header, that is not good.
+    /// How many bytes stand before the header that is not good, or whose packet isn't.
     pub offset: u64,
     pub cause: Cause,
 }
 
 /// Why reading ended.
-#[derive(Debug, Drop)]
+#[derive(Debug, Drop, Error)]
 pub enum Cause {
-    /// The file ends after so many bytes of its header.
+    #[error("the file is empty")]
+    Empty,
+    #[error("the file ends after {0} of the 24 bytes of its header")]
     NoHeader(usize),
-    /// The file's header is none.
+    #[error("{0}")]
     Header(FileError),
-    /// The packets begin with something that is not known here.
+    #[error("unknown link type {0}: only Ethernet (1) and raw IP (101) are known")]
     Link(u32),
-    /// The file ends after so many bytes of a packet's header.
+    #[error("the file ends after {0} of the 16 bytes of a packet's header")]
     EndInHeader(usize),
-    /// The file ends before so many bytes of a packet.
+    #[error("the file ends inside a packet of {0} captured bytes")]
     EndInPacket(u32),
-    /// A packet's header is none.
+    #[error("{0}")]
     Record(RecordError),
-    /// A read failed.
+    #[error("{0}")]
     Read(io::Error),
-    /// There is no buffer.
+    #[error("{0}")]
     Pool(PoolError),
 }
 
@@ -42,38 +45,6 @@ impl Stop {
     /// Whether the capture is to blame, and no read, and not the pool.
     pub fn is_of_the_capture(&self) -> bool {
         !matches!(self.cause, Cause::Read(_) | Cause::Pool(_))
-    }
-}
-
-impl fmt::Display for Stop {
-    fn fmt<W: fmt::Write>(&self, f: &mut fmt::Formatter<W>) -> fmt::Result {
-        let offset = self.offset;
-        write!(f, "offset {offset}: ")?;
-        match &self.cause {
-            Cause::NoHeader(0) => write!(f, "the file is empty"),
-            Cause::NoHeader(n) => write!(
-                f,
-                "the file ends after {n} of the 24 bytes of its header"
-            ),
-            Cause::Header(error) => write!(f, "{error}"),
-            Cause::Link(number) => write!(
-                f,
-                "unknown link type {number}: only Ethernet (1) and raw IP (101) are known"
-            ),
-            Cause::EndInHeader(n) => {
-                write!(
-                    f,
-                    "the file ends after {n} of the 16 bytes of a packet's header"
-                )
-            }
-            Cause::EndInPacket(n) => write!(
-                f,
-                "the file ends inside a packet of {n} captured bytes"
-            ),
-            Cause::Record(error) => write!(f, "{error}"),
-            Cause::Read(error) => write!(f, "{error}"),
-            Cause::Pool(error) => write!(f, "{error}"),
-        }
     }
 }
 
@@ -117,8 +88,10 @@ impl<I: Read + Drop> Capture<I> {
             Ok(count) => count,
             Err(error) => return Err(stop(Cause::Read(error))),
         };
-        if count < FILE_HEADER {
-            return Err(stop(Cause::NoHeader(count)));
+        match count {
+            FILE_HEADER => (),
+            0 => return Err(stop(Cause::Empty)),
+            _ => return Err(stop(Cause::NoHeader(count))),
         }
         let header = match FileHeader::read(&bytes) {
             Ok(header) => header,

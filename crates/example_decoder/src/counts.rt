@@ -15,11 +15,6 @@ pub struct Count {
 }
 
 impl Count {
-    const NONE: Count = Count {
-        packets: 0,
-        bytes: 0,
-    };
-
     fn add(&mut self, bytes: u64) {
         self.packets = self.packets.saturating_add(1);
         self.bytes = self.bytes.saturating_add(bytes);
@@ -53,16 +48,6 @@ pub struct Damage {
 }
 
 impl Damage {
-    const NONE: Damage = Damage {
-        cut_by_capture: 0,
-        cut_to_buffer: 0,
-        cut_header: 0,
-        short_header: 0,
-        version: 0,
-        header_length: 0,
-        length: 0,
-    };
-
     fn add_fault(&mut self, fault: Fault) {
         let count = match fault {
             Fault::Cut => &mut self.cut_header,
@@ -109,9 +94,9 @@ impl Counts {
     /// Nothing is counted.
     pub fn new(alloc: Global) -> Result<Counts, AllocError> {
         Ok(Counts {
-            all: Count::NONE,
-            damage: Damage::NONE,
-            by_set: vec![in alloc; Count::NONE; SETS]?,
+            all: Count::default(),
+            damage: Damage::default(),
+            by_set: vec![in alloc; Count::default(); SETS]?,
             flows: HashMap::new(alloc),
         })
     }
@@ -120,7 +105,10 @@ impl Counts {
     pub fn add(&mut self, entry: &Entry, note: &Note) -> Result<(), AllocError> {
         let bytes = u64::from(entry.size);
         if let Some(flow) = note.decoded.flow {
-            self.flows.entry(flow)?.or_insert(Count::NONE).add(bytes);
+            self.flows
+                .entry(flow)?
+                .or_insert(Count::default())
+                .add(bytes);
         }
         self.all.add(bytes);
         if let Some(count) = self
@@ -138,10 +126,12 @@ impl Counts {
 
     /// The packets that have this protocol.
     pub fn of_protocol(&self, protocol: Protocol) -> Count {
-        let mut count = Count::NONE;
+        let mut count = Count::default();
         for (bits, one) in self.by_set.iter().enumerate() {
-            let bits = u16::try_from(bits).unwrap_or(0);
-            if Protocols { bits }.contains(protocol) {
+            let set = Protocols {
+                bits: u16::try_from(bits).unwrap_or(0),
+            };
+            if set.contains(protocol) {
                 count = count.plus(*one);
             }
         }

@@ -1,33 +1,36 @@
 //! The report as JSON.
 
 use crate::capture::Stop;
-use crate::counts::Count;
+use crate::counts::{Count, Damage};
 use crate::report::{Report, transport_name};
 use packet_headers::Flow;
 use serde_json::{Map, Value, json};
 use std::alloc::{AllocError, Global};
+use std::net::IpAddr;
 
 /// The report as JSON. With `has_audit` it has the audit too.
 pub fn json_of(alloc: Global, report: &Report, has_audit: bool) -> Result<Value, AllocError> {
     let Count { packets, bytes } = report.counts.all;
-    let mut map = Map::new(alloc);
-    serde_json::put(&mut map, alloc, "packets", Value::from(packets))?;
-    serde_json::put(&mut map, alloc, "bytes", Value::from(bytes))?;
-    serde_json::put(&mut map, alloc, "protocols", protocols_of(alloc, report)?)?;
-    serde_json::put(&mut map, alloc, "damage", damage_of(alloc, report)?)?;
     let flows = report.counts.flow_count() as u64;
-    serde_json::put(&mut map, alloc, "flows", Value::from(flows))?;
-    serde_json::put(&mut map, alloc, "top", top_of(alloc, report)?)?;
-    serde_json::put(
-        &mut map,
-        alloc,
-        "error",
-        error_of(alloc, report.stop.as_ref())?,
-    )?;
-    if has_audit {
-        serde_json::put(&mut map, alloc, "audit", audit_of(alloc, report)?)?;
-    }
-    Ok(Value::Object(map))
+    let protocols = protocols_of(alloc, report)?;
+    let damage = damage_of(alloc, &report.counts.damage)?;
+    let top = top_of(alloc, report)?;
+    let error = error_of(alloc, report.stop.as_ref())?;
+    let audit = if has_audit {
+        audit_of(alloc, report)?
+    } else {
+        Value::Null
+    };
+    json!(in alloc; {
+        "packets": packets,
+        "bytes": bytes,
+        "protocols": protocols,
+        "damage": damage,
+        "flows": flows,
+        "top": top,
+        "error": error,
+        "audit": audit
+    })
 }
 
 fn protocols_of(alloc: Global, report: &Report) -> Result<Value, AllocError> {
@@ -40,23 +43,27 @@ fn protocols_of(alloc: Global, report: &Report) -> Result<Value, AllocError> {
     Ok(Value::Object(map))
 }
 
-fn damage_of(alloc: Global, report: &Report) -> Result<Value, AllocError> {
-    let damage = &report.counts.damage;
+fn damage_of(alloc: Global, damage: &Damage) -> Result<Value, AllocError> {
     let malformed = damage.malformed();
-    let mut map = Map::new(alloc);
-    for (name, packets) in [
-        ("malformed", malformed),
-        ("short_header", damage.short_header),
-        ("wrong_version", damage.version),
-        ("header_length", damage.header_length),
-        ("length", damage.length),
-        ("cut_by_capture", damage.cut_by_capture),
-        ("cut_to_buffer", damage.cut_to_buffer),
-        ("cut_in_header", damage.cut_header),
-    ] {
-        serde_json::put(&mut map, alloc, name, Value::from(packets))?;
-    }
-    Ok(Value::Object(map))
+    let Damage {
+        cut_by_capture,
+        cut_to_buffer,
+        cut_header,
+        short_header,
+        version,
+        header_length,
+        length,
+    } = *damage;
+    json!(in alloc; {
+        "malformed": malformed,
+        "short_header": short_header,
+        "wrong_version": version,
+        "header_length": header_length,
+        "length": length,
+        "cut_by_capture": cut_by_capture,
+        "cut_to_buffer": cut_to_buffer,
+        "cut_in_header": cut_header
+    })
 }
 
 fn top_of(alloc: Global, report: &Report) -> Result<Value, AllocError> {
@@ -68,39 +75,28 @@ fn top_of(alloc: Global, report: &Report) -> Result<Value, AllocError> {
 }
 
 fn flow_of(alloc: Global, flow: &Flow, count: Count) -> Result<Value, AllocError> {
-    let Flow {
-        source,
-        destination,
-        protocol,
-        ports,
-    } = *flow;
     let Count { packets, bytes } = count;
-    let source = format!(in alloc; "{source}")?;
-    let destination = format!(in alloc; "{destination}")?;
-    let name = transport_name(protocol).unwrap_or("");
-    let mut map = Map::new(alloc);
-    serde_json::put(&mut map, alloc, "source", Value::String(source))?;
-    serde_json::put(&mut map, alloc, "destination", Value::String(destination))?;
-    serde_json::put(
-        &mut map,
-        alloc,
-        "protocol",
-        Value::from(u64::from(protocol)),
-    )?;
-    serde_json::put(&mut map, alloc, "name", Value::try_from_str(alloc, name)?)?;
-    if let Some(ports) = ports {
-        serde_json::put(
-            &mut map,
-            alloc,
-            "source_port",
-            Value::from(u64::from(ports.source)),
-        )?;
-        let port = Value::from(u64::from(ports.destination));
-        serde_json::put(&mut map, alloc, "destination_port", port)?;
-    }
-    serde_json::put(&mut map, alloc, "packets", Value::from(packets))?;
-    serde_json::put(&mut map, alloc, "bytes", Value::from(bytes))?;
-    Ok(Value::Object(map))
+    let (protocol, name) = (flow.protocol, transport_name(flow.protocol));
+    let source = to_value(alloc, flow.source)?;
+    let destination = to_value(alloc, flow.destination)?;
+    let (from, to) = match flow.ports {
+        Some(ports) => (Value::from(ports.source), Value::from(ports.destination)),
+        None => (Value::Null, Value::Null),
+    };
+    json!(in alloc; {
+        "source": source,
+        "source_port": from,
+        "destination": destination,
+        "destination_port": to,
+        "protocol": protocol,
+        "name": name,
+        "packets": packets,
+        "bytes": bytes
+    })
+}
+
+fn to_value(alloc: Global, address: IpAddr) -> Result<Value, AllocError> {
+    Ok(Value::String(format!(in alloc; "{address}")?))
 }
 
 fn error_of(alloc: Global, stop: Option<&Stop>) -> Result<Value, AllocError> {

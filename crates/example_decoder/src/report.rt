@@ -68,18 +68,18 @@ impl Report {
     }
 }
 
-/// The name of what an IP packet carries, if it has one here.
-pub fn transport_name(number: u8) -> Option<&'static str> {
+/// The name of what an IP packet carries; empty where it has none here.
+pub fn transport_name(number: u8) -> &'static str {
     match number {
-        1 => Some("icmp"),
-        2 => Some("igmp"),
-        6 => Some("tcp"),
-        17 => Some("udp"),
-        47 => Some("gre"),
-        50 => Some("esp"),
-        58 => Some("icmpv6"),
-        89 => Some("ospf"),
-        132 => Some("sctp"),
-        _ => None,
+        1 => "icmp",
+        2 => "igmp",
+        6 => "tcp",
+        17 => "udp",
+        47 => "gre",
+        50 => "esp",
+        58 => "icmpv6",
+        89 => "ospf",
+        132 => "sctp",
+        _ => "",
     }
 }

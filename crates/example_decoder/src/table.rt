@@ -85,8 +85,8 @@ impl fmt::Display for Shown<'_> {
             ports,
         } = *self.0;
         match transport_name(protocol) {
-            Some(name) => write!(f, "{name} ")?,
-            None => write!(f, "protocol {protocol} ")?,
+            "" => write!(f, "protocol {protocol} ")?,
+            name => write!(f, "{name} ")?,
         }
         write_end(f, source, ports.map(|ports| ports.source))?;
         write!(f, " > ")?;
