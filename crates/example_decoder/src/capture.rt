@@ -6,7 +6,7 @@ use packet_headers::{
     ByteOrder, FILE_HEADER, FileError, FileHeader, LinkType, RECORD_HEADER, RecordError,
     RecordHeader,
 };
-use std::io::{self, BufReader, ErrorKind, Read};
+use std::io::{self, BufRead, BufReader, ErrorKind, Read};
 use thiserror::Error;
 
 /// Where and why reading ended before the end of the capture.
@@ -78,6 +78,27 @@ fn read_all<I: Read>(reader: &mut I, bytes: &mut [u8]) -> io::Result<usize>
     Ok(filled)
 }
 
+// Passes over so many bytes, and says whether there were as many.
+fn pass_over<I: BufRead>(reader: &mut I, count: usize) -> io::Result<bool> {
+    let mut rest = count;
+    for _ in 0..u64::MAX {
+        if rest == 0 {
+            break;
+        }
+        let there = match reader.fill_buf() {
+            Ok(bytes) => bytes.len().min(rest),
+            Err(error) if error.kind() == ErrorKind::Interrupted => continue,
+            Err(error) => return Err(error),
+        };
+        if there == 0 {
+            break;
+        }
+        reader.consume(there);
+        rest -= there;
+    }
+    Ok(rest == 0)
+}
+
 impl<I: Read + Drop> Capture<I> {
     /// Reads the header of a capture.
     pub fn open(reader: BufReader<I>) -> Result<Capture<I>, Stop> {
@@ -135,12 +156,10 @@ impl<I: Read + Drop> Capture<I> {
     pub fn read_packet(&mut self, record: &RecordHeader, bytes: &mut [u8]) -> Result<(), Stop> {
         let captured = record.captured as usize;
         let kept = captured.min(bytes.len());
-        let count = match self.read_and_skip(&mut bytes[..kept], captured - kept) {
-            Ok(count) => count,
+        match self.read_and_pass(&mut bytes[..kept], captured - kept) {
+            Ok(true) => (),
+            Ok(false) => return Err(self.stop(Cause::EndInPacket(record.captured))),
             Err(error) => return Err(self.stop(Cause::Read(error))),
-        };
-        if count < captured as u64 {
-            return Err(self.stop(Cause::EndInPacket(record.captured)));
         }
         self.offset = self
             .offset
@@ -148,13 +167,9 @@ impl<I: Read + Drop> Capture<I> {
         Ok(())
     }
 
-    // Reads these bytes and passes over so many, and says how many bytes there were.
-    fn read_and_skip(&mut self, bytes: &mut [u8], rest: usize) -> io::Result<u64> {
-        let count = read_all(&mut self.reader, bytes)? as u64;
-        if rest == 0 {
-            return Ok(count);
-        }
-        let skipped = io::copy(&mut self.reader.by_ref().take(rest as u64), &mut io::sink())?;
-        Ok(count.saturating_add(skipped))
+    // Reads these bytes and passes over so many more, and says whether there were as many.
+    fn read_and_pass(&mut self, bytes: &mut [u8], rest: usize) -> io::Result<bool> {
+        let count = read_all(&mut self.reader, bytes)?;
+        Ok(count == bytes.len() && pass_over(&mut self.reader, rest)?)
     }
 }

@@ -15,6 +15,8 @@ mod layer;
 mod layers;
 mod pcap;
 mod protocol;
+#[cfg(test)]
+mod tests;
 mod transport;
 
 pub use arp::Arp;

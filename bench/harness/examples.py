@@ -1,0 +1,129 @@
+"""The example programs end to end: each beside the same program in C++ over each of the allocators, on the same input.
+
+A further program is one more entry of EXAMPLES."""
+import json
+import os
+import subprocess
+import sys
+import time
+from dataclasses import dataclass
+from pathlib import Path
+from typing import Callable
+
+from . import programs, traffic
+from .packages import PEERS
+from .text import aligned
+
+# How many bytes an input has at least.
+INPUT = 250_000_000
+
+SECONDS = 300
+
+
+@dataclass(frozen=True)
+class Example:
+    """A program with its twin: how its input is made, the words of both for a setting, and what has to be the same in
+    what they print."""
+
+    name: str
+    twin: str
+    make: Callable
+    settings: tuple
+    ours: Callable
+    theirs: Callable
+    counted: Callable
+
+
+def decoded(text):
+    """What a decoder counted, of what either program prints as JSON."""
+    got = json.loads(text)
+    of = lambda count: count["bytes"] if isinstance(count, dict) else count
+    protocols = {name: of(count) for name, count in got["protocols"].items()}
+    return got["packets"], got["bytes"], got["flows"], protocols, [of(flow) for flow in got["top"]]
+
+
+def capture(file):
+    traffic.write(file, INPUT)
+
+
+EXAMPLES = [
+    Example(
+        name="example_decoder",
+        twin="decoder.cpp",
+        make=capture,
+        settings=(1, 2),
+        ours=lambda file, decoders: [file, "--json", "--decoders", str(decoders)],
+        theirs=lambda file, decoders: [file, str(decoders)],
+        counted=decoded,
+    ),
+]
+
+
+@dataclass
+class Run:
+    """What runs of a program took at least."""
+
+    seconds: float = float("inf")
+    processor: float = float("inf")
+    kilobytes: float = float("inf")
+
+    def note(self, other):
+        self.seconds = min(self.seconds, other.seconds)
+        self.processor = min(self.processor, other.processor)
+        self.kilobytes = min(self.kilobytes, other.kilobytes)
+
+
+def once(program, words, preload):
+    """A run, and what the program printed."""
+    env = {**os.environ, "LD_PRELOAD": preload}
+    began = time.monotonic()
+    child = subprocess.Popen([program, *words], stdout=subprocess.PIPE, env=env)
+    text = child.stdout.read()
+    _pid, status, usage = os.wait4(child.pid, 0)
+    took = time.monotonic() - began
+    child.returncode = os.waitstatus_to_exitcode(status)
+    if child.returncode:
+        sys.exit(f"bench: {program} ended with status {child.returncode}")
+    return Run(took, usage.ru_utime + usage.ru_stime, usage.ru_maxrss), text
+
+
+def twin(example):
+    flags = ["-std=c++17", "-O2", "-Wall", "-Wextra", "-fno-builtin-malloc", "-pthread"]
+    source = programs.HERE / "cpp" / example.twin
+    return programs.compiled(Path(example.twin).stem, [source], ["g++", *flags, source])
+
+
+def table(example, given):
+    program, peer_program = programs.rattle_program(example.name, ["--help"]), twin(example)
+    file = programs.WORK / f"{example.name}.input"
+    example.make(file)
+    size, runs, wanted = file.stat().st_size, {}, {}
+    columns = [(peer.name, peer_program, example.theirs, peer.path()) for peer in PEERS if peer.path() is not None]
+    columns.append(("this pool", program, example.ours, ""))
+    for _round in range(given.rounds):
+        for setting in example.settings:
+            for name, path, words, preload in columns:
+                run, text = once(path, words(file, setting), preload)
+                counted = example.counted(text)
+                if wanted.setdefault(setting, counted) != counted:
+                    sys.exit(f"bench: {example.name} over {name} counted otherwise than the others")
+                runs.setdefault((setting, name), Run()).note(run)
+    rows = [[f"{example.name}, {size / 1e6:.0f} MB", *(name for name, *_ in columns), "to the best"]]
+    for setting in example.settings:
+        of = lambda name: runs[setting, name]
+        peers = [name for name, *_ in columns if name != "this pool"]
+        for word, number, form in [
+            ("MB/s", lambda run: size / 1e6 / run.seconds, "{:.0f}"),
+            ("processor s", lambda run: run.processor, "{:.2f}"),
+            ("peak MB", lambda run: run.kilobytes / 1024, "{:.1f}"),
+        ]:
+            best = (max if word == "MB/s" else min)(number(of(name)) for name in peers)
+            cells = [form.format(number(of(name))) for name, *_ in columns]
+            rows.append([f"{setting} threads, {word}", *cells, f"{number(of('this pool')) / best:.2f}"])
+    return aligned(rows)
+
+
+def measure(given):
+    text = "\n\n".join(table(example, given) for example in EXAMPLES)
+    (programs.OUT / "programs.txt").write_text(text + "\n")
+    return text
