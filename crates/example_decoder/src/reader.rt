@@ -1,4 +1,5 @@
 //! The thread that reads a capture, and deals its packets to the decoders.
+ghost use Rattle.std.specs.Prelude.{◌≤◌, IfOk};
 
 use crate::bundle::Bundle;
 use crate::capture::{Capture, Cause, Stop};
@@ -23,8 +24,10 @@ pub struct Reader<I: Read + Drop> {
     packets: u64,
 }
 
-// No two size classes are nearer than this.
+// No two size classes are nearer than this, and none is larger than so many times it.
 const STEP: usize = 16;
+
+const MOST_STEPS: usize = 64;
 
 impl<I: Read + Drop> Reader<I> {
     /// A reader that keeps at most so many bytes of each packet, and deals to so many decoders.
@@ -89,12 +92,12 @@ impl<I: Read + Drop> Reader<I> {
             Ok(packet) => packet,
             Err(error) => return Err(self.capture.stop(Cause::Pool(error))),
         };
+        packet.set_len(size);
         let read = packet.edit(|bytes| self.capture.read_packet(&record, bytes));
         if let Err(stop) = read {
             heap.free(rt, packet);
             return Err(stop);
         }
-        packet.set_len(size);
         if let Some(bundle) = held
             && let Err(packet) = bundle.push(packet, &record)
         {
@@ -112,7 +115,9 @@ impl<I: Read + Drop> Reader<I> {
         to: &Edges<H>,
         held: &mut Option<Bundle<H>>,
         size: usize,
-    ) -> Result<H::Buffer, PoolError> {
+    ) -> Result<H::Buffer, PoolError>
+        ensures { IfOk result (λ b. size ≤ H.Buffer.size b) }
+    {
         if held.as_ref().is_none_or(Bundle::is_full) {
             self.deal(rt, heap, to, held.take());
             *held = Some(Bundle::new(rt, heap)?);
@@ -160,8 +165,8 @@ impl<I: Read + Drop> Reader<I> {
 // Draws a chunk for each size class that a packet may need, so that none is left without one where the others have
 // drawn all.
 fn draw_chunks<H: Heap, R: Wait>(rt: &R, heap: &mut H, most: usize) -> Result<(), PoolError> {
-    for size in (NOTE..most.saturating_add(STEP)).step_by(STEP) {
-        let buffer = heap.alloc(rt, size.min(most))?;
+    for number in 1..=MOST_STEPS {
+        let buffer = heap.alloc(rt, (STEP * number).max(NOTE).min(most))?;
         heap.free(rt, buffer);
     }
     Ok(())

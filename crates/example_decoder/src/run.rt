@@ -87,7 +87,9 @@ where
     let alloc = rt.alloc();
     let decoders = asked.decoders as usize;
     let link = capture.link;
-    let mut stages = vec![in alloc; Stage::Read(Reader::new(capture, decoders, most_of(asked)))]?;
+    let mut stages = Vec::new(alloc);
+    let reader = Reader::new(capture, decoders, most_of(asked));
+    stages.push(Stage::Read(reader))?;
     for _ in 0..decoders {
         let counter = decoders + 1;
         stages.push(Stage::Decode { link, counter })?;

@@ -141,11 +141,15 @@ fn count_all<H: Heap, R: Wait>(
 
 // Counts the packets of a bundle.
 fn count_bundle<B: Bytes, P: Burst<B>>(counts: &mut Counts, parcel: &P) -> Result<(), AllocError> {
-    for (place, packet) in parcel.buffers().iter().take(MOST_PACKETS).enumerate() {
+    for place in 0..MOST_PACKETS {
         if place + 1 >= parcel.len() {
             break;
         }
-        if let (Some(entry), Some(note)) = (entry_of(parcel, place), Note::read(packet.data())) {
+        let note = parcel
+            .buffers()
+            .get(place)
+            .and_then(|packet| Note::read(packet.data()));
+        if let (Some(entry), Some(note)) = (entry_of(parcel, place), note) {
             counts.add(&entry, &note)?;
         }
     }
