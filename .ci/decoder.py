@@ -88,7 +88,7 @@ def good_packets():
         v6(other(50, b"encrypted")),
         v6(chain),
         v6(extension(60, udp(5, 6), options=bytes(6 + 8 * 20))),
-        v6(extension(135, icmpv6())),
+        v6(extension(135, other(59, b""))),
         v6(fragment(udp(9, 10, b"first of six", size=3000), 0, True)),
         v6(fragment(bare(UDP, b"middle of six"), 200, True)),
         v6(fragment(bare(ICMPV6, b"last of six"), 8000, False)),

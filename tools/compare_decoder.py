@@ -112,8 +112,8 @@ def count_of(got, protocol):
 
 
 def counted_by_tcpdump(file, word):
-    command = ["tcpdump", "-n", "-r", file, *([word] if word else [])]
-    return len(subprocess.run(command, capture_output=True, check=True).stdout.splitlines())
+    command = ["tcpdump", "-n", "-r", file, "--count", *([word] if word else [])]
+    return int(subprocess.run(command, capture_output=True, text=True, check=True).stdout.split()[0])
 
 
 def main():

@@ -35,26 +35,25 @@ fn write_count<W: Write>(name: &str, count: Count, out: &mut W) -> io::Result<()
 
 fn write_damage<W: Write>(report: &Report, most: usize, out: &mut W) -> io::Result<()> {
     let damage = &report.counts.damage;
-    let malformed = damage.malformed();
+    let cut_to_buffer = if most > 512 {
+        "cut to 1,024 bytes"
+    } else {
+        "cut to 512 bytes"
+    };
     writeln!(out, "\n{:<20}{:>12}", "damage", "packets")?;
-    writeln!(out, "{:<20}{malformed:>12}", "malformed")?;
     for (name, packets) in [
+        ("malformed", damage.malformed()),
         ("  short header", damage.short_header),
         ("  wrong version", damage.version),
         ("  header length", damage.header_length),
         ("  length", damage.length),
+        ("cut by the capture", damage.cut_by_capture),
+        (cut_to_buffer, damage.cut_to_buffer),
+        ("cut in a header", damage.cut_header),
     ] {
-        if packets > 0 {
-            writeln!(out, "{name:<20}{packets:>12}")?;
-        }
+        writeln!(out, "{name:<20}{packets:>12}")?;
     }
-    writeln!(
-        out,
-        "{:<20}{:>12}",
-        "cut by the capture", damage.cut_by_capture
-    )?;
-    writeln!(out, "cut to {most:<4} bytes   {:>12}", damage.cut_to_buffer)?;
-    writeln!(out, "{:<20}{:>12}", "cut in a header", damage.cut_header)
+    Ok(())
 }
 
 fn write_flows<W: Write>(report: &Report, out: &mut W) -> io::Result<()> {
