@@ -31,6 +31,9 @@ WORDS = {
     "fustrevol": "what programs name",
     "pipeline": "program, with parcels",
     "first_pool": "the README's program",
+    "packet_headers": "headers of packets",
+    "example_decoder": "counts packets",
+    "example_decoder_words": "its command line",
 }
 
 
