@@ -8,6 +8,7 @@ Prints a line for each case; the exit status is 1 where one is not as it should 
 import json
 import pathlib
 import random
+import resource
 import struct
 import subprocess
 import sys
@@ -49,7 +50,7 @@ def difference(got, wanted):
 def check(name, given, wanted, words=(), status=0, err=b""):
     """Whether the answer as JSON is what is wanted, and the audit says that each buffer came home."""
     code, out, said = ran([*words, "--json", "--audit", "--top", "1000000"], given)
-    wanted = {**wanted, "audit": {"each_buffer_once": True, "lost": 0}}
+    wanted = {**wanted, "audit": {"read": wanted["packets"], "lost": 0, "fault": None}}
     try:
         got = json.loads(out)
     except ValueError:
@@ -305,6 +306,22 @@ def files():
             tell(f"a full device, {words}", got[0] == 3 and b"No space left" in got[2], got)
 
 
+def memory():
+    """Whatever memory there is, the whole answer comes with status 0, or it is said what was missing; no signal ends it."""
+    given, told = capture(good_packets() * 20), {}
+    whole = ran(["--json", "--audit"], given)
+    tell("a capture, to be read in little memory", whole[0] == 0, whole)
+    strange = []
+    for limit in range(4 << 20, 64 << 20, 256 << 10):
+        limited = lambda: resource.setrlimit(resource.RLIMIT_AS, (limit, limit))
+        status, out, err = got = ran(["--json", "--audit"], given, preexec_fn=limited)
+        told[status] = told.get(status, 0) + 1
+        if status < 0 or (got != whole if status == 0 else not err):
+            strange.append((limit, got))
+    tell("no limit of the memory ends it without a word", not strange, strange[:2])
+    tell("some limits are enough, and some are not", told.get(0, 0) > 0 and told.get(3, 0) > 0, told)
+
+
 def words():
     for given in (["--help"], ["-h"]):
         got = ran(given)
@@ -321,7 +338,7 @@ def main():
         PROGRAM = pathlib.Path(sys.argv[1]).resolve()
     elif not PROGRAM.exists():
         subprocess.run(["rt", "run", "--", "--help"], cwd=PROGRAM.parent.parent, check=True, stdout=subprocess.DEVNULL)
-    for part in (kinds, raw, cuts, large, many, broken, files, words):
+    for part in (kinds, raw, cuts, large, many, broken, files, memory, words):
         part()
     print(f"{len(failed)} cases of the decoder failed")
     sys.exit(1 if failed else 0)

@@ -2,10 +2,9 @@
 
 A further program is one more entry of EXAMPLES."""
 import json
-import os
+import shutil
 import subprocess
 import sys
-import time
 from dataclasses import dataclass
 from pathlib import Path
 from typing import Callable
@@ -73,18 +72,24 @@ class Run:
         self.kilobytes = min(self.kilobytes, other.kilobytes)
 
 
+def usage():
+    source = programs.HERE / "cpp" / "usage.cpp"
+    return programs.compiled("usage", [source], ["g++", "-std=c++17", "-O2", "-Wall", "-Wextra", source])
+
+
 def once(program, words, preload):
     """A run, and what the program printed."""
-    env = {**os.environ, "LD_PRELOAD": preload}
-    began = time.monotonic()
-    child = subprocess.Popen([program, *words], stdout=subprocess.PIPE, env=env)
-    text = child.stdout.read()
-    _pid, status, usage = os.wait4(child.pid, 0)
-    took = time.monotonic() - began
-    child.returncode = os.waitstatus_to_exitcode(status)
-    if child.returncode:
-        sys.exit(f"bench: {program} ended with status {child.returncode}")
-    return Run(took, usage.ru_utime + usage.ru_stime, usage.ru_maxrss), text
+    told = programs.OUT / "usage.txt"
+    command = ["env", f"LD_PRELOAD={preload}", program, *words] if preload else [program, *words]
+    ran = subprocess.run([usage(), told, *of_path(command)], stdout=subprocess.PIPE, timeout=SECONDS)
+    if ran.returncode:
+        sys.exit(f"bench: {program} ended with status {ran.returncode}")
+    return Run(*map(float, told.read_text().split())), ran.stdout
+
+
+def of_path(command):
+    """The command, with its program by its whole path."""
+    return [shutil.which(command[0]), *command[1:]]
 
 
 def twin(example):

@@ -109,7 +109,11 @@ fn error_of(alloc: Global, stop: Option<&Stop>) -> Result<Value, AllocError> {
 }
 
 fn audit_of(alloc: Global, report: &Report) -> Result<Value, AllocError> {
-    let is_whole = report.tally.audit.is_ok();
+    let read = report.read;
     let lost = report.tally.counts.lost;
-    json!(in alloc; {"each_buffer_once": is_whole, "lost": lost})
+    let fault = match &report.tally.audit {
+        Ok(()) => Value::Null,
+        Err(fault) => Value::String(format!(in alloc; "{fault:?}")?),
+    };
+    json!(in alloc; {"read": read, "lost": lost, "fault": fault})
 }

@@ -13,8 +13,8 @@ pub enum Outcome {
     Helped(String),
     /// The capture is broken at some place; what came before is reported. Status 1.
     Stopped(String, Stop),
-    /// The pool's audit doesn't say yes, or packets are missing; the report says so. Status 1.
-    Lost,
+    /// Packets or buffers are missing, or memory for the audit was; this says which. Status 1.
+    Lost(String),
     /// The words are refused, with this text. Status 2.
     Refused(String),
     /// Reading, writing or the pool failed. Status 3.
@@ -27,7 +27,7 @@ impl Outcome {
         match self {
             Outcome::Done | Outcome::Helped(_) => 0,
             Outcome::Stopped(_, stop) if stop.is_of_the_capture() => 1,
-            Outcome::Lost => 1,
+            Outcome::Lost(_) => 1,
             Outcome::Refused(_) => 2,
             Outcome::Stopped(..) | Outcome::Failed(_) => 3,
         }
@@ -39,7 +39,7 @@ impl Outcome {
             Outcome::Done => Ok(()),
             Outcome::Helped(text) => print!(rt; "{text}"),
             Outcome::Stopped(name, stop) => eprintln!(rt; "example_decoder: {name}: {stop}"),
-            Outcome::Lost => eprintln!(rt; "example_decoder: packets or buffers were lost"),
+            Outcome::Lost(account) => eprintln!(rt; "example_decoder: {account}"),
             Outcome::Refused(text) => eprint!(rt; "{text}"),
             Outcome::Failed(error) => eprintln!(rt; "example_decoder: {error:#}"),
         }

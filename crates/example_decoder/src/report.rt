@@ -55,6 +55,20 @@ impl Report {
             && self.tally.audit.is_ok()
     }
 
+    /// What became of all packets and buffers, as a line.
+    pub fn account(&self, alloc: Global) -> Result<String, AllocError> {
+        let (read, counted) = (self.read, self.counts.all.packets);
+        let lost = self.tally.counts.lost;
+        match &self.tally.audit {
+            Ok(()) => format!(in alloc;
+                "audit: {read} packets read, {counted} counted, each buffer once, {lost} lost"
+            ),
+            Err(fault) => format!(in alloc;
+                "audit: {read} packets read, {counted} counted, {fault:?}, {lost} lost"
+            ),
+        }
+    }
+
     /// The protocols that packets have, with their counts.
     pub fn protocols(&self, alloc: Global) -> Result<Vec<(Protocol, Count)>, AllocError> {
         let mut all = Vec::new(alloc);

@@ -66,11 +66,15 @@ where
         anyhow::bail!("a thread didn't run");
     };
     print_report(rt, asked, &report)?;
-    let is_whole = report.is_whole();
-    match report.stop {
-        Some(stop) => stopped(alloc, name, stop),
-        None if is_whole => Ok(Outcome::Done),
-        None => Ok(Outcome::Lost),
+    let missing = if report.is_whole() {
+        None
+    } else {
+        Some(report.account(alloc)?)
+    };
+    match (report.stop, missing) {
+        (Some(stop), _) => stopped(alloc, name, stop),
+        (None, Some(account)) => Ok(Outcome::Lost(account)),
+        (None, None) => Ok(Outcome::Done),
     }
 }
 
@@ -118,17 +122,9 @@ fn print_report<R: AllocGlobal + Print>(rt: &R, asked: &Asked, report: &Report) 
     } else {
         write_table(alloc, report, most_of(asked), &mut out)?;
         if asked.has_audit {
-            write_audit(report, &mut out)?;
+            writeln!(out, "\n{}", report.account(alloc)?)?;
         }
     }
     out.flush()?;
     Ok(())
-}
-
-fn write_audit<W: Write>(report: &Report, out: &mut W) -> io::Result<()> {
-    let lost = report.tally.counts.lost;
-    match &report.tally.audit {
-        Ok(()) => writeln!(out, "\naudit: each buffer is there once, {lost} lost"),
-        Err(fault) => writeln!(out, "\naudit: {fault:?}, {lost} lost"),
-    }
 }

@@ -50,7 +50,7 @@ const CHUNKS: Choice = Choice {
     name: "chunks",
     low: 32,
     high: MOST_CHUNKS,
-    default: "64",
+    default: "128",
     help: "Size of the pool: 32 to 1024 chunks of 4,096 bytes",
 };
 
