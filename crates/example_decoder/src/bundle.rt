@@ -52,11 +52,6 @@ impl<H: Heap> Bundle<H> {
         Ok(Bundle { packets, index })
     }
 
-    /// How many packets are in it.
-    pub fn len(&self) -> usize {
-        self.packets.len()
-    }
-
     /// Whether no packet is in it.
     pub fn is_empty(&self) -> bool {
         self.packets.is_empty()

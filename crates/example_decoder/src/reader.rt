@@ -20,7 +20,7 @@ pub struct Reader<I: Read + Drop> {
     most: usize,
     /// Who gets the next bundle.
     next: usize,
-    /// How many packets were dealt.
+    /// How many packets were read.
     packets: u64,
 }
 
@@ -98,6 +98,7 @@ impl<I: Read + Drop> Reader<I> {
             heap.free(rt, packet);
             return Err(stop);
         }
+        self.packets = self.packets.saturating_add(1);
         if let Some(bundle) = held
             && let Err(packet) = bundle.push(packet, &record)
         {
@@ -146,12 +147,12 @@ impl<I: Read + Drop> Reader<I> {
         if bundle.is_empty() {
             return bundle.free(rt, heap);
         }
-        let packets = bundle.len() as u64;
         match bundle.close() {
-            Ok(parcel) => match to.send_parcel(rt, heap, self.next, parcel) {
-                Ok(()) => self.packets = self.packets.saturating_add(packets),
-                Err(message) => message.free(rt, heap),
-            },
+            Ok(parcel) => {
+                if let Err(message) = to.send_parcel(rt, heap, self.next, parcel) {
+                    message.free(rt, heap);
+                }
+            }
             Err(bundle) => bundle.free(rt, heap),
         }
         self.next = if self.next < self.decoders {

@@ -13,7 +13,7 @@ pub struct Report {
     pub counts: Counts,
     /// The flows with most bytes.
     pub top: Vec<(Flow, Count)>,
-    /// How many packets the reader handed on.
+    /// How many packets the reader read.
     pub read: u64,
     /// Why it read no more, if that was before the end.
     pub stop: Option<Stop>,

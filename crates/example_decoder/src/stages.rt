@@ -31,7 +31,7 @@ pub enum Answer {
     Counted(Result<Counts, AllocError>),
 }
 
-/// How reading ended: how many packets were handed on, and why there were no more, if it was before the end.
+/// How reading ended: how many packets were read, and why there were no more, if it was before the end.
 #[derive(Drop)]
 pub struct ReadEnd {
     pub packets: u64,
