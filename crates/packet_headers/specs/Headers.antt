@@ -1,10 +1,10 @@
 -- What headers say, by the places of their fields, and why they can't be read.
-use Rattle.std.specs.Prelude.{ℕ, ◌≡◌, ◌≢◌, ◌+◌, ◌*◌, ◌/◌, ◌%◌, ◌<◌, ◌≤◌, ◌⊎◌, Bool, true, false, List, [], ◌∷◌, length, take, drop, slice_index, Option, Some, None, IsTrue, ◌↔◌}
+use Rattle.std.specs.Prelude.{ℕ, ◌≡◌, ◌≢◌, ◌+◌, ◌*◌, ◌/◌, ◌%◌, ◌<◌, ◌≤◌, ◌⊎◌, Bool, true, List, [], ◌∷◌, length, take, drop, slice_index, Option, Some, None, IsTrue, ◌↔◌}
 use Rattle.std.specs.Net.Addr.{ipv4_octets, ipv6_segments}
 use Rattle.packet_headers.specs.Layers.{IsBehind, IsUnread, word_at}
 use Rattle.packet_headers.specs.declared.layer.Layer.{Layer}
 use Rattle.packet_headers.specs.declared.layer.Fault.{Fault}
-use Rattle.packet_headers.specs.declared.layer.Fault.TheVariants.{Cut, Short, Version, HeaderLength, Length}
+use Rattle.packet_headers.specs.declared.layer.Fault.TheVariants.{Version, HeaderLength, Length}
 use Rattle.packet_headers.specs.declared.arp.Arp.{Arp}
 use Rattle.packet_headers.specs.declared.ipv4.Ipv4.{Ipv4}
 use Rattle.packet_headers.specs.declared.ipv6.Ipv6.{Ipv6}
