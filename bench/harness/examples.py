@@ -21,13 +21,14 @@ SECONDS = 300
 
 @dataclass(frozen=True)
 class Example:
-    """A program with its twin: how its input is made, the words of both for a setting, and what has to be the same in
-    what they print."""
+    """A program with its twin: how its input is made, what is set and to what, the words of both for a setting, and
+    what has to be the same in what they print."""
 
     name: str
     twin: str
     make: Callable
     settings: tuple
+    set: str
     ours: Callable
     theirs: Callable
     counted: Callable
@@ -51,6 +52,7 @@ EXAMPLES = [
         twin="decoder.cpp",
         make=capture,
         settings=(1, 2),
+        set="decoders",
         ours=lambda file, decoders: [file, "--json", "--decoders", str(decoders)],
         theirs=lambda file, decoders: [file, str(decoders)],
         counted=decoded,
@@ -124,7 +126,7 @@ def table(example, given):
         ]:
             best = (max if word == "MB/s" else min)(number(of(name)) for name in peers)
             cells = [form.format(number(of(name))) for name, *_ in columns]
-            rows.append([f"{setting} threads, {word}", *cells, f"{number(of('this pool')) / best:.2f}"])
+            rows.append([f"{example.set}: {setting}, {word}", *cells, f"{number(of('this pool')) / best:.2f}"])
     return aligned(rows)
 
 
