@@ -1,0 +1,121 @@
+//! The middle stages: each decides which lines are kept, and writes their objects in place of them.
+
+use crate::counts::Counts;
+use crate::drain::drain;
+use crate::label::{Form, LABEL_BYTES, Label};
+use anyhow::{Context, Result};
+use fustrevol::{Burst, Edges, Heap, Message};
+use regex::bytes::{Matcher, Regex};
+use std::alloc::Global;
+use std::sync::Wait;
+use syslog_lines::{Priority, Severity, push_object};
+
+/// What is kept, and who writes it.
+#[derive(Drop)]
+pub struct Parsing {
+    pub alloc: Global,
+    pub pattern: Option<Regex>,
+    pub level: Option<Severity>,
+    pub parsers: usize,
+}
+
+// What a parser carries from line to line.
+#[derive(Drop)]
+struct Parser<'r> {
+    matcher: Option<Matcher<'r>>,
+    level: Option<Severity>,
+    keeps: bool,
+    object: Vec<u8>,
+    kept: Counts,
+}
+
+impl Parsing {
+    /// The number of the task that writes.
+    pub fn writer(&self) -> usize {
+        self.parsers.saturating_add(1)
+    }
+
+    /// Parses what comes until the reader has ended.
+    pub fn run<H: Heap, R: Wait>(self, rt: &R, heap: &mut H, to: &Edges<H>) -> Result<Counts> {
+        let matcher = match self.pattern.as_ref().map(|pattern| pattern.matcher(self.alloc)) {
+            None => None,
+            Some(Ok(matcher)) => Some(matcher),
+            Some(Err(error)) => {
+                drain(rt, heap, to);
+                return Err(error).context("a parser");
+            }
+        };
+        let mut parser = Parser {
+            matcher,
+            level: self.level,
+            keeps: false,
+            object: Vec::new(self.alloc),
+            kept: Counts::NONE,
+        };
+        for _ in rt.forever() {
+            let Some(message) = to.receive(rt, heap) else {
+                break;
+            };
+            let message = match message {
+                Message::Parcel(parcel) => Message::Parcel(parser.parse(parcel)),
+                message => message,
+            };
+            if let Err(message) = to.send(rt, heap, self.writer(), message) {
+                message.free(rt, heap);
+            }
+        }
+        Ok(parser.kept)
+    }
+}
+
+impl Parser<'_> {
+    // Parses each line of a parcel.
+    fn parse<P, B>(&mut self, parcel: P) -> P
+    where
+        P: Burst<B>,
+        B: fustrevol::Bytes,
+    {
+        let mut parcel = parcel;
+        for at in 0..parcel.len() {
+            parcel.edit_at(at, |bytes| self.edit(bytes));
+        }
+        parcel
+    }
+
+    // Writes the object of a piece in place of it. The piece stays where its object doesn't fit, or where there is no
+    // memory to make it: the writer makes it then.
+    fn edit(&mut self, bytes: &mut [u8]) {
+        let Some((label, piece)) = Label::read(bytes) else {
+            return;
+        };
+        if label.mark.piece == 0 {
+            self.keeps = self.is_wanted(piece);
+        }
+        if !self.keeps {
+            Label { form: Form::LeftOut, len: 0, ..label }.write(&[], bytes);
+            return;
+        }
+        self.kept.add(piece.len(), label.mark.is_last);
+        self.object.clear();
+        if push_object(&mut self.object, label.mark, piece).is_ok()
+            && self.object.len() + LABEL_BYTES <= bytes.len()
+            && let Ok(len) = u16::try_from(self.object.len())
+        {
+            Label { form: Form::Object, len, ..label }.write(&self.object, bytes);
+        }
+    }
+
+    // Whether the line of this first piece is kept.
+    fn is_wanted(&mut self, piece: &[u8]) -> bool {
+        if let Some(level) = self.level {
+            match Priority::read(piece) {
+                Some((priority, _)) if priority.severity() <= level => {}
+                _ => return false,
+            }
+        }
+        match &mut self.matcher {
+            Some(matcher) => matcher.is_match(piece),
+            None => true,
+        }
+    }
+}

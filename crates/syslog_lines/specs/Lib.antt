@@ -1,0 +1,5 @@
+pub mod Pieces
+pub mod Marks
+pub mod Priorities
+pub mod Heads
+pub mod Texts
