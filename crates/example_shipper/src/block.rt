@@ -1,4 +1,5 @@
 //! The bytes that were read, and not yet dealt.
+ghost use Rattle.std.specs.Prelude.{◌≤◌, vec_len};
 
 use std::alloc::{AllocError, Global};
 use std::io::{self, Read};
@@ -17,6 +18,8 @@ pub struct Block {
     start: usize,
     end: usize,
     is_last: bool,
+    ghost ordered: { start ≤ end },
+    ghost within: { end ≤ vec_len bytes },
 }
 
 impl Block {
@@ -49,17 +52,15 @@ impl Block {
 
     /// Begins another input.
     pub fn begin(&mut self) {
-        self.start = 0;
         self.end = 0;
+        self.start = 0;
         self.is_last = false;
     }
 
     /// Reads once.
     pub fn read_from<I: Read>(&mut self, input: &mut I) -> io::Result<()> {
         self.make_room();
-        let Some((_, free)) = self.bytes.split_at_mut_checked(self.end) else {
-            return Ok(());
-        };
+        let (_, free) = self.bytes.split_at_mut(self.end);
         let count = input.read(free)?;
         self.is_last = count == 0;
         self.end += count;

@@ -66,7 +66,11 @@ impl<H: Heap> Dealer<H> {
         self.ends_line = mark.is_last;
         let is_full = parcel.len() >= PARCEL_LINES;
         self.parcel = Some(parcel);
-        if is_full { self.hand_over(rt, heap, to) } else { Ok(()) }
+        if is_full {
+            self.hand_over(rt, heap, to)
+        } else {
+            Ok(())
+        }
     }
 
     /// Hands over what there is. The pieces of a line all go to one parser.
@@ -79,12 +83,18 @@ impl<H: Heap> Dealer<H> {
         let Some(parcel) = self.parcel.take() else {
             return Ok(());
         };
-        if let Err(message) = to.send_parcel(rt, heap, FIRST_PARSER + self.turn, parcel) {
+        if let Err(message) = to.send_parcel(
+            rt,
+            heap,
+            FIRST_PARSER.saturating_add(self.turn),
+            parcel,
+        ) {
             message.free(rt, heap);
             bail!("a parser has ended");
         }
         if self.ends_line {
-            self.turn = if self.turn + 1 < self.parsers { self.turn + 1 } else { 0 };
+            let next = self.turn.saturating_add(1);
+            self.turn = if next < self.parsers { next } else { 0 };
         }
         Ok(())
     }
@@ -105,7 +115,8 @@ fn labelled<H: Heap, R: Wait + Clock>(
         len: u16::try_from(piece.len()).unwrap_or(0),
     };
     buffer.edit(|bytes| label.write(piece, bytes));
-    buffer.set_len(buffer.capacity());
+    let capacity = buffer.capacity();
+    buffer.set_len(capacity);
     Ok(buffer)
 }
 

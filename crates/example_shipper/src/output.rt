@@ -21,10 +21,20 @@ pub struct LogFile<F: Drop> {
 
 impl<F: Write + OpenFile + Drop> LogFile<F> {
     /// Opens a file, and begins it where there is none. It doesn't grow beyond `most` bytes, unless by one object.
-    pub fn open<P: Files<File = F>>(host: &P, path: String, most: Option<u64>) -> io::Result<LogFile<F>> {
+    pub fn open<P: Files<File = F>>(
+        host: &P,
+        path: String,
+        most: Option<u64>,
+    ) -> io::Result<LogFile<F>> {
         let file = append(host, path.as_str())?;
         let size = file.metadata()?.len();
-        Ok(LogFile { path, file, size, most, renamed: 0 })
+        Ok(LogFile {
+            path,
+            file,
+            size,
+            most,
+            renamed: 0,
+        })
     }
 
     // Whether so many bytes more are too many. An empty file takes any object.

@@ -6,7 +6,7 @@ use crate::label::{Form, LABEL_BYTES, Label};
 use anyhow::{Context, Result};
 use fustrevol::{Burst, Edges, Heap, Message};
 use regex::bytes::{Matcher, Regex};
-use std::alloc::Global;
+use std::alloc::{AllocError, Global};
 use std::sync::Wait;
 use syslog_lines::{Priority, Severity, push_object};
 
@@ -37,10 +37,9 @@ impl Parsing {
 
     /// Parses what comes until the reader has ended.
     pub fn run<H: Heap, R: Wait>(self, rt: &R, heap: &mut H, to: &Edges<H>) -> Result<Counts> {
-        let matcher = match self.pattern.as_ref().map(|pattern| pattern.matcher(self.alloc)) {
-            None => None,
-            Some(Ok(matcher)) => Some(matcher),
-            Some(Err(error)) => {
+        let matcher = match matcher_of(self.alloc, &self.pattern) {
+            Ok(matcher) => matcher,
+            Err(error) => {
                 drain(rt, heap, to);
                 return Err(error).context("a parser");
             }
@@ -68,6 +67,13 @@ impl Parsing {
     }
 }
 
+fn matcher_of(alloc: Global, pattern: &Option<Regex>) -> Result<Option<Matcher<'_>>, AllocError> {
+    match pattern {
+        Some(pattern) => Ok(Some(pattern.matcher(alloc)?)),
+        None => Ok(None),
+    }
+}
+
 impl Parser<'_> {
     // Parses each line of a parcel.
     fn parse<P, B>(&mut self, parcel: P) -> P
@@ -92,7 +98,12 @@ impl Parser<'_> {
             self.keeps = self.is_wanted(piece);
         }
         if !self.keeps {
-            Label { form: Form::LeftOut, len: 0, ..label }.write(&[], bytes);
+            Label {
+                form: Form::LeftOut,
+                len: 0,
+                ..label
+            }
+            .write(&[], bytes);
             return;
         }
         self.kept.add(piece.len(), label.mark.is_last);
@@ -101,7 +112,12 @@ impl Parser<'_> {
             && self.object.len() + LABEL_BYTES <= bytes.len()
             && let Ok(len) = u16::try_from(self.object.len())
         {
-            Label { form: Form::Object, len, ..label }.write(&self.object, bytes);
+            Label {
+                form: Form::Object,
+                len,
+                ..label
+            }
+            .write(&self.object, bytes);
         }
     }
 

@@ -47,12 +47,21 @@ impl<P: Files + Input + Eprint + AllocGlobal + Drop> Reading<P> {
 
     /// Reads all inputs, or until it is stopped. Where one can't be read the rest isn't, and all that was read
     /// before is on its way.
-    pub fn run<H: Heap, R: Wait + Clock>(self, rt: &R, heap: &mut H, to: &Edges<H>) -> Result<Counts> {
+    pub fn run<H: Heap, R: Wait + Clock>(
+        self,
+        rt: &R,
+        heap: &mut H,
+        to: &Edges<H>,
+    ) -> Result<Counts> {
         let mut reader = Reader {
             host: &self.host,
             dealer: Dealer::new(rt, heap, self.parsers)?,
             block: Block::new(self.host.alloc())?,
-            mark: Mark { line: 1, piece: 0, is_last: true },
+            mark: Mark {
+                line: 1,
+                piece: 0,
+                is_last: true,
+            },
             counts: Counts::NONE,
             progress: None,
         };
@@ -77,12 +86,23 @@ impl<P: Files + Input + Eprint + AllocGlobal + Drop> Reading<P> {
 }
 
 impl<P: Files + Input + Eprint, H: Heap> Reader<'_, P, H> {
-    fn read_standard<R: Wait + Clock>(&mut self, rt: &R, heap: &mut H, to: &Edges<H>) -> Result<Next> {
+    fn read_standard<R: Wait + Clock>(
+        &mut self,
+        rt: &R,
+        heap: &mut H,
+        to: &Edges<H>,
+    ) -> Result<Next> {
         let mut input = self.host.reader();
         self.read_input(rt, heap, to, &mut input, "standard input")
     }
 
-    fn read_file<R: Wait + Clock>(&mut self, rt: &R, heap: &mut H, to: &Edges<H>, name: &str) -> Result<Next> {
+    fn read_file<R: Wait + Clock>(
+        &mut self,
+        rt: &R,
+        heap: &mut H,
+        to: &Edges<H>,
+        name: &str,
+    ) -> Result<Next> {
         let mut input = fs::open(self.host, name).context(format_args!("{name}"))?;
         self.read_input(rt, heap, to, &mut input, name)
     }

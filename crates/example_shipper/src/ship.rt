@@ -10,11 +10,10 @@ use anyhow::{Context, Result, bail};
 use example_shipper_words::{Asked, Unread, read};
 use fustrevol::{CHUNK, Digits, Pool};
 use regex::bytes::Regex;
-use std::alloc::{AllocError, Global};
+use std::alloc::Global;
 use std::env;
 use std::process::ExitCode;
-use std::rt::Env;
-use std::rt::Files;
+use std::rt::{Env, Files};
 use std::sync::Wait;
 use std::thread::Threads;
 use std::time::{Clock, Instant};
@@ -22,7 +21,18 @@ use std::time::{Clock, Instant};
 /// Does what the program's words ask for, and says what failed.
 pub fn run<R>(rt: R) -> ExitCode
 where
-    R: Files + Input + Print + Eprint + Env + AllocGlobal + Threads + Wait + Clock + Sync + Send + Copy,
+    R: Files
+        + Input
+        + Print
+        + Eprint
+        + Env
+        + AllocGlobal
+        + Threads
+        + Wait
+        + Clock
+        + Sync
+        + Send
+        + Copy,
     R::File: Send,
 {
     match try_run(rt) {
@@ -36,14 +46,34 @@ where
 
 fn try_run<R>(rt: R) -> Result<u8>
 where
-    R: Files + Input + Print + Eprint + Env + AllocGlobal + Threads + Wait + Clock + Sync + Send + Copy,
+    R: Files
+        + Input
+        + Print
+        + Eprint
+        + Env
+        + AllocGlobal
+        + Threads
+        + Wait
+        + Clock
+        + Sync
+        + Send
+        + Copy,
     R::File: Send,
 {
     let alloc = rt.alloc();
-    let words = env::args(&rt)?.collect::<Vec<String>>(alloc).context("the words")?;
+    let words = env::args(&rt)?
+        .collect::<Vec<String>>(alloc)
+        .context("the words")?;
     match read(alloc, words.as_slice()) {
         Ok(asked) => {
-            ship(rt, asked)?;
+            let patterns = match patterns_of(alloc, &asked) {
+                Ok(patterns) => patterns,
+                Err(error) => {
+                    eprintln!(rt; "example_shipper: {error:#}")?;
+                    return Ok(2);
+                }
+            };
+            ship(rt, asked, patterns)?;
             Ok(0)
         }
         Err(Unread::Memory) => bail!("no memory"),
@@ -59,7 +89,7 @@ where
 }
 
 // Ships the lines. What failed first in the order of the stages is said, a failed write before all.
-fn ship<R>(rt: R, asked: Asked) -> Result<()>
+fn ship<R>(rt: R, asked: Asked, patterns: Vec<Option<Regex>>) -> Result<()>
 where
     R: Files + Input + Print + Eprint + AllocGlobal + Threads + Wait + Clock + Sync + Send + Copy,
     R::File: Send,
@@ -72,7 +102,7 @@ where
     if let Some(digits) = Digits::new2(6) {
         pool = pool.digits(digits);
     }
-    let stages = stages(rt, asked)?;
+    let stages = stages(rt, asked, patterns)?;
     let mut report = pool.run(&rt, stages)?;
     let written = report.answers.pop().flatten().context("no writer")??;
     let mut read = Counts::NONE;
@@ -91,29 +121,56 @@ where
 }
 
 // The reader, the parsers and the writer.
-fn stages<R>(rt: R, asked: Asked) -> Result<Vec<Stage<R>>>
+fn stages<R>(rt: R, asked: Asked, patterns: Vec<Option<Regex>>) -> Result<Vec<Stage<R>>>
 where
     R: Files + Input + Print + Eprint + AllocGlobal + Copy,
 {
     let alloc = rt.alloc();
-    let Asked { files, pattern, level, output, rotate, parsers, chunks: _, progress } = asked;
+    let Asked {
+        files,
+        pattern: _,
+        level,
+        output,
+        rotate,
+        parsers,
+        chunks: _,
+        progress,
+    } = asked;
     let file = match output {
         Some(path) => Some(LogFile::open(&rt, path, rotate).context("the output file")?),
         None => None,
     };
     let mut stages = Vec::new(alloc);
-    stages.push(Stage::Read(Reading { host: rt, files, parsers, progress }))?;
-    for _ in 0..parsers {
-        let pattern = compiled(alloc, &pattern)?;
-        stages.push(Stage::Parse(Parsing { alloc, pattern, level, parsers }))?;
+    stages.push(Stage::Read(Reading {
+        host: rt,
+        files,
+        parsers,
+        progress,
+    }))?;
+    for pattern in patterns {
+        stages.push(Stage::Parse(Parsing {
+            alloc,
+            pattern,
+            level,
+            parsers,
+        }))?;
     }
-    stages.push(Stage::Write(Writing { alloc, output: Output::new(rt, alloc, file) }))?;
+    stages.push(Stage::Write(Writing {
+        alloc,
+        output: Output::new(rt, alloc, file),
+    }))?;
     Ok(stages)
 }
 
-fn compiled(alloc: Global, pattern: &Option<String>) -> Result<Option<Regex>> {
-    match pattern {
-        Some(pattern) => Ok(Some(Regex::new(alloc, pattern.as_str()).context("--match")?)),
-        None => Ok(None),
+// The pattern, compiled for each parser.
+fn patterns_of(alloc: Global, asked: &Asked) -> Result<Vec<Option<Regex>>> {
+    let mut patterns = Vec::new(alloc);
+    for _ in 0..asked.parsers {
+        let pattern = match &asked.pattern {
+            Some(pattern) => Some(Regex::new(alloc, pattern.as_str()).context("--match")?),
+            None => None,
+        };
+        patterns.push(pattern)?;
     }
+    Ok(patterns)
 }

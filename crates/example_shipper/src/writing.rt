@@ -1,4 +1,5 @@
 //! The last stage: puts parcels back into the order of the input, and writes what is kept.
+ghost use Rattle.std.specs.Prelude.{◌<◌, length, IfSome};
 
 use crate::counts::Counts;
 use crate::drain::{drain, stop_reader};
@@ -37,7 +38,11 @@ impl<P: Files + Print + Drop> Writing<P> {
         let mut writer: Writer<P, H> = Writer {
             output: self.output,
             early: Vec::new(self.alloc),
-            next: Mark { line: 1, piece: 0, is_last: true },
+            next: Mark {
+                line: 1,
+                piece: 0,
+                is_last: true,
+            },
             object: Vec::new(self.alloc),
             counts: Counts::NONE,
         };
@@ -97,8 +102,7 @@ impl<P: Files + Print + Drop, H: Heap> Writer<P, H> {
     // Writes and frees the parcels whose turn it is.
     fn write_due<R: Wait>(&mut self, rt: &R, heap: &mut H) -> io::Result<()> {
         for _ in 0..u64::MAX {
-            let next = self.next;
-            let Some(at) = self.early.iter().position(|parcel| begins_at(parcel, next)) else {
+            let Some(at) = place_of(self.early.as_slice(), self.next) else {
                 break;
             };
             let parcel = self.early.swap_remove(at);
@@ -142,6 +146,18 @@ impl<P: Files + Print + Drop, H: Heap> Writer<P, H> {
             stop_reader(rt, heap, to, Message::Parcel(parcel));
         }
     }
+}
+
+// Where the parcel is that begins with this piece.
+fn place_of<B: fustrevol::Bytes, P: Burst<B>>(parcels: &[P], next: Mark) -> Option<usize>
+    ensures { IfSome result (λ at. at < length parcels.now) }
+{
+    for (at, parcel) in parcels.iter().enumerate() {
+        if begins_at(parcel, next) {
+            return Some(at);
+        }
+    }
+    None
 }
 
 // Whether a parcel begins with this piece.

@@ -15,5 +15,5 @@ number_ahead bytes first rest n fits is front back long =
     let whole : take 8 bytes ++ drop 8 bytes ≡ bytes = take-append-drop 8 bytes in
     let same : n ≡ from_le_bytes w64 (take 8 bytes) = is ∙ ap (from_le_bytes w64) front in
     let number : to_le_bytes w64 n ≡ take 8 bytes =
-        le_bytes_8 (take 8 bytes) n (length-take-le 8 bytes long) (taken_fits bytes fits) same in
+    le_bytes_8 (take 8 bytes) n (length-take-le 8 bytes long) (taken_fits bytes fits) same in
     sym whole ∙ (ap (λ t. t ++ drop 8 bytes) (sym number) ∙ ap (λ t. to_le_bytes w64 n ++ t) (sym back))

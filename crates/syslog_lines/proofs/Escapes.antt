@@ -26,7 +26,7 @@ run_of : (c : Coding) (xs : List ℕ) (n : ℕ) → n ≤ length xs → ((k : �
 run_of c xs n within plain =
     let len : length (take n xs) ≡ n = length-take-le n xs within in
     text_of-run c xs n (text_of-plain c (take n xs)
-      (λ k lt. let less : k < n = omega (arith, len) in ap (is_plain c) (get_or-take n xs k 0 less) ∙ plain k less))
+    (λ k lt. let less : k < n = omega (arith, len) in ap (is_plain c) (get_or-take n xs k 0 less) ∙ plain k less))
 
 text_of-none : (c : Coding) (xs : List ℕ) → length xs ≡ 0 → text_of c xs ≡ []
 text_of-none c [] h = refl
@@ -48,6 +48,6 @@ pub run_and_escape : (c : Coding) (out rest ahead behind later : List ℕ) (b n 
 run_and_escape c out rest ahead behind later b n within plain front back cons =
     let tail : text_of c (drop n rest) ≡ byte_text c b ++ text_of c later = ap (text_of c) (sym back ∙ cons) in
     let whole : text_of c rest ≡ ahead ++ (byte_text c b ++ text_of c later) =
-        run_of c rest n within plain ∙ (ap (λ t. take n rest ++ t) tail ∙ ap (λ t. t ++ (byte_text c b ++ text_of c later)) (sym front)) in
+    run_of c rest n within plain ∙ (ap (λ t. take n rest ++ t) tail ∙ ap (λ t. t ++ (byte_text c b ++ text_of c later)) (sym front)) in
     append_assoc (out ++ ahead) (byte_text c b) (text_of c later)
     ∙ (append_assoc out ahead (byte_text c b ++ text_of c later) ∙ ap (λ t. out ++ t) (sym whole))

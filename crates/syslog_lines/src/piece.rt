@@ -1,7 +1,7 @@
 //! The first line of some bytes, or the first piece of it.
 
 ghost use Rattle.std.specs.Prelude.{◌≡◌, ◌≢◌, ◌+◌, ◌^◌, ◌<◌, ◌≤◌, ◌↔◌, [], length, IsTrue, IfSome, IfNone};
-ghost use Rattle.syslog_lines.specs.Pieces.{IsFirstPiece, IsNoPiece};
+ghost use Rattle.syslog_lines.specs.Pieces.{IsFirstPiece, IsNoPiece, taken_of};
 
 use memchr::memchr;
 
@@ -36,8 +36,7 @@ impl Piece {
     /// How many bytes it takes up, those of a line feed counted.
     pub fn bytes(&self) -> usize
         requires { self.now.len + 1 < 2 ^ 64 }
-        ensures line_feed { self.now.ending ≡ Ending.LineFeed → result ≡ self.now.len + 1 }
-        ensures others { self.now.ending ≢ Ending.LineFeed → result ≡ self.now.len }
+        ensures { result ≡ taken_of self.now }
     {
         match self.ending {
             Ending::LineFeed => self.len + 1,
@@ -54,6 +53,7 @@ pub fn first_piece(bytes: &[u8], most: usize, is_end: bool) -> Option<Piece>
     requires some { 3 < most }
     requires few { most < 2 ^ 63 }
     ensures first { IfSome result (λ p. IsFirstPiece bytes.now most p) }
+    ensures taken { IfSome result (λ p. taken_of p ≤ length bytes.now) }
     ensures none { IfNone result (IsNoPiece bytes.now most) }
     ensures end { IsTrue is_end → IfNone result (bytes.now ≡ []) }
 {

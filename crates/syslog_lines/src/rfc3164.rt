@@ -72,7 +72,7 @@ fn is_host(word: &[u8]) -> bool {
     }
 }
 
-// `PROGRAM: message` or `PROGRAM[PROCESS]: message`.
+// `PROGRAM: message`, `PROGRAM[PROCESS]: message` or `PROGRAM[PROCESS] message`.
 fn read_tag(text: &[u8]) -> Option<Head<'_>> {
     let end = memchr3(b':', b'[', b' ', text)?;
     let (app, rest) = text.split_at_checked(end)?;
@@ -89,12 +89,14 @@ fn read_tag(text: &[u8]) -> Option<Head<'_>> {
     }
 }
 
-// What stands before `]:`, and what stands behind it.
+// What stands before the bracket, and what stands behind it. `rsyslog` leaves the colon away in its files, where the
+// message came by RFC 5424.
 fn split_process(text: &[u8]) -> Option<(&[u8], &[u8])> {
     let end = memchr3(b']', b'[', b' ', text)?;
     let (procid, rest) = text.split_at_checked(end)?;
     match rest {
         [b']', b':', message @ ..] => Some((procid, message)),
+        [b']', message @ ..] if message.first() == Some(&b' ') => Some((procid, message)),
         _ => None,
     }
 }
