@@ -1,5 +1,5 @@
 //! The bytes that were read, and not yet dealt.
-ghost use Rattle.std.specs.Prelude.{◌≤◌, vec_len};
+ghost use Rattle.std.specs.Prelude.{◌≤◌, IfSome};
 
 use std::alloc::{AllocError, Global};
 use std::io::{self, Read};
@@ -18,8 +18,6 @@ pub struct Block {
     start: usize,
     end: usize,
     is_last: bool,
-    ghost ordered: { start ≤ end },
-    ghost within: { end ≤ vec_len bytes },
 }
 
 impl Block {
@@ -33,11 +31,14 @@ impl Block {
     }
 
     /// The next piece, with its bytes, where they are all there.
-    pub fn next_piece(&mut self) -> Option<(Piece, &[u8])> {
+    pub fn next_piece(&mut self) -> Option<(Piece, &[u8])>
+        ensures { IfSome result (λ r. r.0.len ≤ MOST_PIECE) }
+    {
         let unread = self.bytes.get(self.start..self.end)?;
         let piece = first_piece(unread, MOST_PIECE, self.is_last)?;
+        let from = self.start;
         self.start += piece.bytes();
-        Some((piece, unread.get(..piece.len)?))
+        Some((piece, self.bytes.get(from..from + piece.len)?))
     }
 
     /// Whether no more bytes will come.
@@ -60,28 +61,38 @@ impl Block {
     /// Reads once.
     pub fn read_from<I: Read>(&mut self, input: &mut I) -> io::Result<()> {
         self.make_room();
-        let (_, free) = self.bytes.split_at_mut(self.end);
+        let Some((_, free)) = self.bytes.split_at_mut_checked(self.end) else {
+            return Ok(());
+        };
         let count = input.read(free)?;
         self.is_last = count == 0;
-        self.end += count;
+        self.end = self.end.saturating_add(count);
         Ok(())
     }
 
-    // Moves what is left to the front, where there is no room behind it.
+    // Makes room behind what is left, where there is none.
     fn make_room(&mut self) {
         if self.start == self.end {
             self.start = 0;
             self.end = 0;
         }
-        if self.end < self.bytes.len() {
-            return;
-        }
-        let left = self.end - self.start;
-        let (front, back) = self.bytes.split_at_mut(self.start);
-        if let Some((front, _)) = front.split_at_mut_checked(left) {
-            front.copy_from_slice(back);
+        if self.end == self.bytes.len() && moved(&mut self.bytes, self.start) {
+            self.end = self.end.saturating_sub(self.start);
             self.start = 0;
-            self.end = left;
         }
+    }
+}
+
+// Moves the bytes from `start` on to the front, if there is room ahead of them.
+fn moved(bytes: &mut [u8], start: usize) -> bool {
+    let Some((front, back)) = bytes.split_at_mut_checked(start) else {
+        return false;
+    };
+    match front.split_at_mut_checked(back.len()) {
+        Some((front, _)) => {
+            front.copy_from_slice(back);
+            true
+        }
+        None => false,
     }
 }

@@ -20,5 +20,5 @@ mod writing;
 use std::process::ExitCode;
 
 fn main(rt: HostRuntime) -> ExitCode {
-    ship::run(rt)
+    ship::run(&rt, rt)
 }

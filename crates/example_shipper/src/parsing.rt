@@ -14,7 +14,7 @@ use syslog_lines::{Priority, Severity, push_object};
 #[derive(Drop)]
 pub struct Parsing {
     pub alloc: Global,
-    pub pattern: Option<Regex>,
+    pub pattern: Option<String>,
     pub level: Option<Severity>,
     pub parsers: usize,
 }
@@ -37,7 +37,14 @@ impl Parsing {
 
     /// Parses what comes until the reader has ended.
     pub fn run<H: Heap, R: Wait>(self, rt: &R, heap: &mut H, to: &Edges<H>) -> Result<Counts> {
-        let matcher = match matcher_of(self.alloc, &self.pattern) {
+        let pattern = match compiled(self.alloc, &self.pattern) {
+            Ok(pattern) => pattern,
+            Err(error) => {
+                drain(rt, heap, to);
+                return Err(error);
+            }
+        };
+        let matcher = match matcher_of(self.alloc, &pattern) {
             Ok(matcher) => matcher,
             Err(error) => {
                 drain(rt, heap, to);
@@ -64,6 +71,14 @@ impl Parsing {
             }
         }
         Ok(parser.kept)
+    }
+}
+
+/// The pattern, compiled. A parser compiles its own, since it is cheap to hand over as text.
+pub fn compiled(alloc: Global, pattern: &Option<String>) -> Result<Option<Regex>> {
+    match pattern {
+        Some(pattern) => Ok(Some(Regex::new(alloc, pattern.as_str()).context("--match")?)),
+        None => Ok(None),
     }
 }
 

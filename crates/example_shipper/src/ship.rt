@@ -2,108 +2,69 @@
 
 use crate::counts::Counts;
 use crate::output::{LogFile, Output};
-use crate::parsing::Parsing;
+use crate::parsing::{Parsing, compiled};
 use crate::reading::Reading;
 use crate::stage::Stage;
 use crate::writing::Writing;
 use anyhow::{Context, Result, bail};
 use example_shipper_words::{Asked, Unread, read};
 use fustrevol::{CHUNK, Digits, Pool};
-use regex::bytes::Regex;
 use std::alloc::Global;
 use std::env;
 use std::process::ExitCode;
-use std::rt::{Env, Files};
 use std::sync::Wait;
 use std::thread::Threads;
 use std::time::{Clock, Instant};
 
-/// Does what the program's words ask for, and says what failed.
-pub fn run<R>(rt: R) -> ExitCode
-where
-    R: Files
-        + Input
-        + Print
-        + Eprint
-        + Env
-        + AllocGlobal
-        + Threads
-        + Wait
-        + Clock
-        + Sync
-        + Send
-        + Copy,
-    R::File: Send,
-{
-    match try_run(rt) {
+/// Does what the program's words ask for, and says what failed. `rt` starts the threads, `host` reads, writes and prints.
+pub fn run<R: Threads + Wait + Clock + Sync>(rt: &R, host: HostRuntime) -> ExitCode {
+    match try_run(rt, host) {
         Ok(status) => ExitCode::from(status),
         Err(error) => {
-            let _told = eprintln!(rt; "example_shipper: {error:#}");
+            let _told = eprintln!(host; "example_shipper: {error:#}");
             ExitCode::from(1)
         }
     }
 }
 
-fn try_run<R>(rt: R) -> Result<u8>
-where
-    R: Files
-        + Input
-        + Print
-        + Eprint
-        + Env
-        + AllocGlobal
-        + Threads
-        + Wait
-        + Clock
-        + Sync
-        + Send
-        + Copy,
-    R::File: Send,
-{
-    let alloc = rt.alloc();
-    let words = env::args(&rt)?
+fn try_run<R: Threads + Wait + Clock + Sync>(rt: &R, host: HostRuntime) -> Result<u8> {
+    let alloc = host.alloc();
+    let words = env::args(&host)?
         .collect::<Vec<String>>(alloc)
         .context("the words")?;
     match read(alloc, words.as_slice()) {
         Ok(asked) => {
-            let patterns = match patterns_of(alloc, &asked) {
-                Ok(patterns) => patterns,
-                Err(error) => {
-                    eprintln!(rt; "example_shipper: {error:#}")?;
-                    return Ok(2);
-                }
-            };
-            ship(rt, asked, patterns)?;
+            if let Err(error) = compiled(alloc, &asked.pattern) {
+                eprintln!(host; "example_shipper: {error:#}")?;
+                return Ok(2);
+            }
+            ship(rt, host, asked)?;
             Ok(0)
         }
         Err(Unread::Memory) => bail!("no memory"),
         Err(Unread::Help(text)) => {
-            print!(rt; "{text}")?;
+            print!(host; "{text}")?;
             Ok(0)
         }
         Err(Unread::Refused(text)) => {
-            eprint!(rt; "{text}")?;
+            eprint!(host; "{text}")?;
             Ok(2)
         }
     }
 }
 
 // Ships the lines. What failed first in the order of the stages is said, a failed write before all.
-fn ship<R>(rt: R, asked: Asked, patterns: Vec<Option<Regex>>) -> Result<()>
-where
-    R: Files + Input + Print + Eprint + AllocGlobal + Threads + Wait + Clock + Sync + Send + Copy,
-    R::File: Send,
-{
-    let alloc = rt.alloc();
-    let began = Instant::now(&rt)?;
+fn ship<R: Threads + Wait + Clock + Sync>(rt: &R, host: HostRuntime, asked: Asked) -> Result<()> {
+    let alloc = host.alloc();
+    let began = Instant::now(rt)?;
     let progress = asked.progress;
     let mut region = vec![in alloc; 0u8; asked.chunks.min(1_024) * CHUNK]?;
     let mut pool = Pool::new(alloc, &mut region)?;
     if let Some(digits) = Digits::new2(6) {
         pool = pool.digits(digits);
     }
-    let stages = stages(rt, asked, patterns)?;
-    let mut report = pool.run(&rt, stages)?;
+    let stages = stages(host, asked)?;
+    let mut report = pool.run(rt, stages)?;
     let written = report.answers.pop().flatten().context("no writer")??;
     let mut read = Counts::NONE;
     for (number, answer) in report.answers.into_iter().enumerate() {
@@ -113,22 +74,19 @@ where
         }
     }
     if progress {
-        let a_second = read.over(began.elapsed(&rt)?);
+        let a_second = read.over(began.elapsed(rt)?);
         let lines = written.lines;
-        eprintln!(rt; "{read} read, {lines} lines written; a second: {a_second}")?;
+        eprintln!(host; "{read} read, {lines} lines written; a second: {a_second}")?;
     }
     Ok(())
 }
 
 // The reader, the parsers and the writer.
-fn stages<R>(rt: R, asked: Asked, patterns: Vec<Option<Regex>>) -> Result<Vec<Stage<R>>>
-where
-    R: Files + Input + Print + Eprint + AllocGlobal + Copy,
-{
-    let alloc = rt.alloc();
+fn stages(host: HostRuntime, asked: Asked) -> Result<Vec<Stage<HostRuntime>>> {
+    let alloc = host.alloc();
     let Asked {
         files,
-        pattern: _,
+        pattern,
         level,
         output,
         rotate,
@@ -137,17 +95,18 @@ where
         progress,
     } = asked;
     let file = match output {
-        Some(path) => Some(LogFile::open(&rt, path, rotate).context("the output file")?),
+        Some(path) => Some(LogFile::open(&host, path, rotate).context("the output file")?),
         None => None,
     };
     let mut stages = Vec::new(alloc);
     stages.push(Stage::Read(Reading {
-        host: rt,
+        host,
         files,
         parsers,
         progress,
     }))?;
-    for pattern in patterns {
+    for _ in 0..parsers {
+        let pattern = copied(alloc, &pattern)?;
         stages.push(Stage::Parse(Parsing {
             alloc,
             pattern,
@@ -157,20 +116,14 @@ where
     }
     stages.push(Stage::Write(Writing {
         alloc,
-        output: Output::new(rt, alloc, file),
+        output: Output::new(host, alloc, file),
     }))?;
     Ok(stages)
 }
 
-// The pattern, compiled for each parser.
-fn patterns_of(alloc: Global, asked: &Asked) -> Result<Vec<Option<Regex>>> {
-    let mut patterns = Vec::new(alloc);
-    for _ in 0..asked.parsers {
-        let pattern = match &asked.pattern {
-            Some(pattern) => Some(Regex::new(alloc, pattern.as_str()).context("--match")?),
-            None => None,
-        };
-        patterns.push(pattern)?;
+fn copied(alloc: Global, text: &Option<String>) -> Result<Option<String>> {
+    match text {
+        Some(text) => Ok(Some(String::from_str(alloc, text.as_str())?)),
+        None => Ok(None),
     }
-    Ok(patterns)
 }
