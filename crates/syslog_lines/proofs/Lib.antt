@@ -1,3 +1,4 @@
 pub mod Numbers
 pub mod Escapes
 pub mod Bytes
+pub mod Parts

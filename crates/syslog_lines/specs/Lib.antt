@@ -3,3 +3,4 @@ pub mod Marks
 pub mod Priorities
 pub mod Heads
 pub mod Texts
+pub mod Objects

@@ -1,5 +1,9 @@
 //! What a line says of itself ahead of its message.
 
+ghost use Rattle.std.specs.Prelude.{◌≡◌, List, ℕ, None, IfSome};
+ghost use Rattle.syslog_lines.specs.Heads.{IsHeadOf};
+ghost use Rattle.syslog_lines.specs.Priorities.{BeginsWith};
+
 use crate::priority::Priority;
 use crate::rfc3164::read_local;
 use crate::rfc5424::read_rfc5424;
@@ -27,7 +31,20 @@ pub struct Head<'a> {
 
 impl<'a> Head<'a> {
     /// A line that says nothing of itself.
-    pub fn bare(message: &'a [u8]) -> Head<'a> {
+    #[tactic(auto, using(crate::proofs::Parts::parts))]
+    pub fn bare(message: &'a [u8]) -> Head<'a>
+        ensures parts { IsHeadOf message.entry.now result }
+        ensures value { result ≡ record {
+          priority = None;
+          time = None;
+          host = None;
+          app = None;
+          procid = None;
+          msgid = None;
+          «data» = None;
+          message = message.entry;
+        } }
+    {
         Head {
             priority: None,
             time: None,
@@ -43,17 +60,38 @@ impl<'a> Head<'a> {
     /// Takes a line apart: by RFC 5424 where a priority and its version stand ahead, and else by RFC 3164, also
     /// without a priority and with the times that `rsyslog` writes into files. Where it is neither, all that
     /// follows a priority is message.
-    pub fn read(line: &'a [u8]) -> Head<'a> {
-        let Some((priority, rest)) = Priority::read(line) else {
-            return read_local(line).unwrap_or(Head::bare(line));
-        };
-        let head = match read_rfc5424(rest) {
-            Some(head) => head,
-            None => read_local(rest).unwrap_or(Head::bare(rest)),
-        };
-        Head {
-            priority: Some(priority),
-            ..head
+    #[tactic(auto, using(crate::proofs::Parts::parts))]
+    pub fn read(line: &'a [u8]) -> Head<'a>
+        ensures parts { IsHeadOf line.entry.now result }
+        ensures priority { IfSome result.priority (λ p. (rest : List ℕ) × BeginsWith line.entry.now p.0 rest) }
+    {
+        match Priority::read(line) {
+            Some((priority, rest)) => Head {
+                priority: Some(priority),
+                ..read_behind(rest)
+            },
+            None => read_local_or_none(line),
         }
+    }
+}
+
+// What stands behind a priority.
+fn read_behind(rest: &[u8]) -> Head<'_>
+    ensures parts { IsHeadOf rest.now result }
+{
+    match read_rfc5424(rest) {
+        Some(head) => head,
+        None => read_local_or_none(rest),
+    }
+}
+
+// A line without a priority.
+fn read_local_or_none(line: &[u8]) -> Head<'_>
+    ensures parts { IsHeadOf line.now result }
+    ensures none { result.priority ≡ None }
+{
+    match read_local(line) {
+        Some(head) => head,
+        None => Head::bare(line),
     }
 }

@@ -53,6 +53,7 @@ pub fn first_piece(bytes: &[u8], most: usize, is_end: bool) -> Option<Piece>
     requires some { 3 < most }
     requires few { most < 2 ^ 63 }
     ensures first { IfSome result (λ p. IsFirstPiece bytes.now most p) }
+    ensures last { IfSome result (λ p. p.ending ≡ Ending.Nothing → IsTrue is_end) }
     ensures taken { IfSome result (λ p. taken_of p ≤ length bytes.now) }
     ensures none { IfNone result (IsNoPiece bytes.now most) }
     ensures end { IsTrue is_end → IfNone result (bytes.now ≡ []) }

@@ -1,7 +1,7 @@
 //! The priority of a message: its facility and its severity.
 
 ghost use Rattle.std.specs.Prelude.{◌≡◌, ℕ, List, ◌+◌, ◌*◌, ◌/◌, ◌%◌, ◌<◌, ◌∷◌, [], Some, IfSome, decimal};
-ghost use Rattle.syslog_lines.specs.Priorities.{BeginsWith, keyword_of, number_of};
+ghost use Rattle.syslog_lines.specs.Priorities.{BeginsWith, facility_of, keyword_of, number_of, severity_of};
 ghost use Rattle.syslog_lines.specs.declared.priority.Severity.{Severity};
 
 /// How urgent a message is, the most urgent first.
@@ -88,8 +88,10 @@ impl Priority {
     }
 
     /// The severity.
+    #[tactic(auto, unfolding(crate::specs::Priorities::severity_of))]
     pub fn severity(self) -> Severity
-        ensures { number_of result ≡ self.0 % 8 }
+        ensures number { number_of result ≡ self.0 % 8 }
+        ensures keyword { keyword_of result ≡ severity_of self.0 }
     {
         match self.0 % 8 {
             0 => Severity::Emergency,
@@ -104,7 +106,10 @@ impl Priority {
     }
 
     /// The facility's keyword, as RFC 5424 numbers them.
-    pub fn facility(self) -> &'static str {
+    #[tactic(auto, unfolding(crate::specs::Priorities::facility_of))]
+    pub fn facility(self) -> &'static str
+        ensures { result.now ≡ facility_of (self.0 / 8) }
+    {
         match self.0 / 8 {
             0 => "kern",
             1 => "user",

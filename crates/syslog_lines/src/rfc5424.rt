@@ -1,11 +1,18 @@
 //! The head of RFC 5424, behind the priority.
 
+ghost use Rattle.std.specs.Prelude.{◌≡◌, None, IfSome};
+ghost use Rattle.syslog_lines.specs.Heads.{IsEnd, IsHeadOf, IsPart};
+
 use crate::head::Head;
 use crate::shape::{begins_as, is_printable, split_word};
 
 /// Reads the version, the time, the host, the program, its process, the kind of message and the structured
 /// data. A dash stands for nothing.
-pub(crate) fn read_rfc5424(rest: &[u8]) -> Option<Head<'_>> {
+#[tactic(auto, using(crate::proofs::Parts::parts))]
+pub(crate) fn read_rfc5424(rest: &[u8]) -> Option<Head<'_>>
+    ensures parts { IfSome result (IsHeadOf rest.now) }
+    ensures none { IfSome result (λ h. h.priority ≡ None) }
+{
     let rest = rest.strip_prefix(b"1 ".as_slice())?;
     let (time, rest) = field(rest)?;
     if !is_time(time) {
@@ -37,7 +44,11 @@ fn is_time(time: Option<&[u8]>) -> bool {
 }
 
 // A field and what follows its space. Its bytes print.
-fn field(text: &[u8]) -> Option<(Option<&[u8]>, &[u8])> {
+#[tactic(auto, using(crate::proofs::Parts::parts))]
+fn field(text: &[u8]) -> Option<(Option<&[u8]>, &[u8])>
+    ensures word { IfSome result (λ r. IfSome r.0 (λ w. IsPart text.now w.now)) }
+    ensures rest { IfSome result (λ r. IsEnd text.now r.1.now) }
+{
     let (word, rest) = split_word(text)?;
     if word.is_empty() || !word.iter().all(|byte| is_printable(*byte)) {
         return None;
@@ -45,7 +56,9 @@ fn field(text: &[u8]) -> Option<(Option<&[u8]>, &[u8])> {
     Some((some_word(word), rest))
 }
 
-fn some_word(word: &[u8]) -> Option<&[u8]> {
+fn some_word(word: &[u8]) -> Option<&[u8]>
+    ensures { IfSome result (λ w. w.now ≡ word.now) }
+{
     if word == b"-".as_slice() {
         None
     } else {
@@ -54,7 +67,11 @@ fn some_word(word: &[u8]) -> Option<&[u8]> {
 }
 
 // The structured data, and the message.
-fn structured(text: &[u8]) -> Option<(Option<&[u8]>, &[u8])> {
+#[tactic(auto, using(crate::proofs::Parts::parts))]
+fn structured(text: &[u8]) -> Option<(Option<&[u8]>, &[u8])>
+    ensures elements { IfSome result (λ r. IfSome r.0 (λ w. IsPart text.now w.now)) }
+    ensures rest { IfSome result (λ r. IsEnd text.now r.1.now) }
+{
     let len = if text.first() == Some(&b'-') {
         1
     } else {

@@ -1,9 +1,16 @@
 //! Parts of a line: words, and texts of a fixed shape.
 
+ghost use Rattle.std.specs.Prelude.{◌≡◌, IfSome};
+ghost use Rattle.syslog_lines.specs.Heads.{IsEnd, IsHeadOf, IsPart};
+
 use memchr::memchr;
 
 /// The word up to the first space, and what follows the space.
-pub(crate) fn split_word(text: &[u8]) -> Option<(&[u8], &[u8])> {
+#[tactic(auto, using(crate::proofs::Parts::parts))]
+pub(crate) fn split_word(text: &[u8]) -> Option<(&[u8], &[u8])>
+    ensures word { IfSome result (λ r. IsPart text.now r.0.now) }
+    ensures rest { IfSome result (λ r. IsEnd text.now r.1.now) }
+{
     let at = memchr(b' ', text)?;
     Some((&text[..at], &text[at + 1..]))
 }
