@@ -1,7 +1,6 @@
 //! The middle stages: each decides which lines are kept, and writes their objects in place of them.
 
 use crate::counts::Counts;
-use crate::drain::drain;
 use crate::label::{Form, LABEL_BYTES, Label};
 use anyhow::{Context, Result};
 use fustrevol::{Burst, Edges, Heap, Message};
@@ -24,6 +23,8 @@ pub struct Parsing {
 struct Parser<'r> {
     matcher: Option<Matcher<'r>>,
     level: Option<Severity>,
+    // Had no memory to compile the pattern: nothing is kept, and all goes on, so that the writer waits for nothing.
+    is_broken: bool,
     keeps: bool,
     object: Vec<u8>,
     kept: Counts,
@@ -37,23 +38,18 @@ impl Parsing {
 
     /// Parses what comes until the reader has ended.
     pub fn run<H: Heap, R: Wait>(self, rt: &R, heap: &mut H, to: &Edges<H>) -> Result<Counts> {
-        let pattern = match compiled(self.alloc, &self.pattern) {
-            Ok(pattern) => pattern,
-            Err(error) => {
-                drain(rt, heap, to);
-                return Err(error);
-            }
+        let (pattern, fault) = match compiled(self.alloc, &self.pattern) {
+            Ok(pattern) => (pattern, None),
+            Err(error) => (None, Some(error)),
         };
-        let matcher = match matcher_of(self.alloc, &pattern) {
-            Ok(matcher) => matcher,
-            Err(error) => {
-                drain(rt, heap, to);
-                return Err(error).context("a parser");
-            }
+        let (matcher, fault) = match matcher_of(self.alloc, &pattern) {
+            Ok(matcher) => (matcher, fault),
+            Err(error) => (None, Some(error.into())),
         };
         let mut parser = Parser {
             matcher,
             level: self.level,
+            is_broken: fault.is_some(),
             keeps: false,
             object: Vec::new(self.alloc),
             kept: Counts::NONE,
@@ -70,7 +66,10 @@ impl Parsing {
                 message.free(rt, heap);
             }
         }
-        Ok(parser.kept)
+        match fault {
+            None => Ok(parser.kept),
+            Some(fault) => Err(fault),
+        }
     }
 }
 
@@ -138,6 +137,9 @@ impl Parser<'_> {
 
     // Whether the line of this first piece is kept.
     fn is_wanted(&mut self, piece: &[u8]) -> bool {
+        if self.is_broken {
+            return false;
+        }
         if let Some(level) = self.level {
             match Priority::read(piece) {
                 Some((priority, _)) if priority.severity() <= level => {}
