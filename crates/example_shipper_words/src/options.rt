@@ -85,7 +85,7 @@ fn with_settings<'a>(alloc: Global, command: Command<'a>) -> Result<Command<'a>,
         .help("Threads that parse");
     let chunks = valued(alloc, CHUNKS, 'c', "COUNT")
         .value_parser(value_parser!(u32).range(64..=1_024))
-        .default_value("256")
+        .default_value("96")
         .help("Chunks of 4,096 bytes that hold lines on their way");
     let progress = Arg::new(alloc, PROGRESS)
         .long(PROGRESS)
