@@ -1,12 +1,11 @@
 """The log shipper's part of the examples: its log, and the words of it and of its twin in C++ (bench/cpp/shipper.cpp).
 
-By itself, `python3 -m harness.shipper PROGRAM LOG` in bench/ writes the log, runs both, and prints a table."""
+By itself, `python3 -m harness.shipper PROGRAM LOG [ROUNDS]` in bench/ writes the log, runs both, and
+prints a table: the least of each number."""
 import hashlib
-import os
 import random
 import subprocess
 import sys
-import time
 from pathlib import Path
 
 TWIN = "shipper.cpp"
@@ -55,14 +54,14 @@ def counted(text):
 
 
 def once(program, words, preload):
-    """Seconds, processor seconds and the peak in kilobytes of a run whose output goes nowhere."""
-    began = time.monotonic()
-    with open(os.devnull, "w") as nowhere:
-        child = subprocess.Popen([program, *words], stdout=nowhere, env={**os.environ, "LD_PRELOAD": preload})
-        _pid, status, usage = os.wait4(child.pid, 0)
-    if status:
-        sys.exit(f"bench: {program} ended with status {status}")
-    return time.monotonic() - began, usage.ru_utime + usage.ru_stime, usage.ru_maxrss
+    """Seconds, processor seconds and the peak in kilobytes of a run whose output goes nowhere.
+
+    `time` (Debian's package of that name) starts the program: a process that Python starts has at least the peak of
+    Python itself."""
+    form = ["time", "-f", "%e %U %S %M", "env", f"LD_PRELOAD={preload}"]
+    run = subprocess.run([*form, program, *words], stdout=subprocess.DEVNULL, stderr=subprocess.PIPE, text=True, check=True)
+    seconds, user, system, kilobytes = map(float, run.stderr.split()[-4:])
+    return seconds, user + system, kilobytes
 
 
 def main():
@@ -75,13 +74,13 @@ def main():
     source = programs.HERE / "cpp" / TWIN
     twin = programs.compiled("shipper", [source], ["g++", *flags, source])
     make(log)
-    texts = [counted(subprocess.run([it, *words(log, 2)], stdout=subprocess.PIPE, check=True).stdout) for it, words in [(program, ours), (twin, theirs)]]
-    if texts[0] != texts[1]:
+    texts = [subprocess.run([it, *words(log, 2)], stdout=subprocess.PIPE, check=True).stdout for it, words in [(program, ours), (twin, theirs)]]
+    if counted(texts[0]) != counted(texts[1]):
         sys.exit("bench: the two programs wrote different bytes")
     peers = [(peer.name, twin, theirs, peer.path()) for peer in PEERS if peer.path() is not None]
     columns = [*peers, ("this pool", program, ours, "")]
     best = {}
-    for _round in range(5):
+    for _round in range(int(sys.argv[3]) if len(sys.argv) > 3 else 5):
         for parsers in SETTINGS:
             for name, it, words, preload in columns:
                 got = once(it, words(log, parsers), preload)
