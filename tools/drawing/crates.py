@@ -1,8 +1,8 @@
-"""Which crate stands on which, as crates.txt says. Callers, tests and the kit's libraries are left out."""
+"""Which crate stands on which, as crates.txt says. Callers, tests, command lines and the kit's libraries are left out."""
 from . import layers
 from .page import Box, page, path, rectangle, text
 
-WIDTH, EDGE = 880, 14
+WIDTH, EDGE = 980, 14
 TALL, STEP = 46, 82
 WIDE, THIN = 164, 20
 
@@ -26,14 +26,14 @@ WORDS = {
     "trace_audit": "traces and reports",
     "pool_fabric": "what threads share",
     "pool_jobs": "tasks in threads",
-    "poolctl_words": "the command line",
     "poolctl": "command-line tool",
     "fustrevol": "what programs name",
     "pipeline": "program, with parcels",
     "first_pool": "the README's program",
+    "syslog_lines": "lines of logs",
+    "example_shipper": "ships logs",
     "packet_headers": "headers of packets",
     "example_decoder": "counts packets",
-    "example_decoder_words": "its command line",
 }
 
 
@@ -49,8 +49,8 @@ def read(listed):
 
 
 def shown(graph):
-    """The graph of the crates that are no callers or tests, and aren't there for these alone."""
-    aside = {name for name in graph if name.endswith(("_uses", "_tests"))}
+    """The graph of the crates that are no callers, tests or command lines, and aren't there for these alone."""
+    aside = {name for name in graph if name.endswith(("_uses", "_tests", "_words"))}
     for_tests = {below for name in aside for below in graph[name]}
     for_others = {below for name in graph if name not in aside for below in graph[name]}
     kept = [name for name in graph if name not in aside | (for_tests - for_others)]
