@@ -9,7 +9,7 @@ from dataclasses import dataclass
 from pathlib import Path
 from typing import Callable
 
-from . import programs, traffic
+from . import programs, shipper, traffic
 from .packages import PEERS
 from .text import aligned
 
@@ -57,6 +57,16 @@ EXAMPLES = [
         theirs=lambda file, decoders: [file, str(decoders)],
         counted=decoded,
     ),
+    Example(
+        name="example_shipper",
+        twin="shipper.cpp",
+        make=shipper.make,
+        settings=(1, 2, 4),
+        set="parsers",
+        ours=lambda file, parsers: [file, "--parsers", str(parsers)],
+        theirs=lambda file, parsers: [file, str(parsers)],
+        counted=shipper.counted,
+    ),
 ]
 
 
@@ -79,14 +89,26 @@ def usage():
     return programs.compiled("usage", [source], ["g++", "-std=c++17", "-O2", "-Wall", "-Wextra", source])
 
 
+def command(program, words, preload):
+    return of_path(["env", f"LD_PRELOAD={preload}", program, *words] if preload else [program, *words])
+
+
 def once(program, words, preload):
-    """A run, and what the program printed."""
+    """What a run took whose output goes nowhere."""
     told = programs.OUT / "usage.txt"
-    command = ["env", f"LD_PRELOAD={preload}", program, *words] if preload else [program, *words]
-    ran = subprocess.run([usage(), told, *of_path(command)], stdout=subprocess.PIPE, timeout=SECONDS)
+    ran = subprocess.run([usage(), told, *command(program, words, preload)], stdout=subprocess.DEVNULL, timeout=SECONDS)
     if ran.returncode:
         sys.exit(f"bench: {program} ended with status {ran.returncode}")
-    return Run(*map(float, told.read_text().split())), ran.stdout
+    return Run(*map(float, told.read_text().split()))
+
+
+def agree(example, file, setting, program, peer_program):
+    """Ends all where the program and its twin print different things."""
+    both = [(program, example.ours), (peer_program, example.theirs)]
+    told = [subprocess.run(command(it, words(file, setting), ""), stdout=subprocess.PIPE, check=True, timeout=SECONDS).stdout
+            for it, words in both]
+    if example.counted(told[0]) != example.counted(told[1]):
+        sys.exit(f"bench: {example.name} prints something else than its twin")
 
 
 def of_path(command):
@@ -104,17 +126,15 @@ def table(example, given):
     program, peer_program = programs.rattle_program(example.name, ["--help"]), twin(example)
     file = programs.WORK / f"{example.name}.input"
     example.make(file)
-    size, runs, wanted = file.stat().st_size, {}, {}
+    size, runs = file.stat().st_size, {}
     columns = [(peer.name, peer_program, example.theirs, peer.path()) for peer in PEERS if peer.path() is not None]
     columns.append(("this pool", program, example.ours, ""))
+    for setting in example.settings:
+        agree(example, file, setting, program, peer_program)
     for _round in range(given.rounds):
         for setting in example.settings:
             for name, path, words, preload in columns:
-                run, text = once(path, words(file, setting), preload)
-                counted = example.counted(text)
-                if wanted.setdefault(setting, counted) != counted:
-                    sys.exit(f"bench: {example.name} over {name} counted otherwise than the others")
-                runs.setdefault((setting, name), Run()).note(run)
+                runs.setdefault((setting, name), Run()).note(once(path, words(file, setting), preload))
     rows = [[f"{example.name}, {size / 1e6:.0f} MB", *(name for name, *_ in columns), "to the best"]]
     for setting in example.settings:
         of = lambda name: runs[setting, name]
