@@ -1,10 +1,12 @@
 //! For a program that starts its threads itself, and holds its allocators: what it names beside
 //! [`Allocator`](crate::Allocator), [`Buffer`](crate::Buffer) and [`Parcel`](crate::Parcel).
 //!
-//! It opens a [`Fabric`] over an [`Opening`], as many allocators as it has desks; each thread takes one up
-//! ([`Entrance::enter`]) and gives it up ([`Allocator::retire`](crate::Allocator::retire)); [`settle`]
-//! accounts for all that there is then. The threads start in a free function that names the inbox, since in
-//! one that is generic over it the check can't tell that an allocator may cross to a thread.
+//! The program opens a [`Fabric`] from an [`Opening`], with one allocator for each desk. Each thread
+//! takes one ([`Entrance::enter`]) and gives it up ([`Allocator::retire`](crate::Allocator::retire)).
+//! Then [`settle`] accounts for every slot.
+//!
+//! The threads start in a free function that names the inbox, since in one that is generic over it the
+//! check can't tell that an allocator may cross to a thread.
 
 pub use batch_inbox::Inbox;
 pub use link_inbox::{LinkInbox, SendSeat, TakeSeat};
