@@ -26,8 +26,8 @@ const LOOK_EVERY: u64 = 64;
 
 /// The allocator of one worker: a station of the fabric that all workers share.
 ///
-/// Only [`Allocator::alloc`] of a slot that was never handed out takes memory, [`Allocator::parcel`]
-/// where no array is kept for it, and posts may. A contract sees its station.
+/// Only these take memory: [`Allocator::alloc`] at a slot's first use, [`Allocator::parcel`] where no
+/// kept array is large enough, and perhaps posts. A contract sees its station.
 #[must_use]
 #[derive(Drop)]
 pub struct Allocator<'a, 'r, M: Mailbox, T: Receiver, S: Sender, G: Gate, J: Naming> {
@@ -198,13 +198,15 @@ impl<
         }
     }
 
-    /// Gives a buffer of at least `size` bytes. Nothing of it is cleared.
+    /// Lends a buffer of at least `size` bytes. Nothing of it is cleared.
     ///
-    /// It gives a slot that is at home. Where no slot of the class is, it takes at most 64 batches from
-    /// its inbox, and claims a chunk of the stock where none came with them. Once 64 calls have gone by it
-    /// takes first, so that no sender waits for it to run out of a class. It is [`PoolError::UsedUp`] only
-    /// where the stock was empty then; [`PoolError::NoMemory`] only where the system refused the memory for
-    /// a new buffer.
+    /// It lends a slot at home. Where its class has none there, it takes at most 64 batches from its
+    /// inbox, and draws a chunk of the stock where they bring none. Once 64 calls have gone by it looks
+    /// into the inbox first, so that no sender waits until this allocator runs out of a class.
+    ///
+    /// [`PoolError::TooLarge`]: no class is large enough. [`PoolError::UsedUp`]: no slot of the class
+    /// was at home, none came, and the stock was empty. [`PoolError::NoMemory`]: the system refused the
+    /// memory for a slot's first use.
     #[inline(always)]
     pub fn alloc<R: Wait>(&mut self, rt: &R, size: usize) -> Result<Buffer<'r, J>, PoolError>
         ensures { Serves J.names self.old size result self.new }
@@ -251,8 +253,9 @@ impl<
         unreachable!()
     }
 
-    /// Gives a buffer as [`Allocator::alloc_waiting`] does, but waits no longer than `limit`, or a
-    /// millisecond more: it is [`PoolError::UsedUp`] then. Where the clock can't be read it doesn't wait.
+    /// Gives a buffer as [`Allocator::alloc_waiting`] does, but waits at most `limit`, plus up to a
+    /// millisecond. Then it answers [`PoolError::UsedUp`]. Where the clock can't be read it doesn't
+    /// wait.
     pub fn alloc_within<R: Wait + Clock>(
         &mut self,
         rt: &R,
@@ -276,9 +279,9 @@ impl<
     /// Posts all that is cached, whether that is due or not, and says whether all went. What an inbox
     /// refuses stays cached, and nothing else does.
     ///
-    /// Up to the limit's bytes of others' buffers are cached here otherwise, for as long as nothing is
-    /// freed here. So a thread that is about to wait, or to work without the pool for long, calls it
-    /// first: others may need those slots.
+    /// Otherwise others' buffers stay here, up to the cache's limit in bytes, for as long as nothing is
+    /// freed here. Call it before the thread waits, or works without the pool for long: others may need
+    /// those slots.
     #[cold]
     #[inline(never)]
     pub fn flush<R: Wait>(&mut self, rt: &R) -> bool
@@ -312,8 +315,7 @@ impl<
     ///
     /// Where an inbox refuses a batch, its buffers stay cached, and the worker goes on. It tries again
     /// when the cache is due and has grown by a quarter, or once [`Allocator::alloc`] found no slot at
-    /// home and none in its own inbox: so the posts that are refused cost a constant time a buffer,
-    /// over many.
+    /// home and none in its own inbox. So refused posts cost constant time per buffer on average.
     #[inline(always)]
     pub fn free<R: Wait>(&mut self, rt: &R, buffer: Buffer<'r, J>)
         ensures desk { SameDesk J.names self.old self.new }
@@ -329,9 +331,10 @@ impl<
         }
     }
 
-    /// An empty parcel for buffers of this allocator, with room for at least so many. Memory is taken
-    /// only where no array is kept for it: those of parcels that came home are, up to 16 of at most
-    /// 256 buffers each.
+    /// An empty parcel for buffers of this allocator, with room for at least `places` of them.
+    ///
+    /// Up to 16 arrays in which buffers came home are kept and reused, each for at most 256 buffers.
+    /// Memory is taken only where none of these is large enough.
     pub fn parcel(&mut self, places: usize) -> Result<Parcel<'r, J>, NoMemory>
         ensures same { self.new ≡ self.old }
         ensures value { IfOk result (λ p.
@@ -341,8 +344,10 @@ impl<
     }
 
     /// Takes back all buffers of a parcel, and posts all that is cached where that is due, as
-    /// [`Allocator::free`] does. Another allocator's parcel goes home as it is: none of its buffers is
-    /// looked at, where the cache has room for its array, as it has but for the first ones.
+    /// [`Allocator::free`] does.
+    ///
+    /// Another allocator's parcel is cached whole, and none of its buffers is looked at, where the
+    /// cache has a place for its array. Places are made after a post, so the first parcels find none.
     pub fn free_all<R: Wait>(&mut self, rt: &R, parcel: Parcel<'r, J>)
         ensures desk { SameDesk J.names self.old self.new }
         ensures lent { self.new.lent ≡ self.old.lent }
@@ -357,8 +362,11 @@ impl<
         }
     }
 
-    /// Posts all that is cached and puts the station on the shelf. It comes back where a post was
-    /// refused, so that something is still cached, or where the shelf is full.
+    /// Posts all that is cached and puts the station on the shelf: `None`.
+    ///
+    /// The station comes back where a post was refused, so that something is still cached, or where the
+    /// shelf is full. Give it to [`settle`](crate::settle), or go on with
+    /// [`Entrance::resume`](crate::Entrance::resume).
     pub fn retire<R: Wait>(self, rt: &R) -> Option<HeldStation<'r, T, S, J>>
         ensures { IfSome result (λ s. Keeps J.names self.entry s) }
     {

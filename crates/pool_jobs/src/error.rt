@@ -1,4 +1,4 @@
-//! Why there is no buffer, and why there is no tally.
+//! Why there is no buffer, and why there is no report.
 ghost use Rattle.std.specs.Prelude.{◌≡◌};
 ghost use Rattle.pool_jobs.specs.Refusals.{shortage_number, job_number, job_error_of};
 
@@ -42,10 +42,10 @@ impl From<NoMemory> for PoolError {
     }
 }
 
-/// Why workers gave no tally. What they had is then given up.
+/// Why a run or a workload gives no report. All that it had is dropped.
 #[derive(Clone, Copy, Debug, PartialEq, Eq, Drop, Error)]
 pub enum JobError {
-    /// Memory was refused, outside the pool.
+    /// The system refused memory for the run's own desks, queues, edges or lists.
     #[error("no memory")]
     NoMemory,
     /// A thread couldn't be started, or a station didn't come back from one.

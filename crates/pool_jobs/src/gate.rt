@@ -1,9 +1,10 @@
 //! Who is told of each call.
 
-/// Told around each `alloc`, `free` and `free_all` of a worker, with what an `alloc` takes from its inbox
-/// and claims. The calls of a worker are numbered from 1.
+/// Called before and after each `alloc`, `free` and `free_all` of a worker. What an `alloc` takes from
+/// its inbox or draws lies between the two calls; what a free posts comes after them. A worker's calls
+/// at one allocator are numbered from 1.
 ///
-/// A gate may hold a worker back. The worker holds no lock while it is told.
+/// A gate may hold a worker back. The worker holds no lock while the gate is called.
 pub trait Gate {
     /// The call comes next.
     fn before(&self, worker: u32, call: u64);

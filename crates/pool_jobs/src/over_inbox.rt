@@ -70,10 +70,9 @@ where
 /// Runs a workload with a worker for each desk of the opening, in threads, and accounts for all that
 /// there is when they have ended.
 ///
-/// Whatever the schedule was, nothing is lost and nothing is there twice: the slots found, with
-/// those that were lent, are all slots of the drawn chunks, with those that were freed; and the
-/// chunks that were drawn, with those that are left, are the chunks of the opening. The audit of the
-/// tally is that of the slots found.
+/// Whatever the schedule was, nothing is lost and nothing is there twice. Counted slot by slot,
+/// found + lent = slots of the drawn chunks + freed. Counted chunk by chunk,
+/// drawn + left = the chunks of the opening. The audit of the tally is that of the slots found.
 ///
 /// The sizes of worker `i` in round `r` are drawn from an `N` made of the seed `seed + 64 * r + i`.
 pub fn work<'r, G, N, R>(
@@ -144,11 +143,12 @@ where
 /// The tasks get the desks of the opening in order; one for which no desk is left is not begun, and
 /// has no answer. All threads that were started have ended when the call returns.
 ///
-/// Whatever the tasks do with their buffers, and whatever the schedule was, nothing is lost and
-/// nothing is there twice: the slots found, with those that were lent, are all slots of the drawn
-/// chunks, with those that were freed; and the chunks that were drawn, with those that are left, are
-/// the chunks of the opening. The audit of the tally is that of the slots found, so it names a slot
-/// whose buffer was dropped, and `lost` counts those buffers.
+/// Whatever the tasks do with their buffers, and whatever the schedule was, nothing is lost and nothing
+/// is there twice. Counted slot by slot, found + lent = slots of the drawn chunks + freed. Counted
+/// chunk by chunk, drawn + left = the chunks of the opening.
+///
+/// The audit of the tally is that of the slots found. Where buffers were dropped, it names only the
+/// least of their slots, or answers that it had no memory; `lost` counts those buffers.
 pub fn run<'r, G, K, R>(
     rt: &R,
     alloc: Global,

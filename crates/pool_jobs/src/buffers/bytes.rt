@@ -9,8 +9,9 @@ use slot_chain::Full;
 use std::io::{self, Read, Write};
 
 /// A buffer, which its user fills from the front. It is a writer as well: `write!(buffer, ..)` appends.
+/// Where there is too little room the `write!` fails, and what fitted is filled.
 ///
-/// How much is filled stays with the buffer wherever it goes. Where it is allocated, nothing is.
+/// How much is filled stays with the buffer wherever it goes. A new buffer has nothing filled.
 pub trait Bytes: Drop + Write {
     ghost use Rattle.std.specs.Prelude.{ℕ, List};
 

@@ -33,7 +33,7 @@ impl<B: Bytes, P: Burst<B>> Message<B, P> {
 /// Why a message was not handed over. It comes back.
 #[derive(Drop)]
 pub enum Unsent<M> {
-    /// As many messages wait at the end of the edge as there are places.
+    /// The queue of the receiving task is full.
     Full(M),
     /// There is no such edge, or the task at its end has ended.
     Closed(M),
@@ -65,7 +65,7 @@ impl<M> fmt::Debug for Unsent<M> {
 const LOOKS: u32 = 11;
 
 /// A task's ends of the edges: the one at which it receives messages, and one to each task to which it
-/// sends some.
+/// sends some. The number of a task is its place in the list given to [`run`](crate::run), from 0.
 ///
 /// All edges to a task end in one queue, which has as many places as their bounds together
 /// ([`Task::bound`]). It is a bounded channel of `crossbeam_channel`: a send or a receive takes a lock for
@@ -172,12 +172,13 @@ impl<B: Bytes, P: Burst<B>> Channels<B, P> {
         self.from.try_recv(rt).ok()
     }
 
-    /// Gives the next message, and waits until there is one. Before it waits, it posts what is cached at
-    /// this task's allocator ([`Heap::flush`]). There is none once each task that sends to this one has
-    /// ended or stopped to send, and all that they handed over was received. The messages of one sender
-    /// come in its order; of several senders, whichever has something comes next.
+    /// Gives the next message, and waits until there is one. Before it waits, it posts what is cached
+    /// at this task's allocator ([`Heap::flush`]). The messages of one sender come in its order; of
+    /// several senders, whichever has something comes next.
     ///
-    /// A task that sends to itself waits for ever, unless it stopped to send before.
+    /// It answers `None` once each task that sends to this one has ended or called
+    /// [`Channels::stop_sending`], and all that they handed over was received. A task that sends to
+    /// itself must call [`Channels::stop_sending`] first; else it waits for ever.
     pub fn receive<H: Heap<Buffer = B, Parcel = P>, R: Wait>(
         &self,
         rt: &R,

@@ -20,8 +20,11 @@ pub trait Heap: Drop {
     /// The greatest size that it gives.
     ghost largest: { Self → ℕ };
 
-    /// A buffer of at least `size` bytes, of which nothing is filled. It is [`PoolError::TooLarge`] where
-    /// no class has as many, and only there.
+    /// A buffer of at least `size` bytes, of which nothing is filled.
+    ///
+    /// It answers [`PoolError::TooLarge`] exactly where no class has as many. [`PoolError::UsedUp`]: no
+    /// slot of the class is at home, none came, and every chunk is drawn. [`PoolError::NoMemory`]: the
+    /// system refused the memory for a slot's first use.
     fn alloc<R: Wait>(&mut self, rt: &R, size: usize) -> Result<Self::Buffer, PoolError>
         ensures large_enough { IfOk result (λ b. size ≤ Self.Buffer.size b) }
         ensures empty { IfOk result (λ b. Self.Buffer.filled b ≡ 0) }
@@ -44,8 +47,8 @@ pub trait Heap: Drop {
         ensures waits { result ≢ Err UsedUp }
         ensures largest { largest self.new ≡ largest self.old };
 
-    /// The same, but it waits no longer than `limit`, or a millisecond more: it is [`PoolError::UsedUp`]
-    /// then. Where the clock can't be read it doesn't wait.
+    /// The same, but it waits at most `limit`, plus up to a millisecond. Then it answers
+    /// [`PoolError::UsedUp`]. Where the clock can't be read it doesn't wait.
     fn alloc_within<R: Wait + Clock>(
         &mut self,
         rt: &R,

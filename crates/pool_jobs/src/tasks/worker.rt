@@ -26,7 +26,7 @@ pub trait TaskWorker: Drop + Sized {
 
     type Outcome: Drop;
 
-    /// Does the task, and gives up the allocator.
+    /// Does the task, and then retires the allocator.
     fn serve<K: Task, R: Wait + Clock>(
         self,
         rt: &R,
@@ -120,7 +120,7 @@ where
     Some(CountingHeap::new(allocator))
 }
 
-/// A worker for each task: each takes a station off the shelf, as many as are wanted, or as there are.
+/// Makes `wanted` workers, each with a station off the shelf; fewer where the shelf has fewer.
 pub fn task_workers<'a, 'r, M, T, S, G, J, R>(
     rt: &R,
     alloc: Global,

@@ -217,8 +217,8 @@ impl<
         Ok(builders)
     }
 
-    /// What the round of this number begins with, from 0. The sizes of worker `i` are drawn from an
-    /// `N` made of the seed `seed + 64 * number + i`.
+    /// Prepares round `number`, counted from 0. The sizes of worker `i` are drawn from an `N` made of
+    /// the seed `seed + 64 * number + i`.
     pub fn begin<N: Rng + SeedableRng + Drop>(
         &mut self,
         number: u32,
@@ -245,7 +245,7 @@ impl<
         })
     }
 
-    /// Takes in what a round gave. Its rows go on to the next, by one worker.
+    /// Takes in a round's results. Each row goes to the next worker, the last one's to the first.
     pub fn take_in<N: Rng + Drop>(
         &mut self,
         results: Vec<RoundResult<WorkerBuilder<'a, 'r, M, T, S, G, J, N>>>,
