@@ -18,7 +18,8 @@ use std::marker::{Model, PhantomData};
 /// A buffer of the pool that `J` names. Its type keeps that its owner is one of the pool, so each
 /// allocator of the pool may free it, and no other; and that it was lent and not freed since.
 ///
-/// It may be dropped: its slot is then lost until the region's borrow ends, and the audit names it.
+/// It may be dropped: its slot is then lost until the region's borrow ends. The audit finds it missing,
+/// and names the least missing slot.
 #[must_use]
 #[derive(Drop)]
 pub struct Buffer<'r, J: Naming> {
@@ -94,7 +95,7 @@ impl<'r, J: Naming> Buffer<'r, J> {
         self.buf.class()
     }
 
-    /// How many bytes are filled, from the front. Nothing is where the buffer was allocated.
+    /// How many bytes are filled, from the front. A new buffer has none filled.
     #[inline]
     pub fn len(&self) -> usize
         ensures value { result ≡ self.now.filled }
@@ -204,8 +205,8 @@ impl<'r, J: Naming> Buffer<'r, J> {
     }
 }
 
-/// What is written is appended, as far as there is room. A `write!` that finds too little room is an
-/// error; what had room before that is filled then.
+/// What is written is appended, as far as there is room. Where a `write!` finds too little room it
+/// fails, and what fitted is filled.
 impl<J: Naming> Write for Buffer<'_, J> {
     ghost use Rattle.std.specs.Prelude.{Some};
 

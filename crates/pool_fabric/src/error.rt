@@ -8,7 +8,7 @@ use thiserror::Error;
 /// Why not all was gathered.
 #[derive(Debug, Drop, Error)]
 pub enum GatherError<'r> {
-    /// Memory was refused. What was handed in is then given up.
+    /// Memory was refused. What was handed in is dropped.
     #[error("no memory")]
     NoMemory,
     /// The station of a desk didn't come back. This is what the others have.

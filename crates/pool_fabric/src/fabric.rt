@@ -36,8 +36,8 @@ pub struct Fabric<'r, M: Mailbox, T: Receiver, S: Sender, J: Naming> {
 }
 
 impl<'r, M: Mailbox, T: Receiver, S: Sender, J: Naming> Fabric<'r, M, T, S, J> {
-    /// The inbox of the desk of this number, where there is such a desk. A program with an inbox of
-    /// its own asks it there what it keeps beside its queue.
+    /// The inbox of the desk of this number; `None` where there is no such desk. It is for a program
+    /// with an inbox type of its own, to read what the inbox keeps beside its queue.
     pub fn inbox(&self, number: u16) -> Option<&M>
         ensures { MatchOption result
             (J.names.count ≤ number)
@@ -60,7 +60,7 @@ impl<'r, T: Receiver, S: Sender, M: Mail<'r, TakeSeat = T, SendSeat = S>, J: Nam
     S,
     J,
 > {
-    /// Gets a station off the shelf, or says that none is there. Its cache has the fabric's limit.
+    /// Gets a station off the shelf; `None` where the shelf is empty. Its cache has the fabric's limit.
     pub fn station<R: Wait>(&self, rt: &R) -> Option<Station<'r, T, S, J>>
         ensures { IfSome result (λ s. s.desk.limit ≡ J.names.limit) }
     {
@@ -250,9 +250,9 @@ impl<'r, T: Receiver, S: Sender, M: Mail<'r, TakeSeat = T, SendSeat = S>, J: Nam
         all
     }
 
-    /// Posts all of a desk's cache, round by round. A batch that its inbox refuses, or whose address has
-    /// none, holds back no other: its buffers are in the cache of the desk that comes back, and nothing
-    /// else is. At `Ok` no batch was refused.
+    /// Posts all of a desk's cache, round by round. A batch is refused by the inbox at its address, or
+    /// where there is none. It holds back no other; its buffers are in the desk's cache again, and
+    /// nothing else is. `Ok`: no batch was refused.
     pub fn post_all<R: Wait>(
         &self,
         rt: &R,

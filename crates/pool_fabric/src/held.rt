@@ -63,7 +63,7 @@ impl<'r, T: Receiver, S: Sender, J: Naming> Model for HeldStation<'r, T, S, J> {
 }
 
 impl<'r, T: Receiver, S: Sender, J: Naming> HeldStation<'r, T, S, J> {
-    /// The desk's number, which is one of the fabric's profile.
+    /// The desk's number: one that the fabric's digits can read.
     pub fn number(&self) -> u16
         ensures value { result ≡ self.now.desk.number }
         ensures in_range { self.now.desk.number < 2 ^ J.names.digits.bits }
@@ -156,7 +156,8 @@ impl<'r, T: Receiver, S: Sender, J: Naming> HeldStation<'r, T, S, J> {
         self.desk.make_room(alloc);
     }
 
-    /// The station without its worker, where the desk's cache is empty. Where it isn't, all stays.
+    /// Takes the station from its worker. `Ok`: a [`Station`], where the desk's cache is empty. `Err`:
+    /// the same station, where it isn't.
     pub fn retire(self) -> Result<Station<'r, T, S, J>, HeldStation<'r, T, S, J>>
         ensures { let s = self.entry in MatchResult result
             (λ t. (s.desk.cached ≡ []) × (t ≡ record s { desk = record s.desk { worker = 0 } }))

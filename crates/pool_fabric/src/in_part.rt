@@ -12,8 +12,8 @@ use slot_chain::Buf;
 use std::alloc::AllocError;
 use std::fmt;
 
-/// What there is of a pool where the station of a desk didn't come back: all that the other desks
-/// hold. What was under way in an inbox is given up, since an inbox ends only with all its seats.
+/// What there is of a pool where the station of a desk didn't come back: all that the other desks hold.
+/// What was under way in an inbox is dropped, since an inbox ends only with all its seats.
 #[derive(Drop)]
 pub struct FoundInPart<'r> {
     /// The least number of a desk whose station didn't come back.

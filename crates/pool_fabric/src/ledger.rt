@@ -1,9 +1,9 @@
 //! Who has which chunk, and who was lent which slot, over all threads.
 //!
 //! The stock gives chunks out and desks get them, in any order and in any thread. A [`Ledger`] keeps
-//! that what was given is what was got, each chunk for its class. Desks lend slots and take them back, and
-//! a page keeps its station's part of a ledger of loans beside that. It is a token's matter alone: pages
-//! take no memory, and what is written on them only contracts see.
+//! that what was given is what was got, each chunk for its class. Desks lend slots and take them back,
+//! and a page keeps its station's part of a ledger of loans beside that. Pages take no memory; only
+//! contracts see what is written on them.
 ghost use Rattle.std.specs.Prelude.{◌≡◌, ℕ, ◌+◌, ◌-◌, ◌<◌, ◌≤◌, [], ◌∷◌, ◌++◌, IfOk};
 ghost use Rattle.region_cut.specs.declared.slot.Slot.{Slot};
 ghost use Rattle.pool_fabric.specs.Ledgers.{whole};
@@ -80,7 +80,7 @@ impl Split<Hand> for Spare {
     ghost right = { λ v. hand 0 [] [] };
 }
 
-/// A drawn chunk that a contract can name. The call that deals one picks it.
+/// Names a drawn chunk for contracts; [`Ledger::deal`] picks it.
 pub trait Dealing {
     ghost use Rattle.pool_fabric.specs.declared.ledger.DrawnChunk.{DrawnChunk};
 
@@ -129,7 +129,7 @@ pub(crate) type Line = RuledSegQueue<u16, Hand, Fair>;
 
 pub(crate) type Pass = SegPass<u16, Hand>;
 
-/// What all pages are of. Threads share it by `&`. A contract sees which one it is.
+/// What all pages belong to. Threads share it by `&`. A contract sees which one it is.
 pub struct Ledger {
     queue: Line,
 }
@@ -150,7 +150,8 @@ impl Drop for Ledger {
     }
 }
 
-/// What one holder gave and got, lent and took back, and its parts of the right to know the whole.
+/// What one holder gave and got, lent and took back, and its share: so many of 65,536 parts. Who has
+/// all parts learns that all that was given was got ([`Ledger::close`]).
 #[derive(Drop)]
 pub struct Page {
     pass: Pass,
@@ -268,7 +269,8 @@ impl Ledger {
 }
 
 impl Page {
-    /// The slot is lent. Who has the receipt can show it, and nobody else can give the slot back.
+    /// Notes the loan of a slot. The receipt shows it, and only the receipt's holder can give the slot
+    /// back.
     #[inline(always)]
     pub fn lend(&mut self, slot: Slot) -> Receipt
         requires { 0 < self.old.parts }

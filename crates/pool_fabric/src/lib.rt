@@ -1,4 +1,4 @@
-//! What the desks of a pool share, and what is kept between them.
+//! What the desks of a pool share: inboxes, a shelf of stations, and a stock of chunks.
 //!
 //! A [`Station`] is a desk with its seats at the inboxes. Stations that no worker holds stand on a
 //! [`Shelf`], and the chunks that no desk drew in a [`Stock`]; both lie beside the inboxes in a

@@ -1,9 +1,9 @@
-//! What carries a name.
+//! A marker for a name.
 ghost use Rattle.std.specs.Borrow.{ftrue};
 
 use std::marker::{Model, PhantomData};
 
-/// What carries the name `J`. It owns nothing, so it goes to any thread, whatever `J` is.
+/// A marker for the name `J`. It owns nothing, so it may go to any thread, whatever `J` is.
 #[derive(Drop)]
 pub struct Named<J> {
     of: PhantomData<J>,

@@ -1,9 +1,12 @@
 //! One name for what the stations of a fabric share.
 use std::marker::Brand;
 
-/// Which inboxes, which ledger and which chunks a fabric has, as its stations know them. The call
-/// that opens a fabric picks it; a type parameter carries it, so that what crosses a thread, a lock
-/// or a shelf is known to be of the same fabric.
+/// Names a fabric for contracts: its inboxes, ledgers and chunks, its digits and its limit, as its
+/// stations know them. A type parameter carries the name, so that what crosses a thread, a lock or a
+/// shelf is known to be of the same fabric.
+///
+/// A function that is generic over it opens the fabric. That function's caller passes [`Brand`], and
+/// picks the names.
 pub trait Naming {
     ghost use Rattle.pool_fabric.specs.Names.{Names};
 

@@ -17,9 +17,9 @@ use std::marker::Model;
 
 /// All that a fabric is made of: the inboxes with their seats, a full stock, and a new ledger.
 ///
-/// A contract sees the names that the stations of this fabric will agree on. So the call that opens
-/// the fabric is one that is generic over [`Naming`](crate::Naming), and who calls it picks these
-/// names.
+/// A contract sees the names that the stations of this fabric will agree on. A function that is generic
+/// over [`Naming`](crate::Naming) opens the fabric. That function's caller passes `Brand`, and picks
+/// these names.
 #[derive(Drop)]
 pub struct Opening<'r, M: Mailbox, T: Receiver, S: Sender> {
     pub(crate) boxes: Boxes<M, T, S>,
@@ -59,8 +59,8 @@ impl<'r, M: Mailbox, T: Receiver, S: Sender> Opening<'r, M, T, S> {
 impl<'r, T: Receiver, S: Sender, M: NewMail<T, S>> Opening<'r, M, T, S> {
     /// What a fabric of so many desks is made of, over the chunks of a region that was cut.
     ///
-    /// Numbers of desks are read as `digits` says, and `limit` is that of each desk's cache, in
-    /// bytes. After a want of memory all is given up.
+    /// Numbers of desks are read as `digits` says, and `limit` is that of each desk's cache, in bytes.
+    /// Where memory is refused, all is dropped.
     #[inline(never)]
     pub fn new(
         alloc: Global,

@@ -19,8 +19,8 @@ use std::marker::{Model, PhantomData};
 /// none of them, as [`slot_chain::BufParcel`] says.
 ///
 /// Its type keeps that its owner is one of the pool, so each allocator of the pool may free it, and no
-/// other. It may be dropped: its slots are then lost until the region's borrow ends, and the audit names
-/// them.
+/// other. It may be dropped: its slots are then lost until the region's borrow ends. The audit finds
+/// them missing, and names the least missing slot.
 #[must_use]
 #[derive(Drop)]
 pub struct Parcel<'r, J: Naming> {

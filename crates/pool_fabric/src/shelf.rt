@@ -51,7 +51,7 @@ impl<'r, T: Receiver, S: Sender, J: Naming> Shelf<'r, T, S, J> {
         self.row.len()
     }
 
-    /// Puts a station on the shelf, or hands it back: just where it holds [`SHELF_ROOM`].
+    /// Puts a station on the shelf, or hands it back: exactly where the shelf holds [`SHELF_ROOM`].
     pub fn put(&mut self, station: Station<'r, T, S, J>) -> Result<(), Station<'r, T, S, J>>
         ensures { MatchResult result
             (λ _. (length self.old < shelf_room) × (self.new ≡ self.old ++ station.entry ∷ []))
@@ -72,7 +72,7 @@ impl<'r, T: Receiver, S: Sender, J: Naming> Shelf<'r, T, S, J> {
         self.row.push_reserved(station);
     }
 
-    /// Gets the station that was put last, or says that the shelf is empty.
+    /// Gets the station that was put last; `None` where the shelf is empty.
     pub fn get(&mut self) -> Option<Station<'r, T, S, J>>
         ensures { MatchOption result
             ((self.old ≡ []) × (self.new ≡ []))

@@ -142,7 +142,7 @@ impl<'r, M: Mailbox, T: Receiver, S: Sender, J: Naming> Fabric<'r, M, T, S, J> {
     /// The fabric that is made of these, with a new desk for each inbox on the shelf, and a full
     /// stock. `J` is to have the names of the opening, and nothing else is owed.
     ///
-    /// After a want of memory all is given up.
+    /// Where memory is refused, all is dropped.
     #[inline(never)]
     pub fn open(
         alloc: Global,

@@ -20,9 +20,9 @@ use std::marker::Model;
 /// A desk that no worker holds, with its seats: the one from which it takes, and one at each inbox
 /// from which it posts.
 ///
-/// Its type keeps a balance, for the desk's whole life and whatever the program did with its
-/// buffers: what the desk has, what was sent from its seats and what it lent out is all slots of the
-/// chunks that it drew, what it took and what was freed to it.
+/// Its type keeps a balance, for the desk's whole life and whatever the program did with its buffers.
+/// Counted slot by slot, at home + cached + sent + lent = drawn + taken + freed. Drawn are all slots of
+/// the chunks that it drew, sent is what went from its seats, and freed what was freed to it.
 #[must_use]
 #[derive(Drop)]
 pub struct Station<'r, T: Receiver, S: Sender, J: Naming> {

@@ -41,7 +41,7 @@ impl<'r> Stock<'r> {
         Ok(Stock { parts, drawn })
     }
 
-    /// Takes out the part of the least number, and notes that it is drawn for the class. Says where
+    /// Takes out the part of the least number, and notes that it is drawn for the class; `None` where
     /// none is left. Takes constant time and no memory.
     pub fn get(&mut self, class: Class) -> Option<Part<'r>>
         ensures { MatchOption result

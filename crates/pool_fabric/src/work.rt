@@ -45,8 +45,7 @@ impl<'r, T: Receiver, S: Sender, J: Naming> HeldStation<'r, T, S, J> {
         fabric.post_in_place(rt, &mut self.desk, self.seats.as_mut_slice())
     }
 
-    /// Claims a part of the stock for a class that has no slot at home, or says that the stock is
-    /// empty.
+    /// Claims a part of the stock for a class without a slot at home; `false` where the stock is empty.
     pub fn claim<M: Mail<'r, TakeSeat = T, SendSeat = S>, R: Wait>(
         &mut self,
         rt: &R,
