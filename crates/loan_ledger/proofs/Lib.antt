@@ -1,4 +1,5 @@
 pub mod Sums
+pub mod Views
 pub mod Keeps
 pub mod Steps
 pub mod Sent

@@ -1,25 +1,15 @@
 -- Each step keeps the rule of a ledger.
-use Rattle.std.proofs.Common.{◌≡◌, ◌≢◌, ◌⊎◌, ℕ, zero, suc, ◌+◌, ◌-◌, ◌<◌, ◌≤◌, List, [], ◌∷◌, ◌++◌, length, set, refl, sym, ap, ◌∙◌, subst, inl, inr, ⊎_elim, arith}
-use mathlib.Core.Option.{some, some-ne-none, some-injective}
+use Rattle.std.proofs.Common.{◌≡◌, ◌≢◌, ℕ, ◌+◌, ◌-◌, ◌<◌, List, [], ◌∷◌, ◌++◌, set, refl, sym, ap, ◌∙◌, subst, ⊎_elim, arith}
+use mathlib.Core.Option.{some, some-ne-none}
 use lib.ListN.{get_elem?}
 use Rattle.crossbeam_queue.specs.Fifo.{Forks, Merges, Learns}
-use Rattle.crossbeam_queue.proofs.Lists.{at_set}
+use Rattle.crossbeam_queue.proofs.Lists.{at_set, at_snoc}
 use Rattle.pool_fabric.specs.declared.ledger.Hand.{Hand}
 use Rattle.pool_fabric.specs.declared.ledger.DrawnChunk.{DrawnChunk}
 use Rattle.pool_fabric.specs.Weights.{weigh}
 use Rattle.pool_fabric.specs.Ledgers.{hand, whole, parts_of, gave_of, got_of, IdleIsEmpty, IsBalanced, IsTotal, IsWithin}
+use Rattle.loan_ledger.proofs.Views.{weigh_set, weighs_less, weighs_all}
 use Rattle.pool_fabric.proofs.Sums.{weigh-append, weigh-snoc}
-
-weigh_set : (f : Hand → ℕ) (views : List Hand) (page : ℕ) (v w : Hand) → get_elem? views page ≡ some v → weigh f (set views page w) + f v ≡ weigh f views + f w
-weigh_set f [] page v w at = absurd (some-ne-none v (sym at))
-weigh_set f (x ∷ xs) zero v w at = let e = ap f (some-injective x v at) in omega arith
-weigh_set f (x ∷ xs) (suc k) v w at = let i = weigh_set f xs k v w at in omega arith
-
-last_at : (l : List Hand) (a b : Hand) (j : ℕ) → get_elem? (l ++ a ∷ []) j ≡ some b → (get_elem? l j ≡ some b) ⊎ ((j ≡ length l) × (a ≡ b))
-last_at [] a b zero e = inr (refl, some-injective a b e)
-last_at [] a b (suc j) e = absurd (some-ne-none b (sym e))
-last_at (x ∷ xs) a b zero e = inl e
-last_at (x ∷ xs) a b (suc j) e = ⊎_elim (λ h. inl h) (λ h. inr (ap suc h.0, h.1)) (last_at xs a b j e)
 
 idle_set : (views : List Hand) (page : ℕ) (w : Hand) → (w.parts ≡ 0 → (w.gave ≡ []) × (w.got ≡ [])) → IdleIsEmpty views → IdleIsEmpty (set views page w)
 idle_set views page w mine others j u e nil =
@@ -30,8 +20,8 @@ idle_set views page w mine others j u e nil =
 idle_new : (views : List Hand) (w : Hand) → (w.parts ≡ 0 → (w.gave ≡ []) × (w.got ≡ [])) → IdleIsEmpty views → IdleIsEmpty (views ++ w ∷ [])
 idle_new views w mine others j u e nil =
     ⊎_elim (λ (x : get_elem? views j ≡ some u). others j u x nil)
-    (λ (x : (j ≡ length views) × (w ≡ u)). subst (λ (y : Hand). (y.gave ≡ []) × (y.got ≡ [])) x.1 (mine (ap parts_of x.1 ∙ nil)))
-    (last_at views w u j e)
+    (λ (x : w ≡ u). subst (λ (y : Hand). (y.gave ≡ []) × (y.got ≡ [])) x (mine (ap parts_of x ∙ nil)))
+    (at_snoc views w u j e)
 
 pub begins : IsBalanced [] (hand whole [] [] ∷ [])
 begins = (refl, λ g. refl, idle_new [] (hand whole [] []) (λ nil. (refl, refl)) (λ j u e nil. absurd (some-ne-none u (sym e))))
@@ -86,40 +76,13 @@ merges page v other u some_part items views b at apart there =
       idle_set vs other n (λ nil. (refl, refl)) (idle_set views page w (λ nil. absurd (omega arith)) b.2),
     )
 
-part_le : (views : List Hand) (page : ℕ) (v : Hand) → get_elem? views page ≡ some v → v.parts ≤ weigh parts_of views
-part_le [] page v at = absurd (some-ne-none v (sym at))
-part_le (x ∷ xs) zero v at = let e = ap parts_of (some-injective x v at) in omega arith
-part_le (x ∷ xs) (suc k) v at = let i = part_le xs k v at in omega arith
-
-none_else : (f : Hand → ℕ) (views : List Hand) → weigh parts_of views ≡ 0 → ((j : ℕ) (u : Hand) → get_elem? views j ≡ some u → u.parts ≡ 0 → f u ≡ 0) → weigh f views ≡ 0
-none_else f [] empty z = refl
-none_else f (x ∷ xs) empty z =
-    let mine = z 0 x refl (omega arith) in
-    let i = none_else f xs (omega arith) (λ j u e. z (suc j) u e) in
-    omega arith
-
-alone : (f : Hand → ℕ) (views : List Hand) (page : ℕ) (v : Hand) → get_elem? views page ≡ some v → weigh parts_of views ≡ v.parts
-    → ((j : ℕ) (u : Hand) → get_elem? views j ≡ some u → u.parts ≡ 0 → f u ≡ 0) → weigh f views ≡ f v
-alone f [] page v at all z = absurd (some-ne-none v (sym at))
-alone f (x ∷ xs) zero v at all z =
-    let e = some-injective x v at in
-    let p = ap parts_of e in
-    let q = ap f e in
-    let i = none_else f xs (omega arith) (λ j u e. z (suc j) u e) in
-    omega arith
-alone f (x ∷ xs) (suc k) v at all z =
-    let l = part_le xs k v at in
-    let mine = z 0 x refl (omega arith) in
-    let i = alone f xs k v at (omega arith) (λ j u e. z (suc j) u e) in
-    omega arith
-
 pub learns : (page : ℕ) (v : Hand) → v.parts ≡ whole → Learns IsBalanced page v (IsTotal v)
 learns page v all items views b at g =
     let total = b.0 ∙ sym all in
-    let s = alone (gave_of g) views page v at total (λ j u e nil. ap (weigh g) (b.2 j u e nil).0) in
-    let t = alone (got_of g) views page v at total (λ j u e nil. ap (weigh g) (b.2 j u e nil).1) in
+    let s = weighs_all parts_of (gave_of g) views page v at total (λ j u e nil. ap (weigh g) (b.2 j u e nil).0) in
+    let t = weighs_all parts_of (got_of g) views page v at total (λ j u e nil. ap (weigh g) (b.2 j u e nil).1) in
     let p = b.1 g in
     omega arith
 
 pub bounds : (page : ℕ) (v : Hand) → Learns IsBalanced page v (IsWithin v)
-bounds page v items views b at = let p = part_le views page v at in let q = b.0 in omega arith
+bounds page v items views b at = let p = weighs_less parts_of views page v at in let q = b.0 in omega arith

@@ -24,7 +24,7 @@ use Rattle.pool_fabric.specs.Audited.{Audited, listed, held_slots, batch_slots, 
 use Rattle.pool_fabric.specs.Stocks.{AreApart}
 use Rattle.pool_fabric.specs.Whole.{IsWhole, FreesNoMore, AreNoted}
 use Rattle.pool_fabric.specs.Losses.{is_number, AreOnce, FindsAtMostOnce, times_among, TellsLosses, TellsNone}
-use Rattle.pool_fabric.proofs.Sums.{weigh-append, weigh-map, weigh-permutation}
+use Rattle.pool_fabric.proofs.Sums.{weigh-append, weigh-map, weigh-ones, weigh-permutation}
 
 -- 1 of one slot, and else 0
 abbrev pub one : Slot → Slot → ℕ
@@ -271,16 +271,12 @@ module _ (desks : List DeskState) (batches : List BatchState) (lent freed : List
       let r = among s freed in
       omega arith
 
-  each_one : {A : Type 0} (xs : List A) → weigh (λ _. 1) xs ≡ length xs
-  each_one [] = refl
-  each_one (x ∷ xs) = let i = each_one xs in omega arith
-
   -- as many slots are missing as buffers were lent and not freed
   pub losses_counted : length found + length lent ≡ all_drawn (λ _. 1) + length freed
   losses_counted =
       let a = weigh_found (λ _. 1) desks batches in
       let b = whole.slots (λ _. 1) in
-      let c = each_one found in
-      let d = each_one lent in
-      let e = each_one freed in
+      let c = weigh-ones found in
+      let d = weigh-ones lent in
+      let e = weigh-ones freed in
       omega arith

@@ -1,6 +1,6 @@
 -- Sums of weights.
-use Rattle.std.proofs.Common.{◌≡◌, ℕ, zero, suc, ◌+◌, List, [], ◌∷◌, map, refl, sym, ap, ◌∙◌, arith, IsPermutation, Bool, true, false, Some}
-use Rattle.std.specs.Prelude.{slice_get, slice_set, not, cond}
+use Rattle.std.proofs.Common.{◌≡◌, ℕ, ◌+◌, List, [], ◌∷◌, length, map, refl, sym, ap, ◌∙◌, arith, IsPermutation, Bool, true, false}
+use Rattle.std.specs.Prelude.{not, cond}
 use Rattle.std.specs.List.{filter}
 use Rattle.std.proofs.lemmas.List.Recursion.{is_sum_by}
 use Rattle.std.proofs.lemmas.List.Sorted.{sum_by-IsPermutation}
@@ -10,6 +10,11 @@ pub use Rattle.loan_ledger.proofs.Sums.{weigh-append, weigh-snoc}
 pub weigh-permutation : {A : Type 0} (f : A → ℕ) (xs ys : List A) → IsPermutation xs ys → weigh f ys ≡ weigh f xs
 weigh-permutation f xs ys p =
     is_sum_by (weigh f) f refl (λ _ _. refl) ys ∙ sum_by-IsPermutation f xs ys p ∙ sym (is_sum_by (weigh f) f refl (λ _ _. refl) xs)
+
+-- a weight of 1 counts
+pub weigh-ones : {A : Type 0} (xs : List A) → weigh (λ _. 1) xs ≡ length xs
+weigh-ones [] = refl
+weigh-ones (x ∷ xs) = let i = weigh-ones xs in omega arith
 
 pub weigh-map : {A B : Type 0} (f : B → ℕ) (g : A → B) (xs : List A) → weigh f (map g xs) ≡ weigh (λ x. f (g x)) xs
 weigh-map f g [] = refl
@@ -24,9 +29,3 @@ split_more false n a c whole e f x p q i j k = omega arith
 pub weigh-split : {A : Type 0} (f : A → ℕ) (t : A → Bool) (xs : List A) → weigh f (filter t xs) + weigh f (filter (λ x. not (t x)) xs) ≡ weigh f xs
 weigh-split f t [] = refl
 weigh-split f t (x ∷ xs) = split_more (t x) (f x) _ _ (weigh f xs) (weigh-split f t xs) f x _ _ refl refl refl
-
--- an item was set
-pub weigh-put : {A : Type 0} (f : A → ℕ) (xs : List A) (i : ℕ) (x y : A) → slice_get xs i ≡ Some x → weigh f (slice_set xs i y) + f x ≡ weigh f xs + f y
-weigh-put f [] i x y e = absurd (cc)
-weigh-put f (z ∷ zs) zero x y e = let same : z ≡ x = cc in let h = ap f same in omega arith
-weigh-put f (z ∷ zs) (suc i) x y e = let h = weigh-put f zs i x y e in omega arith
