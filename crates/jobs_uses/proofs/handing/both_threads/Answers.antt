@@ -3,20 +3,16 @@ use denote.Exit.{no}
 use denote.RattleType.{RattleType}
 use denote.Ref.{NamedLft}
 use denote.Struct.Declared.{fields, shape}
-use denote.Param.Send.{IsSend, IsSync, AllSend, sendable, struct_send, view_send, param_send, arg_send}
+use denote.Param.Send.{IsSend, IsSync, AllSend, sendable, struct_send, param_send, arg_send}
 use Rattle.std.specs.contracts.alloc.Global as Heap
 use Rattle.std.specs.contracts.impls.GlobalAllocator.TheImpl.{ghosts}
 use Rattle.std.proofs.Crossing.{crosses, frees, send, sync}
-use Rattle.slot_chain.specs.contracts.parcel.BufParcel as Packed
-use Rattle.digit_route.proofs.Travels.{buf_send}
 use Rattle.batch_inbox.specs.declared.mail.Mailbox as Mailbox
 use Rattle.batch_inbox.specs.declared.mail.Receiver as Receiver
 use Rattle.batch_inbox.specs.declared.mail.Sender as Sender
-use Rattle.loan_ledger.proofs.Travels.{receipt_send}
 use Rattle.pool_fabric.specs.declared.naming.Naming as Naming
 use Rattle.pool_fabric.specs.contracts.parcel.Parcel as Parcel
-use Rattle.pool_fabric.specs.contracts.parcel.Parcel.TheInside as InParcel
-use Rattle.pool_fabric.proofs.Travels.{fabric_sync, held_send, send_fields, inbox_sync, take_send, seat_send}
+use Rattle.pool_fabric.proofs.Travels.{fabric_sync, held_send, parcel_send, send_fields, inbox_sync, take_send, seat_send}
 use Rattle.pool_jobs.specs.contracts.entrance.Entrance as Entrance
 use Rattle.pool_jobs.specs.contracts.gate.NoGate as NoGate
 use Rattle.crossbeam_channel.proofs.channel.Sender.TheSendSync.{the_send as to_send}
@@ -25,13 +21,6 @@ use Rattle.jobs_uses.specs.contracts.handing.Packing as Packing
 use Rattle.jobs_uses.specs.contracts.handing.Freeing as Freeing
 use Rattle.jobs_uses.specs.contracts.handing.Left as Left
 use Rattle.jobs_uses.proofs.handing.both_threads.Goals as goal
-
--- a parcel crosses, since buffers do
-packed_send : (r : NamedLft) → IsSend (Packed.the_row r)
-packed_send r = search (sendable, crosses, buf_send) depth 40 fits 6000
-
-parcel_send : (r : NamedLft) (J : RattleType) (j : Naming.Ghosts J.Denot) → IsSend (Parcel.the_row r J j)
-parcel_send r X j = view_send _ _ _ _ _ (send_fields (InParcel.the_type r X j) (packed_send r, (receipt_send, (search (sendable, crosses) depth 40 fits 6000, tt))))
 
 -- who is about to take up a station crosses where the inboxes and the gate are shared, and its seats cross
 module _ (a r : NamedLft) (M T S G J : RattleType) (m : Mailbox.Ghosts M.Denot) (t : Receiver.Ghosts T.Denot) (s : Sender.Ghosts S.Denot) (j : Naming.Ghosts J.Denot)
