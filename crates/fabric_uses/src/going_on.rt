@@ -156,8 +156,8 @@ where
     J: Naming,
     R: Wait,
     requires { J.names ≡ opening }
-    ensures whole { IfOk result (λ p. IsWhole p.found.desks.items p.found.batches.items p.found.lent.items
-        p.found.freed.items p.found.parts.items opening.entry.chunks) }
+    ensures whole { IfOk result (λ p. IsWhole p.found.desks.items p.found.batches.items p.found.lent
+        p.found.freed p.found.parts.items opening.entry.chunks) }
     ensures desks { IfOk result (λ p. IsEachDesk opening.entry.count p.found.desks.items) }
     ensures drawn { IfOk result (λ p. AreNoted p.found.desks.items p.found.drawn) }
 {
@@ -199,8 +199,8 @@ fn past_queue_at<'r, J: Naming, R: Wait>(
     number: u16,
 ) -> Result<Posts<'r>, GatherError<'r>>
     requires { J.names ≡ opening }
-    ensures whole { IfOk result (λ p. IsWhole p.found.desks.items p.found.batches.items p.found.lent.items
-        p.found.freed.items p.found.parts.items opening.entry.chunks) }
+    ensures whole { IfOk result (λ p. IsWhole p.found.desks.items p.found.batches.items p.found.lent
+        p.found.freed p.found.parts.items opening.entry.chunks) }
     ensures desks { IfOk result (λ p. IsEachDesk opening.entry.count p.found.desks.items) }
     ensures drawn { IfOk result (λ p. AreNoted p.found.desks.items p.found.drawn) }
 {
@@ -222,8 +222,8 @@ pub fn post_past_queue<'r, R: Wait>(
     >,
     number: u16,
 ) -> Result<Posts<'r>, GatherError<'r>>
-    ensures whole { IfOk result (λ p. IsWhole p.found.desks.items p.found.batches.items p.found.lent.items
-        p.found.freed.items p.found.parts.items opening.entry.chunks) }
+    ensures whole { IfOk result (λ p. IsWhole p.found.desks.items p.found.batches.items p.found.lent
+        p.found.freed p.found.parts.items opening.entry.chunks) }
     ensures desks { IfOk result (λ p. IsEachDesk opening.entry.count p.found.desks.items) }
     ensures drawn { IfOk result (λ p. AreNoted p.found.desks.items p.found.drawn) }
 {
@@ -243,8 +243,8 @@ fn past_link_at<'r, J: Naming, R: Wait>(
     number: u16,
 ) -> Result<Posts<'r>, GatherError<'r>>
     requires { J.names ≡ opening }
-    ensures whole { IfOk result (λ p. IsWhole p.found.desks.items p.found.batches.items p.found.lent.items
-        p.found.freed.items p.found.parts.items opening.entry.chunks) }
+    ensures whole { IfOk result (λ p. IsWhole p.found.desks.items p.found.batches.items p.found.lent
+        p.found.freed p.found.parts.items opening.entry.chunks) }
     ensures desks { IfOk result (λ p. IsEachDesk opening.entry.count p.found.desks.items) }
     ensures drawn { IfOk result (λ p. AreNoted p.found.desks.items p.found.drawn) }
 {
@@ -265,8 +265,8 @@ pub fn post_past_link<'r, R: Wait>(
     >,
     number: u16,
 ) -> Result<Posts<'r>, GatherError<'r>>
-    ensures whole { IfOk result (λ p. IsWhole p.found.desks.items p.found.batches.items p.found.lent.items
-        p.found.freed.items p.found.parts.items opening.entry.chunks) }
+    ensures whole { IfOk result (λ p. IsWhole p.found.desks.items p.found.batches.items p.found.lent
+        p.found.freed p.found.parts.items opening.entry.chunks) }
     ensures desks { IfOk result (λ p. IsEachDesk opening.entry.count p.found.desks.items) }
     ensures drawn { IfOk result (λ p. AreNoted p.found.desks.items p.found.drawn) }
 {

@@ -94,8 +94,8 @@ fn post_twice_at<'r, J: Naming, R: Wait>(
     opening: Opening<'r, Refusing<'r>, TakeSeat<'r>, SendSeat<'r>>,
 ) -> Result<Resent<'r>, GatherError<'r>>
     requires { J.names ≡ opening }
-    ensures whole { IfOk result (λ r. IsWhole r.found.desks.items r.found.batches.items r.found.lent.items
-        r.found.freed.items r.found.parts.items opening.entry.chunks) }
+    ensures whole { IfOk result (λ r. IsWhole r.found.desks.items r.found.batches.items r.found.lent
+        r.found.freed r.found.parts.items opening.entry.chunks) }
     ensures desks { IfOk result (λ r. IsEachDesk opening.entry.count r.found.desks.items) }
     ensures drawn { IfOk result (λ r. AreNoted r.found.desks.items r.found.drawn) }
 {
@@ -129,8 +129,8 @@ pub fn post_twice<'r, R: Wait>(
     alloc: Global,
     opening: Opening<'r, Refusing<'r>, TakeSeat<'r>, SendSeat<'r>>,
 ) -> Result<Resent<'r>, GatherError<'r>>
-    ensures whole { IfOk result (λ r. IsWhole r.found.desks.items r.found.batches.items r.found.lent.items
-        r.found.freed.items r.found.parts.items opening.entry.chunks) }
+    ensures whole { IfOk result (λ r. IsWhole r.found.desks.items r.found.batches.items r.found.lent
+        r.found.freed r.found.parts.items opening.entry.chunks) }
     ensures desks { IfOk result (λ r. IsEachDesk opening.entry.count r.found.desks.items) }
     ensures drawn { IfOk result (λ r. AreNoted r.found.desks.items r.found.drawn) }
 {

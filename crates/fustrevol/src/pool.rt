@@ -25,17 +25,18 @@ use std::time::Clock;
 /// The queue over which freed buffers go home.
 #[derive(Clone, Copy, Debug, PartialEq, Eq)]
 pub enum InboxKind {
-    /// Nodes of its own, linked in two atomic steps: no memory, no lock and no waiting.
+    /// Nodes that are all made when the pool runs, and are linked in two atomic steps. After that a
+    /// post or a take needs no memory, no lock and no waiting.
     Linked,
     /// A queue of `crossbeam_queue`, which grows as it has to.
     Queued,
 }
 
-/// The most bytes of others' buffers that a thread keeps before it posts them, where the pool chooses.
+/// The greatest limit, in bytes, that the pool picks where [`Pool::limit`] isn't called.
 pub const LARGEST_DEFAULT_LIMIT: u64 = 262_144;
 
 /// A pool over a region that the program lends it, cut into chunks of 4,096 bytes ([`CHUNK`]). A chunk
-/// becomes slots of one size class, of at most 512 bytes.
+/// becomes slots of one size class, of at most 512 bytes (1,024 with [`Digits::new2`]).
 ///
 /// Contracts see the numbers of its chunks and what was set.
 #[must_use]
@@ -71,8 +72,10 @@ impl<'r> Model for Pool<'r> {
 impl<'r> Pool<'r> {
     ghost use Rattle.std.specs.Prelude.{None};
 
-    /// A pool over this region. What is left of it behind the last whole chunk isn't used. It refuses a
-    /// region of more than 1,024 whole chunks, and a want of memory for the list of its chunks.
+    /// A pool over this region. What is left of it behind the last whole chunk isn't used.
+    ///
+    /// [`CutError::TooMany`]: the region has more than 1,024 whole chunks. [`CutError::NoMemory`]: the
+    /// system refused memory for the list of its chunks.
     ///
     /// The other settings are chosen when it runs: the limit of each cache ([`Pool::limit`]), how numbers
     /// of allocators are read ([`Pool::digits`]), and [`InboxKind::Linked`].
@@ -95,7 +98,7 @@ impl<'r> Pool<'r> {
     }
 
     /// Sets how many bytes of others' buffers a thread keeps before it posts them, at most a mebibyte.
-    /// More make posts rarer, and keep more slots from their owners for a while.
+    /// A greater limit means fewer posts, and more slots on their way home.
     ///
     /// Where it isn't set, all threads together keep at most a quarter of the region, and each at most
     /// 262,144 bytes.
@@ -109,10 +112,11 @@ impl<'r> Pool<'r> {
         }
     }
 
-    /// Sets how numbers of allocators are read, and so over how many stops a buffer goes home. Digits of 12
-    /// bits (`Digits::new2`) also have buffers of up to 1,024 bytes.
+    /// Sets the width of the digits in which allocators' numbers are read. The wider they are, the
+    /// fewer stops a buffer makes on its way home. [`Digits::new2`] also gives buffers of up to 1,024
+    /// bytes.
     ///
-    /// Where it isn't set, a digit is as wide as the number of tasks, so that each buffer goes home
+    /// Where it isn't set, a digit is wide enough to tell all tasks apart, so each buffer goes home
     /// straight.
     pub fn digits(self, digits: Digits) -> Pool<'r>
         ensures { result ≡ record self.entry { digits = Some digits } }
@@ -147,22 +151,22 @@ impl<'r> Pool<'r> {
     /// that there is when they have ended. A task beyond the 64th is not begun, and has no answer.
     ///
     /// Whatever the tasks do with their buffers, and whatever the schedule was, nothing is lost and
-    /// nothing is there twice: the slots found, with those that were lent, are all slots of the drawn
-    /// chunks, with those that were freed. The audit of the tally is that of the slots found, so it names a
-    /// slot whose buffer was dropped, and `lost` counts those buffers.
+    /// nothing is there twice. Counted slot by slot, found + lent = slots of the drawn chunks + freed.
     ///
-    /// [`JobError::NoThread`] is answered where a thread could not be started, and
-    /// [`JobError::NoMemory`] where memory was refused outside the pool. The threads that were started have
-    /// ended then, and the pool is given up.
+    /// The audit of the tally is that of the slots found. Where buffers were dropped, it names only the
+    /// least of their slots, or answers that it had no memory; `lost` counts those buffers.
+    ///
+    /// [`JobError::NoThread`]: a thread could not be started. [`JobError::NoMemory`]: the system
+    /// refused memory for the run's own desks, queues, edges or lists. The threads that were started
+    /// have ended then, and the pool is dropped.
     pub fn run<K, R>(self, rt: &R, tasks: Vec<K>) -> Result<RunReport<'r, K::Answer>, JobError>
     where
         K: Task + Send,
         R: Threads + Wait + Clock + Sync,
         K::Answer: Send,
         ensures accounted { IfOk result (λ e.
-            IsAccounted self.entry.chunks (desks_for (length tasks.items)) e.found e.tally.audit) }
+            IsAccounted self.entry.chunks (desks_for (length tasks.items)) e.found e.tally) }
         ensures answers { IfOk result (λ e. length e.answers.items ≡ length tasks.items) }
-        ensures lost { IfOk result (λ e. e.tally.counts.lost ≡ e.tally.counts.allocated - e.tally.counts.freed) }
     {
         let digits = self.digits.unwrap_or(straight(tasks.len()));
         let desks = desks_for(tasks.len(), digits);

@@ -79,8 +79,8 @@ fn at_fabric<'r, J: Naming, R: Wait>(
     count: u32,
 ) -> Result<Passed<'r>, GatherError<'r>>
     requires { J.names ≡ opening }
-    ensures whole { IfOk result (λ p. IsWhole p.found.desks.items p.found.batches.items p.found.lent.items
-        p.found.freed.items p.found.parts.items opening.entry.chunks) }
+    ensures whole { IfOk result (λ p. IsWhole p.found.desks.items p.found.batches.items p.found.lent
+        p.found.freed p.found.parts.items opening.entry.chunks) }
     ensures desks { IfOk result (λ p. IsEachDesk opening.entry.count p.found.desks.items) }
     ensures drawn { IfOk result (λ p. AreNoted p.found.desks.items p.found.drawn) }
 {
@@ -103,8 +103,8 @@ pub fn pass_in_bursts<'r, R: Wait>(
     bursts: u32,
     count: u32,
 ) -> Result<Passed<'r>, GatherError<'r>>
-    ensures whole { IfOk result (λ p. IsWhole p.found.desks.items p.found.batches.items p.found.lent.items
-        p.found.freed.items p.found.parts.items opening.entry.chunks) }
+    ensures whole { IfOk result (λ p. IsWhole p.found.desks.items p.found.batches.items p.found.lent
+        p.found.freed p.found.parts.items opening.entry.chunks) }
     ensures desks { IfOk result (λ p. IsEachDesk opening.entry.count p.found.desks.items) }
     ensures drawn { IfOk result (λ p. AreNoted p.found.desks.items p.found.drawn) }
 {

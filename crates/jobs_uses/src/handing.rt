@@ -6,7 +6,7 @@ use batch_inbox::{Inbox, SendSeat, TakeSeat};
 use crossbeam_channel::{Receiver, Sender};
 use inbox_uses::{Worker, run_beside};
 use pool_fabric::{Fabric, HeldStation, Naming, Opening};
-use pool_jobs::{Allocator, BufferCounts, Entrance, JobError, NoGate, Parcel, WorkReport, settle};
+use pool_jobs::{Allocator, Entrance, JobError, NoGate, Parcel, WorkReport, settle};
 use std::alloc::{AllocError, Global};
 use std::marker::Brand;
 use std::sync::Wait;
@@ -38,12 +38,11 @@ struct Freeing<'a, 'r, J: Naming> {
     from: Receiver<Parcel<'r, J>>,
 }
 
-// What a thread leaves: its station where that doesn't go back on the shelf, what it counted, and the
-// sum of the marks that it read.
+// What a thread leaves: its station where that doesn't go back on the shelf, and the sum of the marks that
+// it read.
 #[derive(Drop)]
 struct Left<'r, J: Naming> {
     station: Option<Held<'r, J>>,
-    counts: BufferCounts,
     marks: u64,
 }
 
@@ -51,7 +50,6 @@ struct Left<'r, J: Naming> {
 fn nothing_left<'r, J: Naming>() -> Left<'r, J> {
     Left {
         station: None,
-        counts: BufferCounts::none(),
         marks: 0,
     }
 }
@@ -75,24 +73,21 @@ fn pack<'a, 'r, J: Naming, R: Wait>(
     }
 }
 
-// Packs a parcel and hands it over. Says how many buffers it has. What the channel doesn't take is
-// freed here.
+// Packs a parcel and hands it over. What the channel doesn't take is freed here.
 fn hand_one<'a, 'r, J: Naming, R: Wait>(
     rt: &R,
     allocator: &mut Own<'a, 'r, J>,
     to: &Sender<Parcel<'r, J>>,
     mark: u8,
-) -> u64 {
+) {
     let Ok(parcel) = allocator.parcel(BUFFERS) else {
-        return 0;
+        return;
     };
     let mut parcel = parcel;
     pack(rt, allocator, &mut parcel, mark);
-    let packed = parcel.len() as u64;
     if let Err(refused) = to.send(rt, parcel) {
         allocator.free_all(rt, refused.into_inner());
     }
-    packed
 }
 
 // The mark of the buffer that came last. It goes back into the parcel.
@@ -146,14 +141,11 @@ impl<'a, 'r, J: Naming> Worker for Packing<'a, 'r, J> {
         let Some(mut allocator) = entrance.enter(rt) else {
             return nothing_left();
         };
-        let mut counts = BufferCounts::none();
         for mark in 0..parcels {
-            let packed = hand_one(rt, &mut allocator, &to, mark);
-            counts.allocated = counts.allocated.saturating_add(packed);
+            hand_one(rt, &mut allocator, &to, mark);
         }
         Left {
             station: allocator.retire(rt),
-            counts,
             marks: 0,
         }
     }
@@ -173,7 +165,6 @@ impl<'a, 'r, J: Naming> Worker for Freeing<'a, 'r, J> {
         let Some(mut allocator) = entrance.enter(rt) else {
             return nothing_left();
         };
-        let mut counts = BufferCounts::none();
         let mut marks = 0u64;
         for _ in rt.forever() {
             let Some(parcel) = next_parcel(rt, &mut allocator, &from) else {
@@ -181,12 +172,10 @@ impl<'a, 'r, J: Naming> Worker for Freeing<'a, 'r, J> {
             };
             let mut parcel = parcel;
             marks = marks.saturating_add(mark_of(rt, &mut allocator, &mut parcel));
-            counts.freed = counts.freed.saturating_add(parcel.len() as u64);
             allocator.free_all(rt, parcel);
         }
         Left {
             station: allocator.retire(rt),
-            counts,
             marks,
         }
     }
@@ -217,7 +206,6 @@ fn both_threads<'a, 'r, J: Naming + Send + Sync, R: Threads + Wait + Sync>(
 #[derive(Drop)]
 struct BothLeft<'r, J: Naming> {
     held: Vec<Held<'r, J>>,
-    counts: BufferCounts,
     marks: u64,
 }
 
@@ -229,12 +217,10 @@ fn taken_in<'r, J: Naming>(
 ) -> Result<BothLeft<'r, J>, AllocError> {
     let Left {
         station: first,
-        counts,
         marks,
     } = packed;
     let Left {
         station: second,
-        counts: more,
         marks: others,
     } = freed;
     let mut held = Vec::new(alloc);
@@ -246,7 +232,6 @@ fn taken_in<'r, J: Naming>(
     }
     Ok(BothLeft {
         held,
-        counts: counts.plus(more),
         marks: marks.saturating_add(others),
     })
 }
@@ -268,16 +253,12 @@ fn at_fabric<'r, J: Naming + Send + Sync, R: Threads + Wait + Sync>(
 ) -> Result<Handed<'r>, JobError>
     requires { J.names ≡ opening }
     ensures accounted { let n = opening.entry in
-        IfOk result (λ h. IsAccounted n.chunks n.count h.report.found h.report.tally.audit) }
+        IfOk result (λ h. IsAccounted n.chunks n.count h.report.found h.report.tally) }
 {
     let fabric = Shared::<'r, J>::open(alloc, opening)?;
     let (packed, freed) = both_threads(rt, alloc, &fabric, &NoGate, parcels)?;
-    let BothLeft {
-        held,
-        counts,
-        marks,
-    } = taken_in(alloc, packed, freed)?;
-    let report = settle(rt, alloc, fabric, held, counts)?;
+    let BothLeft { held, marks } = taken_in(alloc, packed, freed)?;
+    let report = settle(rt, alloc, fabric, held)?;
     Ok(Handed { report, marks })
 }
 
@@ -293,7 +274,7 @@ pub fn hand_parcels<'r, R: Threads + Wait + Sync>(
     parcels: u8,
 ) -> Result<Handed<'r>, JobError>
     ensures accounted { let n = opening.entry in
-        IfOk result (λ h. IsAccounted n.chunks n.count h.report.found h.report.tally.audit) }
+        IfOk result (λ h. IsAccounted n.chunks n.count h.report.found h.report.tally) }
 {
     at_fabric::<Brand, R>(rt, alloc, opening, parcels)
 }

@@ -7,8 +7,8 @@ use crate::watched::{Seen, Watched};
 use batch_inbox::{Inbox, SendSeat, TakeSeat};
 use inbox_uses::Counting;
 use pool_fabric::{Fabric, Naming, Opening};
-use pool_jobs::crossing::{CrewResult, Rounds, run_round};
-use pool_jobs::{Gate, JobError, MOST_THREADS, Plan, Workload, settle};
+use pool_jobs::crossing::{CrewResult, Rounds, run_round, settle_crew};
+use pool_jobs::{Gate, JobError, MOST_THREADS, Plan, Workload};
 use rand_core::{Rng, SeedableRng};
 use std::alloc::Global;
 use std::marker::Brand;
@@ -79,7 +79,7 @@ where
     R: Threads + Wait + Clock + Sync,
     requires { J.names ≡ opening }
     ensures accounted { let n = opening.entry in
-        IfOk result (λ w. IsAccounted n.chunks n.count w.report.found w.report.tally.audit) }
+        IfOk result (λ w. IsAccounted n.chunks n.count w.report.found w.report.tally) }
 {
     let workers = opening.desks().min(MOST_THREADS as usize) as u16;
     let fabric = Fabric::open(alloc, opening)?;
@@ -90,7 +90,7 @@ where
         calls_held,
         gave_up,
     } = seen::<N, J, R>(rt, alloc, &fabric, hold, workload, plan, workers)?;
-    let report = settle(rt, alloc, fabric, crew.held, crew.counts)?;
+    let report = settle_crew(rt, alloc, fabric, crew)?;
     Ok(Watched {
         report,
         posts,
@@ -115,7 +115,7 @@ where
     N: Rng + SeedableRng + Send + Drop,
     R: Threads + Wait + Clock + Sync,
     ensures accounted { let n = opening.entry in
-        IfOk result (λ w. IsAccounted n.chunks n.count w.report.found w.report.tally.audit) }
+        IfOk result (λ w. IsAccounted n.chunks n.count w.report.found w.report.tally) }
 {
     worked::<N, Brand, R>(rt, alloc, opening, hold, workload, plan)
 }

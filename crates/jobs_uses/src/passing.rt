@@ -68,8 +68,8 @@ fn at_fabric<'r, J: Naming, N: Rng, R: Wait>(
     count: u32,
 ) -> Result<Passed<'r>, GatherError<'r>>
     requires { J.names ≡ opening }
-    ensures whole { IfOk result (λ p. IsWhole p.found.desks.items p.found.batches.items p.found.lent.items
-        p.found.freed.items p.found.parts.items opening.entry.chunks) }
+    ensures whole { IfOk result (λ p. IsWhole p.found.desks.items p.found.batches.items p.found.lent
+        p.found.freed p.found.parts.items opening.entry.chunks) }
     ensures desks { IfOk result (λ p. IsEachDesk opening.entry.count p.found.desks.items) }
     ensures drawn { IfOk result (λ p. AreNoted p.found.desks.items p.found.drawn) }
 {
@@ -92,8 +92,8 @@ pub fn pass_on<'r, N: Rng, R: Wait>(
     random: &mut N,
     count: u32,
 ) -> Result<Passed<'r>, GatherError<'r>>
-    ensures whole { IfOk result (λ p. IsWhole p.found.desks.items p.found.batches.items p.found.lent.items
-        p.found.freed.items p.found.parts.items opening.entry.chunks) }
+    ensures whole { IfOk result (λ p. IsWhole p.found.desks.items p.found.batches.items p.found.lent
+        p.found.freed p.found.parts.items opening.entry.chunks) }
     ensures desks { IfOk result (λ p. IsEachDesk opening.entry.count p.found.desks.items) }
     ensures drawn { IfOk result (λ p. AreNoted p.found.desks.items p.found.drawn) }
 {

@@ -5,7 +5,7 @@ ghost use Rattle.pool_jobs.specs.Ends.{IsAccounted};
 use crate::pair::{Held, Over, Worker, both_retire, two_workers};
 use link_inbox::{LinkInbox, SendSeat, TakeSeat};
 use pool_fabric::{Naming, Opening};
-use pool_jobs::{BufferCounts, Entrance, JobError, NoGate, PoolError, WorkReport, settle};
+use pool_jobs::{Entrance, JobError, NoGate, PoolError, WorkReport, settle};
 use std::alloc::Global;
 use std::marker::Brand;
 use std::sync::Wait;
@@ -91,13 +91,13 @@ fn at_fabric<'r, J: Naming, R: Wait>(
 ) -> Result<TakenUp<'r>, JobError>
     requires { J.names ≡ opening }
     ensures accounted { let n = opening.entry in
-        IfOk result (λ t. IsAccounted n.chunks n.count t.report.found t.report.tally.audit) }
+        IfOk result (λ t. IsAccounted n.chunks n.count t.report.found t.report.tally) }
 {
     let fabric = Over::<'r, J>::open(alloc, opening)?;
     let Some((answers, held)) = at_work(rt, alloc, &fabric, &NoGate) else {
         return Err(JobError::NoMemory);
     };
-    let report = settle(rt, alloc, fabric, held, BufferCounts::none())?;
+    let report = settle(rt, alloc, fabric, held)?;
     Ok(TakenUp { answers, report })
 }
 
@@ -110,7 +110,7 @@ pub fn take_up_desk<'r, R: Wait>(
     opening: Opening<'r, LinkInbox<'r>, TakeSeat<'r>, SendSeat<'r>>,
 ) -> Result<TakenUp<'r>, JobError>
     ensures accounted { let n = opening.entry in
-        IfOk result (λ t. IsAccounted n.chunks n.count t.report.found t.report.tally.audit) }
+        IfOk result (λ t. IsAccounted n.chunks n.count t.report.found t.report.tally) }
 {
     at_fabric::<Brand, R>(rt, alloc, opening)
 }

@@ -111,7 +111,7 @@ fn unheard<'r, J: Naming, R: Wait>(
     frees: Frees,
 ) -> Result<Found<'r>, GatherError<'r>>
     requires { J.names ≡ opening }
-    ensures whole { IfOk result (λ f. IsWhole f.desks.items f.batches.items f.lent.items f.freed.items
+    ensures whole { IfOk result (λ f. IsWhole f.desks.items f.batches.items f.lent f.freed
         f.parts.items opening.entry.chunks) }
     ensures desks { IfOk result (λ f. IsEachDesk opening.entry.count f.desks.items) }
     ensures drawn { IfOk result (λ f. AreNoted f.desks.items f.drawn) }
@@ -136,7 +136,7 @@ pub fn free_unheard<'r, R: Wait>(
     slots: usize,
     frees: Frees,
 ) -> Result<Found<'r>, GatherError<'r>>
-    ensures whole { IfOk result (λ f. IsWhole f.desks.items f.batches.items f.lent.items f.freed.items
+    ensures whole { IfOk result (λ f. IsWhole f.desks.items f.batches.items f.lent f.freed
         f.parts.items opening.entry.chunks) }
     ensures desks { IfOk result (λ f. IsEachDesk opening.entry.count f.desks.items) }
     ensures drawn { IfOk result (λ f. AreNoted f.desks.items f.drawn) }

@@ -25,7 +25,8 @@ use Rattle.batch_inbox.specs.contracts.seats.SendSeat as SendSeat
 use Rattle.pool_fabric.specs.declared.naming.Naming as Naming
 use Rattle.pool_fabric.specs.contracts.ledger.Ledger as Ledger
 use Rattle.pool_fabric.specs.contracts.ledger.Page as Page
-use Rattle.pool_fabric.specs.contracts.notes.Notes as Notes
+use Rattle.pool_fabric.specs.contracts.counted_notes.CountedNotes as CountedNotes
+use Rattle.pool_fabric.specs.contracts.counted_notes.CountedNotes.TheInside as InNotes
 use Rattle.pool_fabric.specs.contracts.station.Station as Station
 use Rattle.pool_fabric.specs.contracts.station.Station.TheInside as InStation
 use Rattle.pool_fabric.specs.contracts.held.HeldStation as HeldStation
@@ -70,8 +71,8 @@ parcel_send r X j = view_send _ _ _ _ _ (send_fields (InParcel.the_type r X j) (
 page_send : IsSend Page.the_row
 page_send = search (sendable, crosses, pass_send, loans_send) depth 40 fits 6000
 
-notes_send : (a : NamedLft) → IsSend (Notes.the_row (Buf.the_row a))
-notes_send a = notes_of (Buf.the_row a) (buf_send a)
+notes_send : (a : NamedLft) → IsSend (CountedNotes.the_row (Buf.the_row a))
+notes_send a = view_send _ _ _ _ _ (send_fields (InNotes.the_type (Buf.the_row a)) (notes_of (Buf.the_row a) (buf_send a), (search (sendable, crosses) depth 40 fits 6000, tt)))
 
 -- stations whose seats cross
 module _ (a : NamedLft) (T S J : RattleType) (t : Receiver.Ghosts T.Denot) (s : Sender.Ghosts S.Denot) (j : Naming.Ghosts J.Denot) (x : IsSend T) (y : IsSend S) where

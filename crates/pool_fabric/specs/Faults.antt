@@ -16,7 +16,7 @@ pub record IsFoundInPart (count : ℕ) (stations : List StationState) (f : Found
   pub below : f.missing < count
   pub lacks : LacksNumber f.missing stations
   pub others : List StationState
-  pub found : IsAllOf (stations ++ others) f.desks.items f.lent.items f.freed.items
+  pub found : IsAllOf (stations ++ others) f.desks.items f.lent f.freed
 
 -- a station is said to be missing only where it is
 abbrev pub IsGatherFault : ℕ → List StationState → GatherError → Type 0

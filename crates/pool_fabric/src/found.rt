@@ -12,6 +12,7 @@ ghost use Rattle.pool_fabric.specs.Stocks.{AreTold};
 ghost use Rattle.pool_fabric.specs.Faults.{LacksNumber, IsGatherFault};
 ghost use Rattle.pool_fabric.specs.Whole.{IsWhole, FreesNoMore, IsAllOf, IsEachDesk, AreNoted};
 
+use crate::counted_notes::CountedNotes;
 use crate::error::GatherError;
 use crate::fabric::Fabric;
 use crate::gathered::Gathered;
@@ -19,7 +20,6 @@ use crate::held::HeldStation;
 use crate::in_part::in_part;
 use crate::ledger::{Ledger, Page};
 use crate::naming::Naming;
-use crate::notes::Notes;
 use crate::shelf::Shelf;
 use crate::stock::Stock;
 use crate::store::Store;
@@ -40,10 +40,10 @@ pub struct Found<'r> {
     pub desks: Vec<Desk<'r>>,
     /// The batches that were still in an inbox.
     pub batches: Vec<Batch<'r>>,
-    /// What was ever lent; only contracts see it.
-    pub lent: Notes<Buf<'r>>,
-    /// What was ever freed; only contracts see it.
-    pub freed: Notes<Buf<'r>>,
+    /// What was ever lent. A program sees how many buffers that are, contracts see each.
+    pub lent: CountedNotes<Buf<'r>>,
+    /// What was ever freed, seen so too.
+    pub freed: CountedNotes<Buf<'r>>,
     /// The chunks that nobody drew.
     pub parts: Vec<Part<'r>>,
     /// Which chunks were drawn, and for which class.
@@ -159,12 +159,12 @@ impl<'r, T: Receiver, S: Sender, J: Naming> Gathered<'r, T, S, J> {
         requires chunks { (g : ℕ → ℕ)
             → weigh (of_entry g) self.page.gave + weigh (of_part g) stock.left ≡ weigh g J.names.chunks }
         requires told { AreTold stock.drawn self.page.gave }
-        ensures whole { IsWhole result.desks.items result.batches.items result.lent.items result.freed.items
+        ensures whole { IsWhole result.desks.items result.batches.items result.lent result.freed
             result.parts.items J.names.chunks }
-        ensures bounded { FreesNoMore result.lent.items result.freed.items }
+        ensures bounded { FreesNoMore result.lent result.freed }
         ensures desks { IsEachDesk J.names.count result.desks.items }
-        ensures same { (result.desks.items ≡ self.entry.desks) × (result.lent.items ≡ self.entry.lent)
-            × (result.freed.items ≡ self.entry.freed) }
+        ensures same { (result.desks.items ≡ self.entry.desks) × (result.lent ≡ self.entry.lent)
+            × (result.freed ≡ self.entry.freed) }
         ensures drawn { AreNoted result.desks.items result.drawn }
     {
         let Gathered {
@@ -212,14 +212,13 @@ fn all_of<'r, T: Receiver, S: Sender, J: Naming>(
 /// those that are handed in, and what is left in every inbox.
 ///
 /// Whatever the schedule was, and whatever was done with the buffers, nothing is lost and nothing is
-/// there twice: all slots found, with all that was lent, are all slots of the drawn chunks, with all
-/// that was freed. Each desk is found once, and the chunks told as drawn are those that the desks
-/// drew, each for its class. Of the stations that are handed in, all is found as it was: their desks,
-/// what they lent and what was freed to them, each buffer with its bytes.
+/// there twice. Counted slot by slot, found + lent = slots of the drawn chunks + freed. Each desk is
+/// found once, and the chunks told as drawn are those that the desks drew, each for its class. Of the
+/// stations that are handed in, all is found as it was: their desks, what they lent and what was freed
+/// to them, each buffer with its bytes.
 ///
-/// A want of memory is told as [`GatherError::NoMemory`]. A desk whose station did not come back is told
-/// as [`GatherError::Missing`] by its number, the least one where there are several, with all that the
-/// others have.
+/// [`GatherError::NoMemory`]: memory was refused, and all is dropped. [`GatherError::Missing`] names
+/// the least desk without a station, and hands out all that the others have.
 #[inline(never)]
 pub fn gather<
     'r,
@@ -235,12 +234,12 @@ pub fn gather<
     held: Vec<HeldStation<'r, T, S, J>>,
 ) -> Result<Found<'r>, GatherError<'r>>
     ensures whole { IfOk result (λ f.
-        IsWhole f.desks.items f.batches.items f.lent.items f.freed.items f.parts.items J.names.chunks) }
-    ensures bounded { IfOk result (λ f. FreesNoMore f.lent.items f.freed.items) }
+        IsWhole f.desks.items f.batches.items f.lent f.freed f.parts.items J.names.chunks) }
+    ensures bounded { IfOk result (λ f. FreesNoMore f.lent f.freed) }
     ensures desks { IfOk result (λ f. IsEachDesk J.names.count f.desks.items) }
     ensures once { IfOk result (λ f. FindsAtMostOnce f.drawn (slots_found f.desks.items f.batches.items)) }
     ensures stations { IfOk result (λ f. (others : List StationState)
-        × IsAllOf (held.entry.items ++ others) f.desks.items f.lent.items f.freed.items) }
+        × IsAllOf (held.entry.items ++ others) f.desks.items f.lent f.freed) }
     ensures drawn { IfOk result (λ f. AreNoted f.desks.items f.drawn) }
     ensures missing { IfErr result (IsGatherFault J.names.count held.entry.items) }
 {

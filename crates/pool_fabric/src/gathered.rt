@@ -5,12 +5,12 @@ ghost use Rattle.pool_fabric.specs.Names.{box_at};
 ghost use Rattle.pool_fabric.specs.Gathered.{AddsStation, Closes};
 
 use crate::column::{Column, last_column};
+use crate::counted_notes::CountedNotes;
 use crate::drained::drained;
 use crate::held::HeldStation;
 use crate::ledger::{Ledger, Page};
 use crate::named::Named;
 use crate::naming::Naming;
-use crate::notes::Notes;
 use crate::row::Row;
 use batch_inbox::{Mail, Receiver, Sender};
 use digit_route::Batch;
@@ -28,8 +28,8 @@ pub(crate) struct Gathered<'r, T: Receiver, S: Sender, J: Naming> {
     pub(crate) takes: Vec<T>,
     pub(crate) rows: Vec<Row<S>>,
     pub(crate) page: Page,
-    pub(crate) lent: Notes<Buf<'r>>,
-    pub(crate) freed: Notes<Buf<'r>>,
+    pub(crate) lent: CountedNotes<Buf<'r>>,
+    pub(crate) freed: CountedNotes<Buf<'r>>,
     pub(crate) batches: Vec<Batch<'r>>,
     pub(crate) of: Named<J>,
 }
@@ -46,8 +46,8 @@ impl<'r, T: Receiver, S: Sender, J: Naming> Model for Gathered<'r, T, S, J> {
       takes = map (taking_of T.inbox T.senders T.taken) s.takes.items;
       rows = s.rows.items;
       page = s.page;
-      lent = s.lent.items;
-      freed = s.freed.items;
+      lent = s.lent;
+      freed = s.freed;
       batches = s.batches.items;
     } };
 
@@ -57,8 +57,8 @@ impl<'r, T: Receiver, S: Sender, J: Naming> Model for Gathered<'r, T, S, J> {
       takes = map (taking_of T.inbox T.senders T.taken) s.takes.items;
       rows = s.rows.items;
       page = s.page;
-      lent = s.lent.items;
-      freed = s.freed.items;
+      lent = s.lent;
+      freed = s.freed;
       batches = s.batches.items;
     }) };
 }
@@ -85,8 +85,8 @@ impl<'r, T: Receiver, S: Sender, J: Naming> Gathered<'r, T, S, J> {
             takes: Vec::new(alloc),
             rows: Vec::new(alloc),
             page,
-            lent: Notes::new(),
-            freed: Notes::new(),
+            lent: CountedNotes::new(),
+            freed: CountedNotes::new(),
             batches: Vec::new(alloc),
             of: Named::new(),
         }

@@ -7,10 +7,10 @@ ghost use Rattle.pool_desk.specs.HomesState.{HasClass};
 ghost use Rattle.pool_fabric.specs.Calls.{Lends, LendsClass, TakesAllBack, TakesBack};
 
 use crate::buffer::Buffer;
+use crate::counted_notes::CountedNotes;
 use crate::ledger::Page;
 use crate::named::Named;
 use crate::naming::Naming;
-use crate::notes::Notes;
 use crate::parcel::Parcel;
 use crate::station::Station;
 use batch_inbox::{Receiver, Sender};
@@ -31,8 +31,8 @@ pub struct HeldStation<'r, T: Receiver, S: Sender, J: Naming> {
     pub(crate) take: T,
     pub(crate) seats: Vec<S>,
     pub(crate) page: Page,
-    pub(crate) lent: Notes<Buf<'r>>,
-    pub(crate) freed: Notes<Buf<'r>>,
+    pub(crate) lent: CountedNotes<Buf<'r>>,
+    pub(crate) freed: CountedNotes<Buf<'r>>,
     pub(crate) of: Named<J>,
 }
 
@@ -48,8 +48,8 @@ impl<'r, T: Receiver, S: Sender, J: Naming> Model for HeldStation<'r, T, S, J> {
       take = record { inbox = T.inbox s.take; senders = T.senders s.take; taken = T.taken s.take };
       seats = map (seat_of S.inbox S.number S.sent S.resting) s.seats.items;
       page = s.page;
-      lent = s.lent.items;
-      freed = s.freed.items;
+      lent = s.lent;
+      freed = s.freed;
     } };
 
     ghost invariant = { λ s. IsStation J.names (record {
@@ -57,8 +57,8 @@ impl<'r, T: Receiver, S: Sender, J: Naming> Model for HeldStation<'r, T, S, J> {
       take = record { inbox = T.inbox s.take; senders = T.senders s.take; taken = T.taken s.take };
       seats = map (seat_of S.inbox S.number S.sent S.resting) s.seats.items;
       page = s.page;
-      lent = s.lent.items;
-      freed = s.freed.items;
+      lent = s.lent;
+      freed = s.freed;
     }) };
 }
 

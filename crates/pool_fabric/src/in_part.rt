@@ -2,10 +2,10 @@
 ghost use Rattle.std.specs.Prelude.{◌≡◌, IfOk};
 ghost use Rattle.pool_fabric.specs.Gathered.{AddsEach};
 
+use crate::counted_notes::CountedNotes;
 use crate::gathered::Gathered;
 use crate::held::HeldStation;
 use crate::naming::Naming;
-use crate::notes::Notes;
 use batch_inbox::{Receiver, Sender};
 use pool_desk::Desk;
 use slot_chain::Buf;
@@ -20,10 +20,10 @@ pub struct FoundInPart<'r> {
     pub missing: usize,
     /// The desks whose stations came back, in no order, each with its slots at home and in its cache.
     pub desks: Vec<Desk<'r>>,
-    /// What these desks lent; only contracts see it.
-    pub lent: Notes<Buf<'r>>,
-    /// What was freed to these desks; only contracts see it.
-    pub freed: Notes<Buf<'r>>,
+    /// What these desks lent. A program sees how many buffers that are, contracts see each.
+    pub lent: CountedNotes<Buf<'r>>,
+    /// What was freed to these desks, seen so too.
+    pub freed: CountedNotes<Buf<'r>>,
 }
 
 /// All desks that were gathered, and those of the stations that are left.
@@ -34,7 +34,7 @@ pub(crate) fn in_part<'r, T: Receiver, S: Sender, J: Naming>(
 ) -> Result<FoundInPart<'r>, AllocError>
     ensures missing { IfOk result (λ f. f.missing ≡ missing) }
     ensures found { IfOk result (λ f.
-        AddsEach stations.entry.items gathered.entry f.desks.items f.lent.items f.freed.items) }
+        AddsEach stations.entry.items gathered.entry f.desks.items f.lent f.freed) }
 {
     let Gathered {
         columns: _,

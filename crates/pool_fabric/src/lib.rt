@@ -13,6 +13,7 @@
 mod boxes;
 mod buffer;
 mod column;
+mod counted_notes;
 mod drained;
 mod error;
 mod fabric;
@@ -36,6 +37,7 @@ mod store;
 mod work;
 
 pub use buffer::Buffer;
+pub use counted_notes::CountedNotes;
 pub use error::GatherError;
 pub use fabric::{Fabric, MOST_TAKEN};
 pub use found::{Found, gather};
@@ -45,7 +47,6 @@ pub use ledger::{Ledger, Page};
 pub use listing::account;
 pub use named::Named;
 pub use naming::Naming;
-pub use notes::Notes;
 pub use opening::Opening;
 pub use parcel::Parcel;
 pub use shelf::{SHELF_ROOM, Shelf};

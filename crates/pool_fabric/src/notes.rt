@@ -20,21 +20,21 @@ unsafe impl<T: Send> Send for Notes<T> {}
 
 impl<T> Notes<T> {
     /// The empty list.
-    pub fn new() -> Notes<T>
+    pub(crate) fn new() -> Notes<T>
         ensures { result.items ≡ [] }
     {
         Notes { of: PhantomData }
     }
 
     /// The list with one value more, which stays where it is.
-    pub fn and(&self, value: &T) -> Notes<T>
+    pub(crate) fn and(&self, value: &T) -> Notes<T>
         ensures { result.items ≡ self.now.items ++ value.now ∷ [] }
     {
         Notes { of: PhantomData }
     }
 
     /// The list with these values more, which stay where they are.
-    pub fn and_all(&self, values: &[T]) -> Notes<T>
+    pub(crate) fn and_all(&self, values: &[T]) -> Notes<T>
         ensures { result.items ≡ self.now.items ++ values.now }
     {
         let mut all = self.with(&Notes::new());
@@ -45,7 +45,7 @@ impl<T> Notes<T> {
     }
 
     /// This list, and then the other.
-    pub fn with(&self, other: &Notes<T>) -> Notes<T>
+    pub(crate) fn with(&self, other: &Notes<T>) -> Notes<T>
         ensures { result.items ≡ self.now.items ++ other.now.items }
     {
         Notes { of: PhantomData }

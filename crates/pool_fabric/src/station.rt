@@ -5,11 +5,11 @@ ghost use Rattle.pool_fabric.specs.Pages.{new_page};
 ghost use Rattle.pool_fabric.specs.Seats.{seat_of, AreSeatsBy, NoneSent};
 ghost use Rattle.pool_fabric.specs.Stations.{resting};
 
+use crate::counted_notes::CountedNotes;
 use crate::held::HeldStation;
 use crate::ledger::Page;
 use crate::named::Named;
 use crate::naming::Naming;
-use crate::notes::Notes;
 use batch_inbox::{Receiver, Sender};
 use pool_desk::{Desk, IdleDesk};
 use slot_chain::{Buf, NoMemory};
@@ -31,8 +31,8 @@ pub struct Station<'r, T: Receiver, S: Sender, J: Naming> {
     pub(crate) take: T,
     pub(crate) seats: Vec<S>,
     pub(crate) page: Page,
-    pub(crate) lent: Notes<Buf<'r>>,
-    pub(crate) freed: Notes<Buf<'r>>,
+    pub(crate) lent: CountedNotes<Buf<'r>>,
+    pub(crate) freed: CountedNotes<Buf<'r>>,
     pub(crate) of: Named<J>,
 }
 
@@ -49,8 +49,8 @@ impl<'r, T: Receiver, S: Sender, J: Naming> Model for Station<'r, T, S, J> {
       take = record { inbox = T.inbox s.take; senders = T.senders s.take; taken = T.taken s.take };
       seats = map (seat_of S.inbox S.number S.sent S.resting) s.seats.items;
       page = s.page;
-      lent = s.lent.items;
-      freed = s.freed.items;
+      lent = s.lent;
+      freed = s.freed;
     } };
 
     ghost invariant = { λ s. (s.desk.value.cached ≡ []) × IsStation J.names (record {
@@ -58,8 +58,8 @@ impl<'r, T: Receiver, S: Sender, J: Naming> Model for Station<'r, T, S, J> {
       take = record { inbox = T.inbox s.take; senders = T.senders s.take; taken = T.taken s.take };
       seats = map (seat_of S.inbox S.number S.sent S.resting) s.seats.items;
       page = s.page;
-      lent = s.lent.items;
-      freed = s.freed.items;
+      lent = s.lent;
+      freed = s.freed;
     }) };
 }
 
@@ -93,8 +93,8 @@ impl<'r, T: Receiver, S: Sender, J: Naming> Station<'r, T, S, J> {
             take,
             seats,
             page,
-            lent: Notes::new(),
-            freed: Notes::new(),
+            lent: CountedNotes::new(),
+            freed: CountedNotes::new(),
             of: Named::new(),
         })
     }

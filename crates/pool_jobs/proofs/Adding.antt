@@ -3,11 +3,11 @@ use Rattle.std.proofs.Common.{◌≡◌, ℕ, ◌+◌, List, [], ◌∷◌, ◌+
 use Rattle.std.specs.Prelude.{Option, sum_by}
 use Rattle.std.proofs.lemmas.List.Sums.{sum_by_push}
 use Rattle.slot_chain.specs.Counts.{capped}
-use Rattle.pool_jobs.specs.declared.tally.BufferCounts.{BufferCounts}
+use Rattle.pool_jobs.specs.declared.tally.WorkerCounts.{WorkerCounts}
 use Rattle.pool_jobs.specs.declared.counting_heap.WorkerResult.{WorkerResult}
 use Rattle.pool_jobs.specs.Counted.{counts_of, both, counted_by}
 
-one_more : {T S J : Type 0} (count : BufferCounts → ℕ) (outcomes : List (Option (WorkerResult T S J))) (o : Option (WorkerResult T S J))
+one_more : {T S J : Type 0} (count : WorkerCounts → ℕ) (outcomes : List (Option (WorkerResult T S J))) (o : Option (WorkerResult T S J))
     → capped (capped (sum_by (λ l. count (counts_of l)) outcomes) + count (counts_of o)) ≡ capped (sum_by (λ l. count (counts_of l)) (outcomes ++ o ∷ []))
 one_more count outcomes o =
     let sum = sum_by_push (λ l. count (counts_of l)) outcomes o in
@@ -15,12 +15,10 @@ one_more count outcomes o =
 
 more : {T S J : Type 0} (outcomes : List (Option (WorkerResult T S J))) (o : Option (WorkerResult T S J)) → both (counted_by outcomes) (counts_of o) ≡ counted_by (outcomes ++ o ∷ [])
 more outcomes o =
-    let a = one_more (λ (c : BufferCounts). c.allocated) outcomes o in
-    let f = one_more (λ (c : BufferCounts). c.freed) outcomes o in
-    let s = one_more (λ (c : BufferCounts). c.starved) outcomes o in
-    let l = one_more (λ (c : BufferCounts). c.lost) outcomes o in
-    grind (arith, a, f, s, l)
+    let s = one_more (λ (c : WorkerCounts). c.starved) outcomes o in
+    let d = one_more (λ (c : WorkerCounts). c.dropped) outcomes o in
+    grind (arith, s, d)
 
-pub counted_more : {T S J : Type 0} (mid after one : BufferCounts) (outcomes : List (Option (WorkerResult T S J))) (o : Option (WorkerResult T S J))
+pub counted_more : {T S J : Type 0} (mid after one : WorkerCounts) (outcomes : List (Option (WorkerResult T S J))) (o : Option (WorkerResult T S J))
     → mid ≡ counted_by outcomes → one ≡ counts_of o → after ≡ both mid one → after ≡ counted_by (outcomes ++ o ∷ [])
-counted_more mid after one outcomes o known is sum = sum ∙ ap (λ (c : BufferCounts). both c one) known ∙ ap (both (counted_by outcomes)) is ∙ more outcomes o
+counted_more mid after one outcomes o known is sum = sum ∙ ap (λ (c : WorkerCounts). both c one) known ∙ ap (both (counted_by outcomes)) is ∙ more outcomes o

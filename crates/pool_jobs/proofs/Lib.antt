@@ -5,3 +5,4 @@ pub mod Largest
 pub mod Travels
 pub mod Waits
 pub mod Fillings
+pub mod Lost

@@ -3,18 +3,18 @@ use Rattle.std.specs.Prelude.{◌≡◌, ℕ, ◌+◌, ◌<◌, ◌≤◌, List,
 use Rattle.slot_chain.specs.Counts.{capped}
 use Rattle.pool_fabric.specs.Stations.{StationState}
 use Rattle.pool_jobs.specs.declared.counting_heap.WorkerResult.{WorkerResult}
-use Rattle.pool_jobs.specs.declared.tally.BufferCounts.{BufferCounts}
+use Rattle.pool_jobs.specs.declared.tally.WorkerCounts.{WorkerCounts}
 
 -- nothing was counted
-abbrev pub none_counted : BufferCounts
-none_counted = record { allocated = 0; freed = 0; starved = 0; lost = 0 }
+abbrev pub none_counted : WorkerCounts
+none_counted = record { starved = 0; dropped = 0 }
 
 -- who got no allocator gave back no station and counted nothing
 abbrev pub station_of : {T S J : Type 0} → Option (WorkerResult T S J) → Option StationState
 station_of None = None
 station_of (Some d) = d.station
 
-abbrev pub counts_of : {T S J : Type 0} → Option (WorkerResult T S J) → BufferCounts
+abbrev pub counts_of : {T S J : Type 0} → Option (WorkerResult T S J) → WorkerCounts
 counts_of None = none_counted
 counts_of (Some d) = d.counts
 
@@ -26,25 +26,21 @@ abbrev pub IsLeastAt : List StationState → ℕ → Type 0
 IsLeastAt stations at = (k : ℕ) (d : StationState) → k < length stations
     → (slice_index_or stations at d).desk.number ≤ (slice_index_or stations k d).desk.number
 
--- a buffer that was given is counted, or that none was to be had
-abbrev pub Counts : {B E : Type 0} → BufferCounts → Result B E → BufferCounts → Type 0
-Counts old (Ok b) new = new ≡ record old { allocated = capped (old.allocated + 1) }
+-- that no buffer was to be had is counted
+abbrev pub Counts : {B E : Type 0} → WorkerCounts → Result B E → WorkerCounts → Type 0
+Counts old (Ok b) new = new ≡ old
 Counts old (Err e) new = new ≡ record old { starved = capped (old.starved + 1) }
 
 -- two counts added up, none beyond the greatest u64
-abbrev pub both : BufferCounts → BufferCounts → BufferCounts
+abbrev pub both : WorkerCounts → WorkerCounts → WorkerCounts
 both a b = record {
-  allocated = capped (a.allocated + b.allocated);
-  freed = capped (a.freed + b.freed);
   starved = capped (a.starved + b.starved);
-  lost = capped (a.lost + b.lost);
+  dropped = capped (a.dropped + b.dropped);
 }
 
 -- what all of these counted
-abbrev pub counted_by : {T S J : Type 0} → List (Option (WorkerResult T S J)) → BufferCounts
+abbrev pub counted_by : {T S J : Type 0} → List (Option (WorkerResult T S J)) → WorkerCounts
 counted_by outcomes = record {
-  allocated = capped (sum_by (λ o. (counts_of o).allocated) outcomes);
-  freed = capped (sum_by (λ o. (counts_of o).freed) outcomes);
   starved = capped (sum_by (λ o. (counts_of o).starved) outcomes);
-  lost = capped (sum_by (λ o. (counts_of o).lost) outcomes);
+  dropped = capped (sum_by (λ o. (counts_of o).dropped) outcomes);
 }

@@ -4,3 +4,4 @@ pub mod Ends
 pub mod Rounds
 pub mod Counted
 pub mod Edges
+pub mod Tallies

@@ -1,7 +1,7 @@
 -- The rounds of a workload.
 use Rattle.std.specs.Prelude.{ℕ}
 use Rattle.pool_jobs.specs.declared.workloads.plan.Plan.{Plan}
-use Rattle.pool_jobs.specs.declared.tally.BufferCounts.{BufferCounts}
+use Rattle.pool_jobs.specs.declared.tally.WorkerCounts.{WorkerCounts}
 use Rattle.pool_jobs.specs.declared.workloads.workload.Workload.{Workload}
 use Rattle.pool_jobs.specs.declared.workloads.workload.Workload.TheVariants.{ProdCons, Ring, Replace}
 
@@ -15,4 +15,4 @@ rounds_of Replace plan = plan.rounds
 pub record RoundsState : Type 0 where
   pub rounds : ℕ
   pub workers : ℕ
-  pub counts : BufferCounts
+  pub counts : WorkerCounts

@@ -1,5 +1,5 @@
-//! A heap that counts its calls.
-ghost use Rattle.std.specs.Prelude.{◌≡◌, ◌≢◌, ◌<◌, ◌≤◌, ◌↔◌, ◌+◌, [], ◌∷◌, ◌++◌, length, map, IsTrue, IfOk, IfSome};
+//! A heap that counts how often it gave no buffer.
+ghost use Rattle.std.specs.Prelude.{◌≡◌, ◌≢◌, ◌<◌, ◌≤◌, ◌↔◌, ◌+◌, [], ◌∷◌, ◌++◌, map, IsTrue, IfOk, IfSome};
 ghost use Rattle.region_cut.specs.Classes.{size_of, largest_of};
 ghost use Rattle.digit_route.specs.Profiles.{profile_of};
 ghost use Rattle.pool_fabric.specs.Limits.{most_taken};
@@ -12,7 +12,7 @@ ghost use Rattle.pool_jobs.specs.Serving.{Keeps, SameDesk, Serves};
 use crate::allocator::Allocator;
 use crate::error::PoolError;
 use crate::gate::Gate;
-use crate::tally::BufferCounts;
+use crate::tally::WorkerCounts;
 use crate::tasks::heap::Heap;
 use batch_inbox::{Mail, Mailbox, Receiver, Sender};
 use pool_fabric::{Buffer, HeldStation, Naming, Parcel};
@@ -24,14 +24,14 @@ use std::time::{Clock, Duration};
 #[derive(Drop)]
 pub struct WorkerResult<'r, T: Receiver, S: Sender, J: Naming> {
     pub(crate) station: Option<HeldStation<'r, T, S, J>>,
-    pub(crate) counts: BufferCounts,
+    pub(crate) counts: WorkerCounts,
 }
 
-/// An allocator that counts its calls, as [`run`](crate::run) gives it to a task.
+/// An allocator that counts how often it gave no buffer, as [`run`](crate::run) gives it to a task.
 #[derive(Drop)]
 pub struct CountingHeap<'a, 'r, M: Mailbox, T: Receiver, S: Sender, G: Gate, J: Naming> {
     allocator: Allocator<'a, 'r, M, T, S, G, J>,
-    counts: BufferCounts,
+    counts: WorkerCounts,
 }
 
 impl<'a, 'r, M: Mailbox, T: Receiver, S: Sender, G: Gate, J: Naming> CountingHeap<
@@ -52,16 +52,16 @@ impl<'a, 'r, M: Mailbox, T: Receiver, S: Sender, G: Gate, J: Naming> CountingHea
     {
         CountingHeap {
             allocator,
-            counts: BufferCounts::none(),
+            counts: WorkerCounts::none(),
         }
     }
 
     /// Drops a buffer, and counts it.
     pub(crate) fn lose(&mut self, buffer: Buffer<'r, J>)
         ensures same { self.new.allocator ≡ self.old.allocator }
-        ensures counted { self.new.counts ≡ record self.old.counts { lost = capped (self.old.counts.lost + 1) } }
+        ensures counted { self.new.counts ≡ record self.old.counts { dropped = capped (self.old.counts.dropped + 1) } }
     {
-        self.counts.lost = self.counts.lost.saturating_add(1);
+        self.counts.dropped = self.counts.dropped.saturating_add(1);
         drop(buffer);
     }
 }
@@ -157,9 +157,8 @@ impl<
         ensures desk { SameDesk J.names self.old.allocator self.new.allocator }
         ensures lent { self.new.allocator.lent ≡ self.old.allocator.lent }
         ensures freed { self.new.allocator.freed ≡ self.old.allocator.freed ++ buffer.entry ∷ [] }
-        ensures counted { self.new.counts ≡ record self.old.counts { freed = capped (self.old.counts.freed + 1) } }
+        ensures counted { self.new.counts ≡ self.old.counts }
     {
-        self.counts.freed = self.counts.freed.saturating_add(1);
         self.allocator.free(rt, buffer);
     }
 
@@ -176,10 +175,8 @@ impl<
         ensures desk { SameDesk J.names self.old.allocator self.new.allocator }
         ensures lent { self.new.allocator.lent ≡ self.old.allocator.lent }
         ensures freed { self.new.allocator.freed ≡ self.old.allocator.freed ++ parcel.entry.items }
-        ensures counted { self.new.counts
-            ≡ record self.old.counts { freed = capped (self.old.counts.freed + length parcel.entry.items) } }
+        ensures counted { self.new.counts ≡ self.old.counts }
     {
-        self.counts.freed = self.counts.freed.saturating_add(parcel.len() as u64);
         self.allocator.free_all(rt, parcel);
     }
 

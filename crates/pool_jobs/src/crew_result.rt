@@ -5,7 +5,7 @@ ghost use Rattle.pool_fabric.specs.Stations.{StationState};
 ghost use Rattle.pool_jobs.specs.Counted.{IsLeastAt, both, counted_by, counts_of, none_counted, stations_of};
 
 use crate::counting_heap::WorkerResult;
-use crate::tally::BufferCounts;
+use crate::tally::WorkerCounts;
 use batch_inbox::{Receiver, Sender};
 use pool_fabric::{HeldStation, Naming};
 use std::alloc::{AllocError, Global};
@@ -14,7 +14,7 @@ use std::alloc::{AllocError, Global};
 #[derive(Drop)]
 pub struct CrewResult<'r, T: Receiver, S: Sender, J: Naming> {
     pub held: Vec<HeldStation<'r, T, S, J>>,
-    pub counts: BufferCounts,
+    pub counts: WorkerCounts,
 }
 
 impl<'r, T: Receiver, S: Sender, J: Naming> CrewResult<'r, T, S, J> {
@@ -25,7 +25,7 @@ impl<'r, T: Receiver, S: Sender, J: Naming> CrewResult<'r, T, S, J> {
     {
         CrewResult {
             held: Vec::new(alloc),
-            counts: BufferCounts::none(),
+            counts: WorkerCounts::none(),
         }
     }
 
@@ -38,7 +38,7 @@ impl<'r, T: Receiver, S: Sender, J: Naming> CrewResult<'r, T, S, J> {
         ensures held { IfOk result (λ b. b.held.items ≡ stations_of outcomes.entry.items) }
     {
         let mut held = Vec::new(alloc);
-        let mut counts = BufferCounts::none();
+        let mut counts = WorkerCounts::none();
         for outcome in outcomes {
             let more = kept(&mut held, outcome)?;
             counts = counts.plus(more);
@@ -96,12 +96,12 @@ fn place_of_least<'r, T: Receiver, S: Sender, J: Naming>(
 fn kept<'r, T: Receiver, S: Sender, J: Naming>(
     held: &mut Vec<HeldStation<'r, T, S, J>>,
     outcome: Option<WorkerResult<'r, T, S, J>>,
-) -> Result<BufferCounts, AllocError>
+) -> Result<WorkerCounts, AllocError>
     ensures counts { IfOk result (λ c. c ≡ counts_of outcome.entry) }
     ensures held { OnOk result (held.new.items ≡ held.old.items ++ stations_of (outcome.entry ∷ [])) }
 {
     let Some(WorkerResult { station, counts }) = outcome else {
-        return Ok(BufferCounts::none());
+        return Ok(WorkerCounts::none());
     };
     if let Some(station) = station {
         held.push(station)?;

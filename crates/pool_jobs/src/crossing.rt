@@ -15,8 +15,7 @@
 //!     let results = run_round(rt, alloc, start)?;   // in threads
 //!     rounds.take_in(results)?;
 //! }
-//! let CrewResult { held, counts } = rounds.end();
-//! settle(rt, alloc, fabric, held, counts)
+//! settle_crew(rt, alloc, fabric, rounds.end())
 //! ```
 //!
 //! For a program's own tasks:
@@ -30,7 +29,8 @@
 
 pub use crate::counting_heap::{CountingHeap, WorkerResult};
 pub use crate::crew_result::CrewResult;
-pub use crate::report::settle_tasks;
+pub use crate::report::{settle_crew, settle_tasks};
+pub use crate::tally::WorkerCounts;
 pub use crate::tasks::worker::{TaskReport, TaskResult, report_tasks, run_tasks, task_workers};
 pub use crate::workloads::rounds::{RoundStart, Rounds, run_round};
 pub use crate::workloads::rows::RoundResult;

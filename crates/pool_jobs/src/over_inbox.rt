@@ -1,12 +1,12 @@
 //! Tasks and workloads over the inbox of a queue.
-ghost use Rattle.std.specs.Prelude.{◌≡◌, ◌-◌, length, IfOk};
+ghost use Rattle.std.specs.Prelude.{◌≡◌, length, IfOk};
 ghost use Rattle.pool_jobs.specs.Ends.{IsAccounted};
 
 use crate::counting_heap::CountingHeap;
 use crate::crew_result::CrewResult;
 use crate::error::JobError;
 use crate::gate::Gate;
-use crate::report::{RunReport, WorkReport, settle, settle_tasks};
+use crate::report::{RunReport, WorkReport, settle_crew, settle_tasks};
 use crate::tasks::task::Task;
 use crate::tasks::worker::{TaskReport, report_tasks, run_tasks, task_workers};
 use crate::workloads::plan::{MOST_THREADS, Plan};
@@ -58,13 +58,13 @@ where
     J: Naming + Send + Sync,
     R: Threads + Wait + Clock + Sync,
     requires { J.names ≡ opening }
-    ensures accounted { IfOk result (λ e. IsAccounted opening.entry.chunks opening.entry.count e.found e.tally.audit) }
+    ensures accounted { IfOk result (λ e. IsAccounted opening.entry.chunks opening.entry.count e.found e.tally) }
 {
     let workers = opening.desks().min(MOST_THREADS as usize) as u32;
     let fabric = Fabric::open(alloc, opening)?;
     let rounds = Rounds::new(alloc, &fabric, gate, workload, plan, workers);
-    let CrewResult { held, counts } = all_rounds::<G, N, J, R>(rt, alloc, rounds)?;
-    Ok(settle(rt, alloc, fabric, held, counts)?)
+    let crew = all_rounds::<G, N, J, R>(rt, alloc, rounds)?;
+    settle_crew(rt, alloc, fabric, crew)
 }
 
 /// Runs a workload with a worker for each desk of the opening, in threads, and accounts for all that
@@ -87,7 +87,7 @@ where
     G: Gate + Sync,
     N: Rng + SeedableRng + Send + Drop,
     R: Threads + Wait + Clock + Sync,
-    ensures accounted { IfOk result (λ e. IsAccounted opening.entry.chunks opening.entry.count e.found e.tally.audit) }
+    ensures accounted { IfOk result (λ e. IsAccounted opening.entry.chunks opening.entry.count e.found e.tally) }
 {
     work_named::<G, N, Brand, R>(rt, alloc, opening, gate, workload, plan)
 }
@@ -126,9 +126,8 @@ where
     R: Threads + Wait + Clock + Sync,
     K::Answer: Send,
     requires { J.names ≡ opening }
-    ensures accounted { IfOk result (λ e. IsAccounted opening.entry.chunks opening.entry.count e.found e.tally.audit) }
+    ensures accounted { IfOk result (λ e. IsAccounted opening.entry.chunks opening.entry.count e.found e.tally) }
     ensures answers { IfOk result (λ e. length e.answers.items ≡ length tasks.items) }
-    ensures lost { IfOk result (λ e. e.tally.counts.lost ≡ e.tally.counts.allocated - e.tally.counts.freed) }
 {
     let wanted = tasks.len().min(MOST_THREADS as usize) as u32;
     let fabric = Fabric::open(alloc, opening)?;
@@ -161,9 +160,8 @@ where
     K: Task + Send,
     R: Threads + Wait + Clock + Sync,
     K::Answer: Send,
-    ensures accounted { IfOk result (λ e. IsAccounted opening.entry.chunks opening.entry.count e.found e.tally.audit) }
+    ensures accounted { IfOk result (λ e. IsAccounted opening.entry.chunks opening.entry.count e.found e.tally) }
     ensures answers { IfOk result (λ e. length e.answers.items ≡ length tasks.items) }
-    ensures lost { IfOk result (λ e. e.tally.counts.lost ≡ e.tally.counts.allocated - e.tally.counts.freed) }
 {
     run_named::<G, K, Brand, R>(rt, alloc, opening, gate, tasks)
 }

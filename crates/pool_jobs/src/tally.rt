@@ -1,73 +1,87 @@
 //! What was counted.
-ghost use Rattle.std.specs.Prelude.{◌≡◌, ◌+◌, ◌-◌, MatchBool};
+ghost use Rattle.std.specs.Prelude.{◌≡◌, ◌+◌, MatchBool};
+ghost use Rattle.pool_fabric.specs.Whole.{FreesNoMore};
 ghost use Rattle.slot_chain.specs.Counts.{capped};
 ghost use Rattle.pool_jobs.specs.Counted.{both, none_counted};
+ghost use Rattle.pool_jobs.specs.Tallies.{AreCountsOf};
 
+use pool_fabric::Found;
 use slot_audit::Fault;
 
-/// What workers counted. Each count stops at the greatest `u64`.
+/// What a worker counts that its station doesn't tell. Each count stops at the greatest `u64`.
 #[derive(Clone, Copy, Debug, PartialEq, Eq)]
-pub struct BufferCounts {
-    /// The buffers that were allocated.
-    pub allocated: u64,
-    /// The buffers that were freed, one by one or in parcels.
-    pub freed: u64,
+pub struct WorkerCounts {
     /// How often no buffer was to be had.
     pub starved: u64,
-    /// The buffers that were dropped.
-    pub lost: u64,
+    /// The buffers that it dropped since its workload says so.
+    pub dropped: u64,
 }
 
-impl BufferCounts {
+impl WorkerCounts {
     /// Nothing was counted.
-    pub fn none() -> BufferCounts
+    pub fn none() -> WorkerCounts
         ensures { result ≡ none_counted }
     {
-        BufferCounts {
-            allocated: 0,
-            freed: 0,
+        WorkerCounts {
             starved: 0,
-            lost: 0,
+            dropped: 0,
         }
     }
 
-    /// Counts a call of an allocator: whether it gave a buffer.
+    /// Counts a call of an allocator that gave no buffer.
     pub(crate) fn count(&mut self, is_given: bool)
         ensures { MatchBool is_given
-            (self.new ≡ record self.old { allocated = capped (self.old.allocated + 1) })
+            (self.new ≡ self.old)
             (self.new ≡ record self.old { starved = capped (self.old.starved + 1) }) }
     {
-        if is_given {
-            self.allocated = self.allocated.saturating_add(1);
-        } else {
+        if !is_given {
             self.starved = self.starved.saturating_add(1);
         }
     }
 
     /// Both counts, added up.
-    pub fn plus(self, other: BufferCounts) -> BufferCounts
+    pub fn plus(self, other: WorkerCounts) -> WorkerCounts
         ensures { result ≡ both self other }
     {
-        BufferCounts {
-            allocated: self.allocated.saturating_add(other.allocated),
-            freed: self.freed.saturating_add(other.freed),
+        WorkerCounts {
             starved: self.starved.saturating_add(other.starved),
-            lost: self.lost.saturating_add(other.lost),
-        }
-    }
-
-    /// The same counts, where all buffers that were not freed are dropped.
-    pub(crate) fn with_the_rest_lost(self) -> BufferCounts
-        ensures { result ≡ record self { lost = self.allocated - self.freed } }
-    {
-        BufferCounts {
-            lost: self.allocated.saturating_sub(self.freed),
-            ..self
+            dropped: self.dropped.saturating_add(other.dropped),
         }
     }
 }
 
-/// What all workers counted, and what the audit says of all that was found when they had ended.
+/// What was counted of the buffers of a pool. What was lent, freed and lost is counted modulo 2^64.
+#[derive(Clone, Copy, Debug, PartialEq, Eq)]
+pub struct BufferCounts {
+    /// The buffers that were lent.
+    pub allocated: u64,
+    /// The buffers that were freed, one by one or in parcels.
+    pub freed: u64,
+    /// How often no buffer was to be had, as far as it was counted. It stops at the greatest `u64`.
+    pub starved: u64,
+    /// The buffers that were lent and not freed: they were dropped, or are still held. Their slots are
+    /// missing.
+    pub lost: u64,
+}
+
+impl BufferCounts {
+    /// What was lent and freed, of all that was found.
+    pub(crate) fn of(found: &Found<'_>) -> BufferCounts
+        requires bounded { FreesNoMore found.now.lent found.now.freed }
+        ensures counts { AreCountsOf found.now.lent found.now.freed result }
+        ensures starved { result.starved ≡ 0 }
+    {
+        let (allocated, freed) = (found.lent.count(), found.freed.count());
+        BufferCounts {
+            allocated,
+            freed,
+            starved: 0,
+            lost: allocated.wrapping_sub(freed),
+        }
+    }
+}
+
+/// What was counted, and what the audit says of all that was found when all workers had ended.
 #[derive(Clone, Copy, Debug, PartialEq, Eq)]
 pub struct Tally {
     pub counts: BufferCounts,

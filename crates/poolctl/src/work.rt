@@ -5,7 +5,7 @@ ghost use Rattle.trace_audit.specs.Wire.{Begins, Writes};
 ghost use Rattle.std.specs.Io.KnownBytes.{Appends};
 ghost use Rattle.pool_jobs.specs.declared.tally.Tally.{Tally as Counted};
 ghost use Rattle.poolctl_words.specs.Asked.{CanRun, workload_name};
-ghost use Rattle.poolctl.specs.Works.{tally_text, work_text};
+ghost use Rattle.poolctl.specs.Works.{IsTallyOf, tally_text, work_text};
 
 use crate::lines::{push_number, push_word};
 use crate::outcome::Outcome;
@@ -88,6 +88,7 @@ fn tally_over<'r, H: Threads + Wait + Clock + Sync>(
     region: &'r mut [u8],
 ) -> Result<Tally, JobError>
     requires { CanRun asked.now }
+    ensures { IfOk result (IsTallyOf asked.now) }
 {
     let Ok(parts) = cut(alloc, region) else {
         return Err(JobError::NoMemory);
@@ -128,6 +129,7 @@ fn tally_of<H: Threads + Wait + Clock + Sync>(
     asked: &Work,
 ) -> Result<Tally, JobError>
     requires { CanRun asked.now }
+    ensures { IfOk result (IsTallyOf asked.now) }
 {
     let Ok(mut region) = vec![in alloc; 0u8; asked.chunks as usize * CHUNK] else {
         return Err(JobError::NoMemory);
@@ -135,7 +137,7 @@ fn tally_of<H: Threads + Wait + Clock + Sync>(
     tally_over(rt, alloc, asked, region.as_mut_slice())
 }
 
-/// Runs a workload, and writes what its workers counted and the line of the audit. Nothing is written where the
+/// Runs a workload, and writes what was counted and the line of the audit. Nothing is written where the
 /// workload could not be run, or its lines could not be made, for want of memory or of a thread.
 pub fn run_work<W: Sink, H: Threads + Wait + Clock + Sync>(
     rt: &H,
@@ -145,12 +147,12 @@ pub fn run_work<W: Sink, H: Threads + Wait + Clock + Sync>(
 ) -> Outcome
     requires down { W.has_failed sink.old ≡ false }
     requires runs { CanRun asked.now }
-    ensures done { result ≡ Outcome.Done → (t : Counted) × IsOk t.audit
+    ensures done { result ≡ Outcome.Done → (t : Counted) × IsTallyOf asked.now t × IsOk t.audit
         × Appends (W.contents sink.old) (W.contents sink.new) (work_text asked.now t) }
-    ensures audit { result ≡ Outcome.AuditFailed → (t : Counted) × IsErr t.audit
+    ensures audit { result ≡ Outcome.AuditFailed → (t : Counted) × IsTallyOf asked.now t × IsErr t.audit
         × Appends (W.contents sink.old) (W.contents sink.new) (work_text asked.now t) }
     ensures unrun { (result ≡ Outcome.NoMemory) ⊎ (result ≡ Outcome.NoThread) → sink.new ≡ sink.old }
-    ensures begun { result ≡ Outcome.WriteFailed → (t : Counted)
+    ensures begun { result ≡ Outcome.WriteFailed → (t : Counted) × IsTallyOf asked.now t
         × Begins (W.contents sink.old) (W.contents sink.new) (work_text asked.now t) }
     ensures known { (result ≡ Outcome.Done) ⊎ (result ≡ Outcome.AuditFailed) ⊎ (result ≡ Outcome.NoMemory)
         ⊎ (result ≡ Outcome.NoThread) ⊎ (result ≡ Outcome.WriteFailed) }

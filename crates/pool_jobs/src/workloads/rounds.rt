@@ -113,7 +113,7 @@ where
 ///     let results = run_round(rt, alloc, start)?;
 ///     rounds.take_in(results)?;
 /// }
-/// let CrewResult { held, counts } = rounds.end();
+/// let crew = rounds.end();
 /// ```
 #[derive(Drop)]
 pub struct Rounds<'a, 'r, M: Mailbox, T: Receiver, S: Sender, G: Gate, J: Naming> {
@@ -234,7 +234,7 @@ impl<
         // each worker of each round draws from a seed of its own
         let earlier = u64::from(number).wrapping_mul(u64::from(MOST_THREADS));
         let seed = u64::from(self.plan.seed).wrapping_add(earlier);
-        let drops = self.plan.drop_first && self.crew.counts.lost == 0;
+        let drops = self.plan.drop_first && self.crew.counts.dropped == 0;
         let rows = self.rows_out()?;
         let builders = self.builders(seed, drops)?;
         Ok(RoundStart {

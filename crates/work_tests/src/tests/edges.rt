@@ -3,6 +3,8 @@ ghost use Rattle.std.specs.Prelude.{◌≡◌, ◌≤◌};
 
 use super::{BOTH, Ground, Inboxes, Outcome, outcome_of};
 use pool_jobs::{Burst, Bytes, Channels, Data, Heap, Message, PoolError, Task, Unsent};
+use region_cut::Slot;
+use slot_audit::Fault;
 use std::sync::Wait;
 use std::test::Fail;
 use std::time::{Clock, Duration};
@@ -17,6 +19,8 @@ enum Act {
     // Sends parcels of four lines, which the next task reads.
     Packs(u32),
     Reads(u32),
+    // Drops a parcel of four lines, and frees an empty one.
+    Drops,
 }
 
 impl Task for Act {
@@ -45,6 +49,7 @@ impl Task for Act {
             Act::Waits => wait(rt, heap),
             Act::Packs(count) => pack(rt, heap, &channels, count),
             Act::Reads(count) => read(rt, heap, &channels, count),
+            Act::Drops => drop_four(rt, heap),
         }
     }
 }
@@ -164,6 +169,27 @@ fn read<H: Heap, R: Wait>(
     }
 }
 
+fn drop_four<H: Heap, R: Wait>(rt: &R, heap: &mut H) -> Option<&'static str> {
+    let Ok(mut parcel) = heap.parcel(4) else {
+        return Some("no parcel");
+    };
+    for _ in 0..4 {
+        let Ok(buffer) = line(rt, heap, b"line") else {
+            return Some("no buffer");
+        };
+        if let Err(buffer) = parcel.push(buffer) {
+            heap.free(rt, buffer);
+            return Some("no room in the parcel");
+        }
+    }
+    drop(parcel);
+    let Ok(empty) = heap.parcel(4) else {
+        return Some("no empty parcel");
+    };
+    heap.free_all(rt, empty);
+    None
+}
+
 // A pool of so many chunks, with one desk for each task.
 fn ground(inboxes: Inboxes, chunks: usize, desks: u16) -> Ground
     requires { (1 ≤ desks) × (desks ≤ 64) × (chunks ≤ 1024) }
@@ -210,6 +236,20 @@ fn parcels_keep_their_lengths(rt: HostRuntime) -> Result<(), Fail> {
         assert!(rt; answers.as_slice() == [Some(None), Some(None)].as_slice());
         assert!(rt; tally.counts.allocated == 400 && tally.counts.freed == 400);
         assert!(rt; tally.audit.is_ok());
+    }
+    Ok(())
+}
+
+// An empty parcel that is freed counts nothing.
+#[test]
+fn a_dropped_parcel_is_lost(rt: HostRuntime) -> Result<(), Fail> {
+    let first = Slot { chunk: 0, index: 0 };
+    for inboxes in BOTH {
+        let tasks = vec![in rt.alloc(); Act::Drops]?;
+        let Outcome { answers, tally } = outcome_of(&rt, ground(inboxes, 1, 1), tasks)?;
+        assert!(rt; answers.as_slice() == [Some(None)].as_slice());
+        assert!(rt; tally.counts.allocated == 4 && tally.counts.freed == 0);
+        assert!(rt; tally.counts.lost == 4 && tally.audit == Err(Fault::Missing(first)));
     }
     Ok(())
 }

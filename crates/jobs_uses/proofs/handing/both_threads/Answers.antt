@@ -56,7 +56,7 @@ module _ (r : NamedLft) (J : RattleType) (j : Naming.Ghosts J.Denot) where
   in_left : AllSend (fields (Left.the_type r J j))
   in_left = (
     search (sendable, crosses, held_send, take_send, seat_send) depth 40 fits 6000,
-    (search (sendable, crosses) depth 40 fits 6000, (search (sendable, crosses) depth 40 fits 6000, tt)),
+    (search (sendable, crosses) depth 40 fits 6000, tt),
   )
 
   left_send : IsSend (Left.the_row r J j)

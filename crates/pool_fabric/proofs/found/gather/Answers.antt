@@ -57,4 +57,4 @@ returns-clause-stations g c =
 pub returns-clause-once : goal.returns-clause-once
 returns-clause-once g c =
     let f = c.finish.result in
-    at_most_once f.desks.items f.batches.items f.lent.items f.freed.items f.parts.items g.J.Naming.names.chunks f.drawn c.finish.ensures.whole c.finish.ensures.drawn c.finish.ensures.bounded c.stock.invariant.once
+    at_most_once f.desks.items f.batches.items f.lent f.freed f.parts.items g.J.Naming.names.chunks f.drawn c.finish.ensures.whole c.finish.ensures.drawn c.finish.ensures.bounded c.stock.invariant.once

@@ -20,7 +20,7 @@ returns-clause-whole g c =
     ∙ c.requires.chunks w)
 
 pub returns-clause-bounded : goal.returns-clause-bounded
-returns-clause-bounded g c = frees_no_more c.self.inside.page c.close.new.page c.self.inside.lent.items c.self.inside.freed.items c.self.invariant.loans c.close.ensures.page c.close.ensures.bounded
+returns-clause-bounded g c = frees_no_more c.self.inside.page c.close.new.page c.self.inside.lent c.self.inside.freed c.self.invariant.loans c.close.ensures.page c.close.ensures.bounded
 
 pub returns-clause-desks : goal.returns-clause-desks
 returns-clause-desks g c = subst (λ k. IsEachDesk k c.self.inside.desks.items) (ap (λ (s : GatheredState). length s.rows) c.self.view_is ∙ c.requires.columns.2) c.self.invariant.desks
