@@ -1,11 +1,13 @@
 //! The pool of a program.
-ghost use Rattle.std.specs.Prelude.{◌≡◌, ◌-◌, ◌/◌, ◌^◌, ◌≤◌, ◌<◌, ◌↔◌, Some, length, IfOk};
+ghost use Rattle.std.specs.Prelude.{◌≡◌, ℕ, ◌-◌, ◌/◌, ◌^◌, ◌≤◌, ◌<◌, ◌↔◌, Some, length, IfOk, IfSome};
+ghost use Rattle.std.specs.List.{AllZip};
 ghost use Rattle.region_cut.specs.Limits.{chunk_limit, chunk_size};
 ghost use Rattle.region_cut.specs.Parts.{numbers_from};
 ghost use Rattle.region_cut.specs.declared.error.CutError.TheVariants.{TooMany};
 ghost use Rattle.digit_route.specs.Limits.{largest_limit};
 ghost use Rattle.pool_fabric.specs.Opened.{most_desks};
 ghost use Rattle.pool_jobs.specs.Ends.{IsAccounted};
+ghost use Rattle.pool_jobs.specs.Promises.{FirstHave};
 ghost use Rattle.fustrevol.specs.Pools.{desks_for};
 ghost use Rattle.fustrevol.specs.declared.pool.InboxKind.TheVariants.{Linked};
 
@@ -154,7 +156,8 @@ impl<'r> Pool<'r> {
     /// nothing is there twice. Counted slot by slot, found + lent = slots of the drawn chunks + freed.
     ///
     /// The audit of the tally is that of the slots found. Where buffers were dropped, it names only the
-    /// least of their slots, or answers that it had no memory; `lost` counts those buffers.
+    /// least of their slots, or answers that it had no memory; `lost` counts those buffers. Each task that
+    /// was begun answered what it promised ([`Task`]'s `gives`).
     ///
     /// [`JobError::NoThread`]: a thread could not be started. [`JobError::NoMemory`]: the system
     /// refused memory for the run's own desks, queues, edges or lists. The threads that were started
@@ -167,6 +170,8 @@ impl<'r> Pool<'r> {
         ensures accounted { IfOk result (λ e.
             IsAccounted self.entry.chunks (desks_for (length tasks.items)) e.found e.tally) }
         ensures answers { IfOk result (λ e. length e.answers.items ≡ length tasks.items) }
+        ensures promised { IfOk result (λ e. AllZip (λ t a. IfSome a (K.gives t)) tasks.items e.answers.items) }
+        ensures begun { IfOk result (λ e. (n : ℕ) × (n ≤ most_desks) × FirstHave (λ a. a) n e.answers.items) }
     {
         let digits = self.digits.unwrap_or(straight(tasks.len()));
         let desks = desks_for(tasks.len(), digits);

@@ -20,6 +20,8 @@ mod pair;
 #[cfg(test)]
 mod passing;
 #[cfg(test)]
+mod promised;
+#[cfg(test)]
 mod taking_up;
 #[cfg(test)]
 mod tests;
@@ -46,6 +48,8 @@ pub use over_counting::work_counting;
 pub use over_counting_link::work_counting_linked;
 #[cfg(test)]
 pub use passing::{Passed, pass_on};
+#[cfg(test)]
+pub use promised::{Ask, ask_there};
 #[cfg(test)]
 pub use taking_up::{Answers, TakenUp, take_up_desk};
 #[cfg(test)]

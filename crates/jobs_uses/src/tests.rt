@@ -1,5 +1,5 @@
-//! Tests of allocators: alone, two that share a pool, buffer by buffer and in bursts, and a workload whose posts are
-//! counted. The words of refusals.
+//! Tests of allocators: alone, two that share a pool, buffer by buffer and in bursts, a task that promises its answer,
+//! and a workload whose posts are counted. The words of refusals.
 
 mod again;
 mod alone;
@@ -7,6 +7,7 @@ mod bursts;
 mod counted;
 mod handing;
 mod passing;
+mod promised;
 mod refused;
 mod taking_up;
 mod unheard;

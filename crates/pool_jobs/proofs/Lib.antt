@@ -5,4 +5,5 @@ pub mod Largest
 pub mod Travels
 pub mod Waits
 pub mod Fillings
+pub mod Promised
 pub mod Lost

@@ -5,3 +5,4 @@ pub mod Rounds
 pub mod Counted
 pub mod Edges
 pub mod Tallies
+pub mod Promises

@@ -1,6 +1,9 @@
 //! Tasks and workloads over the inbox of two atomic steps.
-ghost use Rattle.std.specs.Prelude.{◌≡◌, length, IfOk};
+ghost use Rattle.std.specs.Prelude.{◌≡◌, ◌≤◌, ℕ, length, IfOk, IfSome};
 ghost use Rattle.pool_jobs.specs.Ends.{IsAccounted};
+ghost use Rattle.std.specs.List.{AllZip};
+ghost use Rattle.pool_fabric.specs.Opened.{most_desks};
+ghost use Rattle.pool_jobs.specs.Promises.{FirstHave};
 
 use crate::counting_heap::CountingHeap;
 use crate::crew_result::CrewResult;
@@ -100,7 +103,8 @@ where
     J: Naming + Send + Sync,
     R: Threads + Wait + Clock + Sync,
     K::Answer: Send,
-    ensures each { IfOk result (λ r. length r.answers.items ≡ length tasks.items) }
+    ensures promised { IfOk result (λ r. AllZip (λ t a. IfSome a (K.gives t)) tasks.items r.answers.items) }
+    ensures begun { IfOk result (λ r. FirstHave (λ a. a) (length workers.entry.items) r.answers.items) }
 {
     let results = run_tasks(rt, alloc, workers, tasks)?;
     report_tasks(alloc, results)
@@ -123,6 +127,8 @@ where
     requires { J.names ≡ opening }
     ensures accounted { IfOk result (λ e. IsAccounted opening.entry.chunks opening.entry.count e.found e.tally) }
     ensures answers { IfOk result (λ e. length e.answers.items ≡ length tasks.items) }
+    ensures promised { IfOk result (λ e. AllZip (λ t a. IfSome a (K.gives t)) tasks.items e.answers.items) }
+    ensures begun { IfOk result (λ e. (n : ℕ) × (n ≤ most_desks) × FirstHave (λ a. a) n e.answers.items) }
 {
     let wanted = tasks.len().min(MOST_THREADS as usize) as u32;
     let fabric = Fabric::open(alloc, opening)?;
@@ -147,6 +153,8 @@ where
     K::Answer: Send,
     ensures accounted { IfOk result (λ e. IsAccounted opening.entry.chunks opening.entry.count e.found e.tally) }
     ensures answers { IfOk result (λ e. length e.answers.items ≡ length tasks.items) }
+    ensures promised { IfOk result (λ e. AllZip (λ t a. IfSome a (K.gives t)) tasks.items e.answers.items) }
+    ensures begun { IfOk result (λ e. (n : ℕ) × (n ≤ most_desks) × FirstHave (λ a. a) n e.answers.items) }
 {
     run_named::<G, K, Brand, R>(rt, alloc, opening, gate, tasks)
 }

@@ -1,6 +1,6 @@
 //! Whichever one allocation is refused, a second try has its answer, and nothing is lost.
 
-use crate::work_alone;
+use crate::{ask_there, work_alone};
 use digit_route::Digits;
 use pool_fabric::Opening;
 use pool_jobs::{NoGate, Plan, Tally, WorkReport, Workload, work};
@@ -88,4 +88,27 @@ fn two_workers_try_again(rt: HostRuntime) {
         None => prodcons_over(&rt, alloc, &mut region).expect(&rt, "memory is there again"),
     };
     account_holds(&rt, tally);
+}
+
+// How many bytes a task's buffer has, or none where memory or a thread was refused.
+fn asked_over<R: Threads + Wait + Clock + Sync>(
+    rt: &R,
+    alloc: Global,
+    region: &mut [u8],
+) -> Option<usize> {
+    let parts = cut(alloc, region).ok()?;
+    let digits = Digits::new(2)?;
+    let opening = Opening::new(alloc, parts, 1, digits, 4_096).ok()?;
+    ask_there(rt, alloc, opening, 100).ok()??.ok()
+}
+
+#[test]
+fn a_task_tries_again(rt: HostRuntime) {
+    let alloc = rt.alloc();
+    let mut region = bytes_of(&rt, alloc, CHUNK);
+    let bytes = match asked_over(&rt, alloc, &mut region) {
+        Some(bytes) => bytes,
+        None => asked_over(&rt, alloc, &mut region).expect(&rt, "memory is there again"),
+    };
+    assert!(rt; bytes == 112);
 }

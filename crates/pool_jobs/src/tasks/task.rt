@@ -7,7 +7,8 @@ use std::time::Clock;
 /// How many messages may wait at the end of an edge, where a task doesn't say otherwise.
 pub const DEFAULT_BOUND: usize = 64;
 
-/// What one thread of a program does, at an allocator of its own.
+/// What one thread of a program does, at an allocator of its own. A task's number is its place in the
+/// list given to [`run`](crate::run), from 0.
 ///
 /// The trait names no lifetime and no inbox, so that a thread may own a task. A task answers with a
 /// value that holds no buffer: what it neither freed nor handed on is dropped, and its slot is lost
@@ -15,6 +16,10 @@ pub const DEFAULT_BOUND: usize = 64;
 pub trait Task: Drop {
     /// What it answers at its end, as a sum or a fault of its own.
     type Answer: Drop;
+
+    /// What the task promises of its answer: nothing, where it doesn't say. `run` is proved to keep it,
+    /// and who runs the tasks knows it of each answer.
+    ghost gives: { Self → Self.Answer → Type 0 } = { λ _ _. Unit {0} };
 
     /// Whether it hands buffers or parcels to the task of this number. It is asked before any task runs.
     fn sends_to(&self, task: usize) -> bool;
@@ -30,5 +35,6 @@ pub trait Task: Drop {
         rt: &R,
         heap: &mut H,
         channels: Channels<H::Buffer, H::Parcel>,
-    ) -> Self::Answer;
+    ) -> Self::Answer
+        ensures promised { gives self result };
 }

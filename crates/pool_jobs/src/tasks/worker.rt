@@ -1,6 +1,8 @@
 //! A worker that does one task.
-ghost use Rattle.std.specs.Prelude.{◌≡◌, ◌≤◌, length, map, IfOk};
+ghost use Rattle.std.specs.Prelude.{◌≡◌, ◌≤◌, length, map, None, IfOk, IfSome, IsSomeAnd, MatchOption};
+ghost use Rattle.std.specs.List.{AllZip};
 ghost use Rattle.pool_jobs.specs.Counted.{counted_by, stations_of};
+ghost use Rattle.pool_jobs.specs.Promises.{FirstHave};
 
 use crate::counting_heap::{CountingHeap, WorkerResult};
 use crate::crew::{Job, crew};
@@ -32,7 +34,8 @@ pub trait TaskWorker: Drop + Sized {
         rt: &R,
         task: K,
         channels: Channels<Self::Buffer, Self::Parcel>,
-    ) -> TaskResult<Self, K>;
+    ) -> TaskResult<Self, K>
+        ensures promised { IsSomeAnd result.answer (K.gives task) };
 }
 
 /// What one task gave: its answer, and what its worker gives back. There is neither where no worker was
@@ -63,7 +66,9 @@ impl<
         rt: &R,
         task: K,
         channels: Channels<Buffer<'r, J>, Parcel<'r, J>>,
-    ) -> TaskResult<CountingHeap<'a, 'r, M, T, S, G, J>, K> {
+    ) -> TaskResult<CountingHeap<'a, 'r, M, T, S, G, J>, K>
+        ensures promised { IsSomeAnd result.answer (K.gives task) }
+    {
         let mut heap = self;
         let answer = task.run(rt, &mut heap, channels);
         TaskResult {
@@ -83,6 +88,8 @@ struct TaskJob<W: TaskWorker, K: Task> {
 
 impl<W: TaskWorker, K: Task> Job for TaskJob<W, K> {
     type Out = TaskResult<W, K>;
+
+    ghost gives = { λ j r. MatchOption j.worker (r.answer ≡ None) (λ _. IsSomeAnd r.answer (K.gives j.task)) };
 
     fn run<R: Wait + Clock>(self, rt: &R) -> TaskResult<W, K> {
         let TaskJob {
@@ -155,7 +162,8 @@ fn jobs_of<W: TaskWorker, K: Task>(
     channels: Vec<Channels<W::Buffer, W::Parcel>>,
 ) -> Result<Vec<TaskJob<W, K>>, AllocError>
     requires { length channels.items ≡ length tasks.items }
-    ensures { IfOk result (λ jobs. length jobs.items ≡ length tasks.items) }
+    ensures tasks { IfOk result (λ jobs. AllZip (λ t j. j.task ≡ t) tasks.items jobs.items) }
+    ensures workers { IfOk result (λ jobs. FirstHave (λ j. j.worker) (length workers.items) jobs.items) }
 {
     let mut workers = workers.into_iter();
     let mut jobs = Vec::new(alloc);
@@ -170,7 +178,7 @@ fn jobs_of<W: TaskWorker, K: Task>(
 }
 
 /// Does each task in a thread of its own, and joins them all. The tasks get the workers in order; one for
-/// which there is no worker is not begun.
+/// which there is no worker is not begun. Each answers what it promised.
 ///
 /// It is to be called from a free function that names the inbox: elsewhere the check can't tell that
 /// its workers may cross to threads.
@@ -188,7 +196,8 @@ where
     W::Parcel: Send,
     W::Outcome: Send,
     K::Answer: Send,
-    ensures each { IfOk result (λ all. length all.items ≡ length tasks.items) }
+    ensures promised { IfOk result (λ all. AllZip (λ t r. IfSome r.answer (K.gives t)) tasks.items all.items) }
+    ensures begun { IfOk result (λ all. FirstHave (λ r. r.answer) (length workers.items) all.items) }
 {
     let channels = channels_of::<W::Buffer, W::Parcel, K>(alloc, &tasks)?;
     let jobs = jobs_of(alloc, workers, tasks, channels)?;
@@ -215,7 +224,7 @@ fn split_results<W: TaskWorker, K: Task>(
     alloc: Global,
     results: Vec<TaskResult<W, K>>,
 ) -> Result<SplitResults<W, K>, AllocError>
-    ensures each { IfOk result (λ r. length r.answers.items ≡ length results.items) }
+    ensures answers { IfOk result (λ r. r.answers.items ≡ map (λ s. s.answer) results.items) }
     ensures outcomes { IfOk result (λ r. r.outcomes.items ≡ map (λ s. s.outcome) results.items) }
 {
     let mut outcomes = Vec::new(alloc);
@@ -240,7 +249,7 @@ where
     G: Gate,
     J: Naming,
     K: Task,
-    ensures each { IfOk result (λ r. length r.answers.items ≡ length results.entry.items) }
+    ensures answers { IfOk result (λ r. r.answers.items ≡ map (λ s. s.answer) results.entry.items) }
     ensures counted { IfOk result (λ r. r.crew.counts ≡ counted_by (map (λ s. s.outcome) results.entry.items)) }
     ensures held { IfOk result (λ r. r.crew.held.items ≡ stations_of (map (λ s. s.outcome) results.entry.items)) }
 {

@@ -1,8 +1,8 @@
-use Rattle.std.proofs.Common.{◌≡◌, length, map}
+use Rattle.std.proofs.Common.{◌≡◌, map}
 use Rattle.pool_jobs.proofs.tasks.worker.split_results.Given as goal
 
 abbrev pub invariant-loop-one : goal.invariant-loop-one
 invariant-loop-one g l = record {
-  each : length l.answers.items ≡ length l.yielded;
+  answers : l.answers.items ≡ map (λ s. s.answer) l.yielded;
   outcomes : l.outcomes.items ≡ map (λ s. s.outcome) l.yielded;
 }
