@@ -171,31 +171,12 @@ impl<
         }
     }
 
-    // Sees to it that a slot of the class is at home, where one is to be had.
+    // Whether a slot of the class has to be fetched before the desk is asked.
     #[inline(always)]
-    fn provide<R: Wait>(&mut self, rt: &R, class: Class)
-        requires { class < classes_of (profile_of J.names.digits.bits) }
-        ensures { Keeps J.names self.old self.new }
+    fn is_to_fetch(&mut self, class: Class) -> bool
+        ensures { self.new ≡ self.old }
     {
-        // It answers nothing: memory for an answer would be cleared before anything is done.
-        if self.is_to_look() || !self.station.has_home(class) {
-            self.fetch(rt, class);
-        }
-    }
-
-    // Gives a buffer of the class for so many bytes.
-    #[inline(always)]
-    fn serve<R: Wait>(&mut self, rt: &R, size: usize) -> Result<Buffer<'r, J>, PoolError>
-        ensures { Serves J.names self.old size result self.new }
-    {
-        recall(&self.station);
-        match self.class_for(size) {
-            None => Err(PoolError::TooLarge),
-            Some(class) => {
-                self.provide(rt, class);
-                self.ask(class)
-            }
-        }
+        self.is_to_look() || !self.station.has_home(class)
     }
 
     /// Lends a buffer of at least `size` bytes. Nothing of it is cleared.
@@ -207,13 +188,24 @@ impl<
     /// [`PoolError::TooLarge`]: no class is large enough. [`PoolError::UsedUp`]: no slot of the class
     /// was at home, none came, and the stock was empty. [`PoolError::NoMemory`]: the system refused the
     /// memory for a slot's first use.
+    // One function from here to the desk, but for what is seldom: the compiler looks at a flag behind each
+    // call that may wait, inlined or not.
     #[inline(always)]
     pub fn alloc<R: Wait>(&mut self, rt: &R, size: usize) -> Result<Buffer<'r, J>, PoolError>
         ensures { Serves J.names self.old size result self.new }
     {
         let call = self.next_call();
         self.gate.before(self.worker, call);
-        let answer = self.serve(rt, size);
+        recall(&self.station);
+        let answer = match self.class_for(size) {
+            None => Err(PoolError::TooLarge),
+            Some(class) => {
+                if self.is_to_fetch(class) {
+                    self.fetch(rt, class);
+                }
+                self.ask(class)
+            }
+        };
         self.gate.after(self.worker, call);
         answer
     }
