@@ -19,6 +19,7 @@ pub use pool_jobs::{
     Message, Parcel, PoolError, RunReport, Tally, Task, Unsent,
 };
 pub use region_cut::{CHUNK, CutError, MAX_CHUNKS};
+pub use slot_audit::Fault;
 pub use slot_chain::{Full, NoMemory};
 
 /// A task's ends of its edges. Each message is a buffer or a parcel, of the types of its allocator `H`.
