@@ -16,13 +16,13 @@ impl Task for Worker {
         self.0 == 0 && task == 1
     }
 
-    fn run<H: Heap, R: Wait + Clock>(self, rt: &R, heap: &mut H, to: Edges<H>) -> Self::Answer {
+    fn run<H: Heap, R: Wait + Clock>(self, rt: &R, heap: &mut H, edges: Edges<H>) -> Self::Answer {
         for line in 0..1_000 {
             if self.0 == 0 {
                 let mut buffer = heap.alloc_waiting(rt, 32)?;
                 let _fits = write!(buffer, "line {line}\n");
-                let _sent = to.send_buffer(rt, heap, 1, buffer);
-            } else if let Some(message) = to.receive(rt, heap) {
+                let _sent = edges.send_buffer(rt, heap, 1, buffer);
+            } else if let Some(message) = edges.receive(rt, heap) {
                 message.free(rt, heap);
             }
         }
