@@ -7,7 +7,8 @@ the same lines: `file: PATH` and then pairs of `old: TEXT`, which stands in that
 and `new: TEXT`. Its line `says: TEXT` is what the compiler must say.
 
 Prints a line for each edit. The exit status is 1 where one was not refused in these words. As many are tried at a
-time as there are processors.
+time as there are processors. One that was not refused then is tried again alone: where two copies build a library at
+the same time, rt may begin with what the other has kept, and find it gone.
 """
 import concurrent.futures
 import os
@@ -66,10 +67,13 @@ def main():
     failed = 0
     edits = sorted(TOP.glob("crates/*/must-not-compile/*.edit"))
     with concurrent.futures.ThreadPoolExecutor(len(os.sched_getaffinity(0))) as pool:
-        for edit, (good, said) in zip(edits, pool.map(refused, edits)):
-            name = edit.relative_to(TOP)
-            print(f"refused: {name}" if good else f"NOT REFUSED AS IT MUST BE: {name}\n{said}", flush=True)
-            failed += not good
+        tried = list(zip(edits, pool.map(refused, edits)))
+    for edit, (good, said) in tried:
+        if not good:
+            good, said = refused(edit)
+        name = edit.relative_to(TOP)
+        print(f"refused: {name}" if good else f"NOT REFUSED AS IT MUST BE: {name}\n{said}", flush=True)
+        failed += not good
     sys.exit(1 if failed else 0)
 
 
