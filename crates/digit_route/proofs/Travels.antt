@@ -8,6 +8,7 @@ use Rattle.slot_chain.proofs.link.Link.TheSendSync.{the_send as link_send}
 use Rattle.slot_chain.specs.contracts.chain.Chain as Chain
 use Rattle.slot_chain.specs.contracts.magazine.Magazine as Magazine
 use Rattle.slot_chain.specs.contracts.buf.Buf as Buf
+use Rattle.slot_chain.specs.contracts.parcel.BufParcel as BufParcel
 use Rattle.digit_route.specs.contracts.batch.Batch as Batch
 use Rattle.digit_route.specs.contracts.cache.Cache as Cache
 
@@ -25,3 +26,6 @@ batch_send a = search (sendable, crosses, magazine_send) depth 40 fits 6000
 
 pub cache_send : (a : NamedLft) → IsSend (Cache.the_row a)
 cache_send a = search (sendable, crosses, magazine_send) depth 40 fits 6000
+
+pub parcel_send : (a : NamedLft) → IsSend (BufParcel.the_row a)
+parcel_send a = search (sendable, crosses, buf_send) depth 40 fits 6000

@@ -11,8 +11,7 @@ use Rattle.atomic_blocks.proofs.web.Web.TheSendSync.{the_sync as line_sync}
 use Rattle.loan_ledger.proofs.Travels.{loans_send, receipt_send}
 use Rattle.region_cut.proofs.part.Part.TheSendSync.{the_send as part_send}
 use Rattle.slot_chain.specs.contracts.buf.Buf as Buf
-use Rattle.slot_chain.specs.contracts.parcel.BufParcel as BufParcel
-use Rattle.digit_route.proofs.Travels.{buf_send, batch_send}
+use Rattle.digit_route.proofs.Travels.{buf_send, batch_send, parcel_send as packed_send}
 use Rattle.pool_desk.proofs.Travels.{desk_send}
 use Rattle.pool_desk.specs.contracts.desk.Desk as Desk
 use Rattle.slot_audit.specs.contracts.drawn.Drawn as Drawn
@@ -59,9 +58,6 @@ pub inbox_sync : (a : NamedLft) → IsSync (Inbox.the_row a)
 inbox_sync a = search (sendable, crosses, line_sync, option_send, batch_send) depth 40 fits 6000
 
 -- a parcel of buffers
-
-packed_send : (r : NamedLft) → IsSend (BufParcel.the_row r)
-packed_send r = search (sendable, crosses, buf_send) depth 40 fits 6000
 
 pub parcel_send : (r : NamedLft) (J : RattleType) (j : Naming.Ghosts J.Denot) → IsSend (Parcel.the_row r J j)
 parcel_send r X j = view_send _ _ _ _ _ (send_fields (InParcel.the_type r X j) (packed_send r, (receipt_send, (search (sendable, crosses) depth 40 fits 6000, tt))))

@@ -122,7 +122,6 @@ impl<'r, J: Naming> Parcel<'r, J> {
             (λ b. (self.old.items ≡ self.new.items ++ b ∷ [])
             × (self.new ≡ record self.old { items = self.new.items })) }
     {
-        let _packed = self.parcel.owner();
         let buf = self.parcel.pop()?;
         let receipt = self.receipt.split_last(buf.slot());
         Some(Buffer::new(buf, receipt))

@@ -14,11 +14,10 @@ use Rattle.atomic_table.proofs.shared.Seat.TheSendSync.{the_send as token_send}
 use Rattle.atomic_table.specs.contracts.send_lease.SendLease as SendLease
 use Rattle.atomic_table.proofs.send_lease.SendLease.TheSendSync.{the_sync as lease_sync, the_send as lease_send}
 use Rattle.region_cut.proofs.part.Part.TheSendSync.{the_send as part_send}
-use Rattle.digit_route.proofs.Travels.{buf_send, batch_send}
+use Rattle.digit_route.proofs.Travels.{buf_send, batch_send, parcel_send}
 use Rattle.pool_desk.proofs.Travels.{desk_send}
 use Rattle.link_inbox.specs.contracts.inbox.LinkInbox as LinkInbox
 use Rattle.link_inbox.proofs.Travels.{link_inbox_sync, seat_send, take_send}
-use Rattle.slot_chain.specs.contracts.parcel.BufParcel as BufParcel
 use Rattle.slot_audit.specs.contracts.drawn.Drawn as Drawn
 use Rattle.chunk_stock.specs.contracts.drawer.Stock as Stock
 use Rattle.chunk_stock.specs.contracts.drawer.Drawer as Drawer
@@ -81,9 +80,6 @@ station_send a =
 
 pub seated_send : (a : NamedLft) → IsSend (AllocatorHandle.the_row a)
 seated_send a = search (sendable, crosses, option_send, station_send) depth 40 fits 6000
-
-parcel_send : (a : NamedLft) → IsSend (BufParcel.the_row a)
-parcel_send a = search (sendable, crosses, buf_send) depth 40 fits 6000
 
 pub burst_send : (a : NamedLft) → IsSend (BurstHandle.the_row a)
 burst_send a = search (sendable, crosses, option_send, parcel_send) depth 40 fits 6000

@@ -1,6 +1,6 @@
 //! Buffers of one allocator that are handed over and freed as a whole.
 ghost use Rattle.std.specs.Prelude.{◌≡◌, ◌+◌, ◌<◌, ◌≤◌, ◌↔◌, [], ◌∷◌, ◌++◌, length, map, All, IsTrue, MatchOption};
-ghost use Rattle.std.specs.Prelude.{MatchResult, IfOk, Some, slice_get};
+ghost use Rattle.std.specs.Prelude.{MatchResult, IfOk, IfSome, Some, slice_get};
 ghost use Rattle.std.specs.Prelude.{vec_capacity};
 ghost use Rattle.region_cut.specs.Classes.{size_of};
 ghost use Rattle.slot_chain.specs.Buffer.{ended_of};
@@ -155,9 +155,10 @@ impl<'r> BufParcel<'r> {
     /// Takes out the buffer that came last. Takes constant time, unless the sum of the sizes is more
     /// than a `u64` holds.
     pub fn pop(&mut self) -> Option<Buf<'r>>
-        ensures { MatchOption result ((self.old.items ≡ []) × (self.new ≡ self.old))
+        ensures value { MatchOption result ((self.old.items ≡ []) × (self.new ≡ self.old))
             (λ b. (self.old.items ≡ self.new.items ++ b ∷ [])
             × (self.new ≡ record self.old { items = self.new.items })) }
+        ensures packed { IfSome result (IsPacked self.old.owner) }
     {
         let buf = self.buffers.pop()?;
         self.bytes = bytes_left(self.bytes, buf.class(), self.buffers.as_slice());
