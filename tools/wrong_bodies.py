@@ -8,7 +8,8 @@ The gate tries an edit by a check of its own, so must-fail/ has those that tell 
 it tries all, and says by which clause each is refused. A function is proved from the contracts of those that it calls
 and never from their bodies, so wrong bodies of different functions are tried together. The prover leaves out goals of
 a function that calls one that isn't proved; an edit that nothing is said against is tried again without those that
-were refused, and in the end alone. So is an edit of anything but bodies, such as a constant, a definition or a law.
+were refused, with ever fewer others, and in the end alone. So is an edit of anything but bodies, such as a constant, a
+definition or a law.
 
 An edit is refused where the prover says, at a place in this function, which clause it can't prove, or refuses a proof
 written by hand for this function. That shows nothing of a clause where such a proof only names what the edit took away,
@@ -24,9 +25,9 @@ states, and `false` where the prover has found values at which it fails. A true 
 answer: read it. Where none but goals of the right body are open the edit counts as not shown to be refused: read
 whether one of them is false by now. Where none is open, the contract lets the edit through.
 
-Prints a line for each edit, and in the last line how many were refused, let through, and not shown to be refused. The
-exit status is 1 where one was not refused, or not shown to be, and 2 where an edit can't be applied, the compiler can't
-read it, or the libraries aren't there.
+Prints a line for each edit as soon as its verdict is known, and in the last line how many were refused, let through,
+and not shown to be refused. The exit status is 1 where one was not refused, or not shown to be, and 2 where an edit
+can't be applied, the compiler can't read it, or the libraries aren't there.
 """
 import argparse
 import collections
@@ -118,9 +119,14 @@ def alone(edit, said, told):
     return Verdict.REFUSED, next((what[:160] for _, _, what in said if "error" in what or UNPROVED.match(what)), "")
 
 
-def tried(crate, edits):
-    """For each edit of the crate the verdict and why, and how many checks it took."""
-    waiting, answers, checks = list(edits), [], 0
+def next_size(size, batch, is_any_found):
+    """How many edits are tried together next: half as many where nothing was found of these."""
+    return size if is_any_found else max(1, len(batch) // 2)
+
+
+def tried(crate, edits, tell):
+    """Tells for each edit of the crate the verdict and why, as soon as it is found. Returns how many checks it took."""
+    waiting, checks = list(edits), 0
     with tempfile.TemporaryDirectory(prefix="wrong-bodies-") as room:
         folder = copied(crate, pathlib.Path(room))
         size = len(waiting)
@@ -132,12 +138,11 @@ def tried(crate, edits):
             found = [(edit, *answer(edit, texts, said or [])) for edit in batch]
             found = [it for it in found if it[1] is not Verdict.PASSED]
             found = found or [(it, *alone(it, said, told)) for it in batch if len(batch) == 1]
-            # where nothing of a batch is refused they are tried one by one
-            size = len(waiting) if found else 1
-            answers += found
+            size = next_size(size, batch, found)
+            tell(found)
             done = {edit for edit, _, _ in found}
             waiting = [it for it in waiting if it not in done and it not in batch] + [it for it in batch if it not in done]
-    return answers, checks
+    return checks
 
 
 def left_open(edit, texts, said, told):
@@ -170,9 +175,9 @@ def compared(right, wrong, gone):
     return Verdict.PASSED, "nothing is open without answers"
 
 
-def tried_without(crate, edits):
+def tried_without(crate, edits, tell):
     """As `tried`, with the answers to goals of the edits' functions left out."""
-    waiting, answers, checks = list(edits), [], 0
+    waiting, checks = list(edits), 0
     with tempfile.TemporaryDirectory(prefix="wrong-bodies-") as room:
         folder = copied(crate, pathlib.Path(room))
         size, rights = len(waiting), {}
@@ -191,11 +196,11 @@ def tried_without(crate, edits):
                 wrong, gone, is_part_of_wrong = left_open(edit, texts, said, told)
                 if len(batch) == 1 or not is_part and not is_part_of_wrong:
                     found.append((edit, *compared(right, wrong, gone)))
-            size = len(waiting) if found else 1
-            answers += found
+            size = next_size(size, batch, found)
+            tell(found)
             done = {edit for edit, _, _ in found}
             waiting = [it for it in waiting if it not in done and it not in batch] + [it for it in batch if it not in done]
-    return answers, checks
+    return checks
 
 
 def main():
@@ -219,26 +224,28 @@ def main():
             bad += 1
     if bad:
         return 2
-    began, verdicts, checks_in_all = time.monotonic(), collections.Counter(), 0
+    began, verdicts = time.monotonic(), collections.Counter()
     # what a check keeps is what the copies are tried over
     for line in (TOP / "crates.txt").read_text().splitlines():
         name = line.partition(":")[0].partition(" ")[0]
         if name in of_crate and not (TOP / "crates" / name / "out" / "incremental").is_dir():
             folder = TOP / "crates" / name
             subprocess.run(check_of(folder), cwd=folder, capture_output=True, check=True)
+
+    def tell(found):
+        for edit, verdict, why in found:
+            print(f"{edit.crate}/{edit.name}: {verdict.value}: {why}", flush=True)
+            verdicts[verdict] += 1
+
     size = lambda name: sum(it.stat().st_size for it in (TOP / "crates" / name).rglob("*.*tt"))
     with concurrent.futures.ThreadPoolExecutor(given.jobs) as pool:
         runs = []
         for crate in sorted(of_crate, key=size, reverse=True):
             bare = [it for it in of_crate[crate] if given.without_answers and answered_by(crate, it.functions)]
             others = [it for it in of_crate[crate] if it not in bare]
-            runs += [pool.submit(way, crate, some) for way, some in ((tried, others), (tried_without, bare)) if some]
-        for run in concurrent.futures.as_completed(runs):
-            answers, checks = run.result()
-            checks_in_all += checks
-            for edit, verdict, why in answers:
-                print(f"{edit.crate}/{edit.name}: {verdict.value}: {why}", flush=True)
-                verdicts[verdict] += 1
+            ways = (tried, others), (tried_without, bare)
+            runs += [pool.submit(way, crate, some, tell) for way, some in ways if some]
+        checks_in_all = sum(run.result() for run in concurrent.futures.as_completed(runs))
     seconds = time.monotonic() - began
     others = "".join(f", {verdicts[it]} {it.value}" for it in Verdict if it is not Verdict.REFUSED and verdicts[it])
     counts = f"{verdicts[Verdict.REFUSED]} of {verdicts.total()} wrong bodies refused{others}"
