@@ -129,6 +129,13 @@ impl<
         self.station.digits().profile().class_for(size)
     }
 
+    /// The greatest size in bytes that [`Allocator::alloc`] lends.
+    pub fn largest_size(&self) -> usize
+        ensures { result ≡ largest_of (profile_of J.names.digits.bits) }
+    {
+        self.station.digits().profile().largest()
+    }
+
     /// Takes what came home in batches, at most 64 of them, and says how many it took. What goes on to
     /// another allocator is cached here, to be posted.
     pub fn collect<R: Wait>(&mut self, rt: &R) -> u32

@@ -104,6 +104,10 @@ impl<
 
     ghost largest = { λ _. largest_of (profile_of J.names.digits.bits) };
 
+    fn largest_size(&self) -> usize {
+        self.allocator.largest_size()
+    }
+
     #[inline]
     fn alloc<R: Wait>(&mut self, rt: &R, size: usize) -> Result<Buffer<'r, J>, PoolError>
         ensures large_enough { IfOk result (λ b. size ≤ size_of b.class) }

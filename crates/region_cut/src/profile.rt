@@ -51,8 +51,8 @@ impl Profile {
         Some(Class::least_for(n))
     }
 
-    // The size in bytes of its last class.
-    fn largest(self) -> usize
+    /// The greatest size in bytes that is lent: that of the last class that is used.
+    pub fn largest(self) -> usize
         ensures { result ≡ largest_of self }
     {
         match self {

@@ -4,6 +4,7 @@ ghost use Rattle.std.specs.Prelude.{IsTrue, MatchOption, MatchResult};
 
 use crate::buffers::bytes::Bytes;
 use crate::buffers::data::Data;
+use slot_chain::Full;
 
 /// A parcel: buffers of one allocator, which are handed over and freed as a whole. What each of them is
 /// filled with stays with it.
@@ -54,10 +55,19 @@ pub trait Burst<B: Bytes>: Drop {
         ensures { map Self.Item.filling result.now ≡ fillings self.now };
 
     /// Lends all bytes of the buffer at place `at` to a closure, which may write them. How much of it is
-    /// filled stays as it is.
+    /// filled stays as it is; [`Burst::set_len_at`] says it.
     fn edit_at<T, F: FnOnce(&mut [u8]) -> T>(&mut self, at: usize, edit: F) -> T
         requires place { at < length (fillings self.old) }
         requires callable { F.IsAlwaysCallable edit }
         ensures others { (bytes : List ℕ) × (fillings self.new ≡ slice_set (fillings self.old) at bytes) }
+        ensures places { places self.new ≡ places self.old };
+
+    /// Says how many bytes of the buffer at place `at` count as filled, from the front. No byte is written.
+    /// [`Full`]: the buffer has fewer bytes, and nothing is changed.
+    fn set_len_at(&mut self, at: usize, len: usize) -> Result<(), Full>
+        requires place { at < length (fillings self.old) }
+        ensures filled { MatchResult result
+            (λ _. (bytes : List ℕ) × (length bytes ≡ len) × (fillings self.new ≡ slice_set (fillings self.old) at bytes))
+            (λ _. fillings self.new ≡ fillings self.old) }
         ensures places { places self.new ≡ places self.old };
 }

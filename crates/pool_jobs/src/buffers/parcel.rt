@@ -4,7 +4,7 @@ ghost use Rattle.slot_chain.specs.Filling.{data_of};
 
 use crate::buffers::burst::Burst;
 use pool_fabric::{Buffer, Naming, Parcel};
-use slot_chain::Buf;
+use slot_chain::{Buf, Full};
 
 impl<'r, J: Naming> Burst<Buffer<'r, J>> for Parcel<'r, J> {
     type Item = Buf<'r>;
@@ -50,5 +50,12 @@ impl<'r, J: Naming> Burst<Buffer<'r, J>> for Parcel<'r, J> {
     #[tactic(auto, using(crate::proofs::Fillings::fillings_length))]
     fn edit_at<T, F: FnOnce(&mut [u8]) -> T>(&mut self, at: usize, edit: F) -> T {
         self.edit_at(at, edit)
+    }
+    fn set_len_at(&mut self, at: usize, len: usize) -> Result<(), Full> {
+        if self.buffers()[at].capacity() < len {
+            return Err(Full);
+        }
+        self.set_len_at(at, len);
+        Ok(())
     }
 }

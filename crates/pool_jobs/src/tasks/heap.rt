@@ -20,6 +20,11 @@ pub trait Heap: Drop {
     /// The greatest size that it gives.
     ghost largest: { Self → ℕ };
 
+    /// The greatest size in bytes that [`Heap::alloc`] lends: 512, or 1,024 where the pool has the larger
+    /// profile.
+    fn largest_size(&self) -> usize
+        ensures { result ≡ largest self.now };
+
     /// A buffer of at least `size` bytes, of which nothing is filled.
     ///
     /// It answers [`PoolError::TooLarge`] exactly where no class has as many. [`PoolError::UsedUp`]: no
