@@ -206,6 +206,8 @@ def is_help(text, parts):
 def done():
     travel = (CRATE / "data" / "travel.trace").read_bytes()
     row("0: a buffer's journey, audited", ran(["replay", "--audit"], travel), 0, TRAVEL + b"audit yes\n", b"")
+    stranger, report = ((CRATE / "data" / f"stranger.{kind}").read_bytes() for kind in ("trace", "report"))
+    row("0: a stranger frees a buffer", ran(["replay"], stranger), 0, report, b"")
     row("0: a whole trace", ran(["replay"], GOOD), 0, REPORT, b"")
     row("0: a whole trace, audited", ran(["replay", "--audit"], GOOD), 0, REPORT + b"audit yes\n", b"")
     wide = ran(["replay", "--audit"], WIDE.encode())
