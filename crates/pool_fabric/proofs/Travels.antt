@@ -8,6 +8,7 @@ use Rattle.std.proofs.Crossing.{crosses, Box-send, Vec-send, Vec-sync}
 use Rattle.std.proofs.option.Option.TheSendSync.{the_send as option_send}
 use Rattle.atomic_blocks.proofs.web.Seat.TheSendSync.{the_send as pass_send}
 use Rattle.atomic_blocks.proofs.web.Web.TheSendSync.{the_sync as line_sync}
+use Rattle.crossbeam_utils.specs.contracts.cache_padded.CachePadded as CachePadded
 use Rattle.loan_ledger.proofs.Travels.{loans_send, receipt_send}
 use Rattle.region_cut.proofs.part.Part.TheSendSync.{the_send as part_send}
 use Rattle.slot_chain.specs.contracts.buf.Buf as Buf
@@ -70,16 +71,20 @@ page_send = search (sendable, crosses, pass_send, loans_send) depth 40 fits 6000
 notes_send : (a : NamedLft) → IsSend (CountedNotes.the_row (Buf.the_row a))
 notes_send a = view_send _ _ _ _ _ (send_fields (InNotes.the_type (Buf.the_row a)) (notes_of (Buf.the_row a) (buf_send a), (search (sendable, crosses) depth 40 fits 6000, tt)))
 
+-- a desk alone on its cache lines
+padded_send : (a : NamedLft) → IsSend (CachePadded.the_row (Desk.the_row a))
+padded_send a = search (sendable, crosses, desk_send) depth 40 fits 6000
+
 -- stations whose seats cross
 module _ (a : NamedLft) (T S J : RattleType) (t : Receiver.Ghosts T.Denot) (s : Sender.Ghosts S.Denot) (j : Naming.Ghosts J.Denot) (x : IsSend T) (y : IsSend S) where
   in_held : AllSend (fields (InHeld.the_type a T S J t s j))
-  in_held = (Box-send (Desk.the_row a) (desk_send a), (x, (Vec-send S y, (page_send, (notes_send a, (notes_send a, (named_send J, tt)))))))
+  in_held = (Box-send (CachePadded.the_row (Desk.the_row a)) (padded_send a), (x, (Vec-send S y, (page_send, (notes_send a, (notes_send a, (named_send J, tt)))))))
 
   pub held_send : IsSend (HeldStation.the_row a T S J t s j)
   held_send = view_send _ _ _ _ _ (send_fields (InHeld.the_type a T S J t s j) in_held)
 
   in_station : AllSend (fields (InStation.the_type a T S J t s j))
-  in_station = (Box-send (Desk.the_row a) (desk_send a), (x, (Vec-send S y, (page_send, (notes_send a, (notes_send a, (named_send J, tt)))))))
+  in_station = (Box-send (CachePadded.the_row (Desk.the_row a)) (padded_send a), (x, (Vec-send S y, (page_send, (notes_send a, (notes_send a, (named_send J, tt)))))))
 
   pub station_send : IsSend (Station.the_row a T S J t s j)
   station_send = view_send _ _ _ _ _ (send_fields (InStation.the_type a T S J t s j) in_station)

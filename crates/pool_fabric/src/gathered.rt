@@ -124,7 +124,7 @@ impl<'r, T: Receiver, S: Sender, J: Naming> Gathered<'r, T, S, J> {
             freed: more_freed,
             of: _,
         } = station;
-        desks.push(Box::into_inner(desk))?;
+        desks.push(Box::into_inner(desk).into_inner())?;
         takes.push(take)?;
         rows.push(Row::new(seats))?;
         ledger.join(&mut page, theirs);

@@ -14,6 +14,7 @@ use crate::naming::Naming;
 use crate::parcel::Parcel;
 use crate::station::Station;
 use batch_inbox::{Receiver, Sender};
+use crossbeam_utils::CachePadded;
 use digit_route::Digits;
 use pool_desk::{Desk, DeskError, Freed};
 use region_cut::Class;
@@ -27,7 +28,7 @@ use std::marker::Model;
 #[derive(Drop)]
 pub struct HeldStation<'r, T: Receiver, S: Sender, J: Naming> {
     // In a box, as in a `Station`.
-    pub(crate) desk: Box<Desk<'r>>,
+    pub(crate) desk: Box<CachePadded<Desk<'r>>>,
     pub(crate) take: T,
     pub(crate) seats: Vec<S>,
     pub(crate) page: Page,
@@ -38,13 +39,14 @@ pub struct HeldStation<'r, T: Receiver, S: Sender, J: Naming> {
 
 impl<'r, T: Receiver, S: Sender, J: Naming> Model for HeldStation<'r, T, S, J> {
     ghost use Rattle.std.specs.Prelude.{map};
+    ghost use Rattle.crossbeam_utils.specs.Padded.{padded_value};
     ghost use Rattle.pool_fabric.specs.Seats.{seat_of};
     ghost use Rattle.pool_fabric.specs.Stations.{StationState, IsStation};
 
     ghost Value = { StationState };
 
     ghost view = { λ s. record {
-      desk = s.desk.value;
+      desk = padded_value s.desk.value;
       take = record { inbox = T.inbox s.take; senders = T.senders s.take; taken = T.taken s.take };
       seats = map (seat_of S.inbox S.number S.sent S.resting) s.seats.items;
       page = s.page;
@@ -53,7 +55,7 @@ impl<'r, T: Receiver, S: Sender, J: Naming> Model for HeldStation<'r, T, S, J> {
     } };
 
     ghost invariant = { λ s. IsStation J.names (record {
-      desk = s.desk.value;
+      desk = padded_value s.desk.value;
       take = record { inbox = T.inbox s.take; senders = T.senders s.take; taken = T.taken s.take };
       seats = map (seat_of S.inbox S.number S.sent S.resting) s.seats.items;
       page = s.page;

@@ -58,7 +58,7 @@ pub(crate) fn in_part<'r, T: Receiver, S: Sender, J: Naming>(
             freed: more_freed,
             of: _,
         } = station;
-        desks.push(Box::into_inner(desk))?;
+        desks.push(Box::into_inner(desk).into_inner())?;
         lent = lent.with(&more_lent);
         freed = freed.with(&more_freed);
     }

@@ -11,6 +11,7 @@ use crate::ledger::Page;
 use crate::named::Named;
 use crate::naming::Naming;
 use batch_inbox::{Receiver, Sender};
+use crossbeam_utils::CachePadded;
 use pool_desk::{Desk, IdleDesk};
 use slot_chain::{Buf, NoMemory};
 use std::alloc::Global;
@@ -26,8 +27,9 @@ use std::marker::Model;
 #[must_use]
 #[derive(Drop)]
 pub struct Station<'r, T: Receiver, S: Sender, J: Naming> {
-    // It has no worker, and lies in a box, so that a station is moved cheaply: a desk is some kilobytes.
-    pub(crate) desk: Box<Desk<'r>>,
+    // It has no worker. It lies in a box, so that a station is moved cheaply: a desk is some kilobytes. No
+    // other thread's data lies on its cache lines.
+    pub(crate) desk: Box<CachePadded<Desk<'r>>>,
     pub(crate) take: T,
     pub(crate) seats: Vec<S>,
     pub(crate) page: Page,
@@ -38,6 +40,7 @@ pub struct Station<'r, T: Receiver, S: Sender, J: Naming> {
 
 impl<'r, T: Receiver, S: Sender, J: Naming> Model for Station<'r, T, S, J> {
     ghost use Rattle.std.specs.Prelude.{map};
+    ghost use Rattle.crossbeam_utils.specs.Padded.{padded_value};
     ghost use Rattle.pool_fabric.specs.Seats.{seat_of};
     ghost use Rattle.std.specs.Prelude.{◌≡◌, []};
     ghost use Rattle.pool_fabric.specs.Stations.{StationState, IsStation};
@@ -45,7 +48,7 @@ impl<'r, T: Receiver, S: Sender, J: Naming> Model for Station<'r, T, S, J> {
     ghost Value = { StationState };
 
     ghost view = { λ s. record {
-      desk = s.desk.value;
+      desk = padded_value s.desk.value;
       take = record { inbox = T.inbox s.take; senders = T.senders s.take; taken = T.taken s.take };
       seats = map (seat_of S.inbox S.number S.sent S.resting) s.seats.items;
       page = s.page;
@@ -53,8 +56,8 @@ impl<'r, T: Receiver, S: Sender, J: Naming> Model for Station<'r, T, S, J> {
       freed = s.freed;
     } };
 
-    ghost invariant = { λ s. (s.desk.value.cached ≡ []) × IsStation J.names (record {
-      desk = s.desk.value;
+    ghost invariant = { λ s. ((padded_value s.desk.value).cached ≡ []) × IsStation J.names (record {
+      desk = padded_value s.desk.value;
       take = record { inbox = T.inbox s.take; senders = T.senders s.take; taken = T.taken s.take };
       seats = map (seat_of S.inbox S.number S.sent S.resting) s.seats.items;
       page = s.page;
@@ -87,7 +90,7 @@ impl<'r, T: Receiver, S: Sender, J: Naming> Station<'r, T, S, J> {
         ensures desk { IfOk result (λ s. s.desk ≡ resting desk.entry) }
         ensures notes { IfOk result (λ s. (s.lent ≡ []) × (s.freed ≡ [])) }
     {
-        let desk = Box::new(alloc, desk.adopt(0))?;
+        let desk = Box::new(alloc, CachePadded::new(desk.adopt(0)))?;
         Ok(Station {
             desk,
             take,

@@ -5,10 +5,10 @@ use Rattle.pool_fabric.proofs.held.HeldStation.alloc.Goals as goal
 
 pub new-requires-clause-owner : goal.new-requires-clause-owner
 new-requires-clause-owner g c =
-    let allocs = rw c.deref_mut.ensures.value at c.in_ok-buf.ensures in
+    let allocs = rw (c.deref_mut-2.ensures.value, c.deref_mut.ensures.value) at c.in_ok-buf.ensures in
     subst (λ n. n < 2 ^ g.J.Naming.names.digits.bits) (sym allocs.1.owner_is) c.self.invariant.seated.in_range
 
 pub invariant_of-self-2 : goal.invariant_of-self-2
 invariant_of-self-2 g c =
-    let allocs = rw c.deref_mut.ensures.value at c.in_ok-buf.ensures in
+    let allocs = rw (c.deref_mut-2.ensures.value, c.deref_mut.ensures.value) at c.in_ok-buf.ensures in
     lends_keeps _ _ c.in_ok-buf.buf.class c.in_ok-buf.buf _ _ _ c.self.invariant (allocs.1, allocs.2) (c.lend-receipt.ensures.page ∙ ap (lent_on c.self.inside.page) c.slot.ensures) c.and-self-inside.ensures

@@ -11,4 +11,4 @@ invariant_of-self g c =
     let page = c.self.inside.page in
     frees_keeps _ _ c.into_parts-buf.result.0 c.free.result _ _ _ c.self.invariant
     (c.take_back.ensures ∙ ap (λ (r : ReceiptState). freed_on page r.slots) parts.receipt ∙ ap (λ (b : Buffer). freed_on page (b.slot ∷ [])) (sym parts.same))
-    c.and-self-inside.ensures (rw c.deref_mut.ensures.value at c.free.ensures)
+    c.and-self-inside.ensures (rw (c.deref_mut-2.ensures.value, c.deref_mut.ensures.value) at c.free.ensures)

@@ -12,4 +12,4 @@ invariant_of-self g c =
     let page = c.self.inside.page in
     frees_all_keeps _ _ c.into_parts-parcel.result.0 c.free_all.result _ _ _ c.self.invariant
     (c.take_back.ensures ∙ ap (λ (r : ReceiptState). freed_on page r.slots) parts.receipt ∙ ap (λ (p : ParcelState). freed_on page (map slot_of p.items)) (sym parts.same))
-    (rw c.buffers.ensures at c.and_all-self-inside.ensures) (rw c.deref_mut.ensures.value at c.free_all.ensures)
+    (rw c.buffers.ensures at c.and_all-self-inside.ensures) (rw (c.deref_mut-2.ensures.value, c.deref_mut.ensures.value) at c.free_all.ensures)

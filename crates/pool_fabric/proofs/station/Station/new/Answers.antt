@@ -1,4 +1,5 @@
 use Rattle.std.proofs.Common.{refl, ap, ◌∙◌}
+use Rattle.crossbeam_utils.specs.Padded.{padded_value}
 use Rattle.pool_fabric.specs.Pages.{PageState}
 use Rattle.pool_fabric.specs.Seats.{seat_of}
 use Rattle.pool_fabric.proofs.Posting.{length-mapped}
@@ -8,7 +9,7 @@ use Rattle.pool_fabric.proofs.station.Station.new.Goals as goal
 pub invariant_of-result : goal.invariant_of-result
 invariant_of-result g c =
     let as_seat = seat_of g.S.Sender.inbox g.S.Sender.number g.S.Sender.sent g.S.Sender.resting in
-    let is = c.in_ok-desk.ensures.ok ∙ c.adopt.ensures in
+    let is = ap padded_value c.in_ok-desk.ensures.ok ∙ c.new.ensures ∙ c.adopt.ensures in
     rw is (
       refl,
       fresh_keeps _ _
@@ -21,8 +22,8 @@ invariant_of-result g c =
             got = ap (λ (p : PageState). p.got) c.requires.page;
             page_lent = ap (λ (p : PageState). p.lent) c.requires.page;
             page_freed = ap (λ (p : PageState). p.freed) c.requires.page;
-            lent = c.new-2.ensures;
-            freed = c.new-3.ensures;
+            lent = c.new-3.ensures;
+            freed = c.new-4.ensures;
           })
           (record {
             in_range = c.requires.number;
