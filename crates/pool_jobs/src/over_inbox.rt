@@ -146,7 +146,8 @@ where
 /// they have ended.
 ///
 /// The tasks get the desks of the opening in order; one for which no desk is left is not begun, and
-/// has no answer. All threads that were started have ended when the call returns.
+/// has no answer. The answers stand in the order of the tasks, and each is what its task promised
+/// ([`Task`]'s `gives`). All threads that were started have ended when the call returns.
 ///
 /// Whatever the tasks do with their buffers, and whatever the schedule was, nothing is lost and nothing
 /// is there twice. Counted slot by slot, found + lent = slots of the drawn chunks + freed. Counted

@@ -51,8 +51,10 @@ impl<'r, J: Naming> Burst<Buffer<'r, J>> for Parcel<'r, J> {
     fn edit_at<T, F: FnOnce(&mut [u8]) -> T>(&mut self, at: usize, edit: F) -> T {
         self.edit_at(at, edit)
     }
+
     fn set_len_at(&mut self, at: usize, len: usize) -> Result<(), Full> {
-        if self.buffers()[at].capacity() < len {
+        let bytes = self.buffers()[at].bytes();
+        if bytes.len() < len {
             return Err(Full);
         }
         self.set_len_at(at, len);
