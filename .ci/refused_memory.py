@@ -32,6 +32,7 @@ TOP = pathlib.Path(__file__).resolve().parent.parent
 SECONDS = 60
 WRITTEN_FOR_IT = {
     "fabric_uses": "given_back::,memory::",
+    "fustrevol_tests": "refused::",
     "inbox_tests": "deep::,dropped::,given_back::,order::,users::",
     "jobs_uses": "refused::,words::",
     "link_tests": "deep::,dropped::,given_back::,half::,no_memory::,nodes::,order::,users::",
@@ -184,4 +185,5 @@ def main():
     sys.exit(1 if bad else 0)
 
 
-main()
+if __name__ == "__main__":
+    main()

@@ -5,6 +5,7 @@ use super::{BOTH, Ground, Inboxes, Outcome, outcome_of};
 use pool_jobs::{Burst, Bytes, Channels, Data, Heap, Message, PoolError, Task, Unsent};
 use region_cut::Slot;
 use slot_audit::Fault;
+use slot_chain::Full;
 use std::sync::Wait;
 use std::test::Fail;
 use std::time::{Clock, Duration};
@@ -21,6 +22,8 @@ enum Act {
     Reads(u32),
     // Drops a parcel of four lines, and frees an empty one.
     Drops,
+    // Shortens the line of a parcel, and says that there is more of it than it has bytes.
+    Shortens,
 }
 
 impl Task for Act {
@@ -50,6 +53,7 @@ impl Task for Act {
             Act::Packs(count) => pack(rt, heap, &channels, count),
             Act::Reads(count) => read(rt, heap, &channels, count),
             Act::Drops => drop_four(rt, heap),
+            Act::Shortens => shorten(rt, heap),
         }
     }
 }
@@ -190,6 +194,33 @@ fn drop_four<H: Heap, R: Wait>(rt: &R, heap: &mut H) -> Option<&'static str> {
     None
 }
 
+fn shorten<H: Heap, R: Wait>(rt: &R, heap: &mut H) -> Option<&'static str> {
+    if heap.largest_size() != 512 {
+        return Some("another size is the largest");
+    }
+    let Ok(mut parcel) = heap.parcel(1) else {
+        return Some("no parcel");
+    };
+    let Ok(buffer) = line(rt, heap, b"a line") else {
+        return Some("no buffer");
+    };
+    if let Err(buffer) = parcel.push(buffer) {
+        heap.free(rt, buffer);
+        return Some("no room in the parcel");
+    }
+    let is_shorter = parcel.len() == 1 && parcel.set_len_at(0, 2).is_ok();
+    let is_refused = parcel.len() == 1 && parcel.set_len_at(0, 17) == Err(Full);
+    let mut is_kept = true;
+    for buffer in parcel.buffers() {
+        is_kept = is_kept && buffer.data() == b"a ";
+    }
+    heap.free_all(rt, parcel);
+    if !is_shorter || !is_refused || !is_kept {
+        return Some("another length");
+    }
+    None
+}
+
 // A pool of so many chunks, with one desk for each task.
 fn ground(inboxes: Inboxes, chunks: usize, desks: u16) -> Ground
     requires { (1 ≤ desks) × (desks ≤ 64) × (chunks ≤ 1024) }
@@ -250,6 +281,18 @@ fn a_dropped_parcel_is_lost(rt: HostRuntime) -> Result<(), Fail> {
         assert!(rt; answers.as_slice() == [Some(None)].as_slice());
         assert!(rt; tally.counts.allocated == 4 && tally.counts.freed == 0);
         assert!(rt; tally.counts.lost == 4 && tally.audit == Err(Fault::Missing(first)));
+    }
+    Ok(())
+}
+
+// A buffer of the least class has 16 bytes.
+#[test]
+fn a_line_in_a_parcel_gets_shorter(rt: HostRuntime) -> Result<(), Fail> {
+    for inboxes in BOTH {
+        let tasks = vec![in rt.alloc(); Act::Shortens]?;
+        let Outcome { answers, tally } = outcome_of(&rt, ground(inboxes, 1, 1), tasks)?;
+        assert!(rt; answers.as_slice() == [Some(None)].as_slice());
+        assert!(rt; tally.counts.freed == 1 && tally.audit.is_ok());
     }
     Ok(())
 }
