@@ -44,8 +44,9 @@
  * copy may be used. An object that was initialised may be used in any order of calls: a call that makes no
  * sense is refused, and changes nothing.
  *
- * ANSWERS. Calls that can fail answer an uint32_t, which is FV_OK (0) or says why nothing was done. Each is
- * listed with its call. fv_burst_fill alone may do a part.
+ * ANSWERS. Calls that can fail answer an uint32_t, which is FV_OK (0) or says why nothing was lent or freed.
+ * Each is listed with its call. An allocator may have taken or posted batches before. fv_burst_fill alone may
+ * do a part, and an answer FV_AUDIT_.. of fv_pool_close has closed the pool.
  *
  * THREADS. Calls on different objects may be made at the same time. A call uses just the objects that its
  * arguments point to: fv_free uses the allocator that frees, and not the one that lent. fv_pool_ calls of
@@ -78,7 +79,8 @@
  *     fv_burst_len tells how many a burst has, and fv_burst_at how many bytes each of them;
  *   - fv_flush and fv_collect keep the allocator, its chunks and its counts of what was lent and freed.
  *     fv_collect answers FV_OK where one to 64 batches came, and else moves no slot;
- *   - fv_pool_stat and fv_allocator_stat tell what the library counted, and change nothing;
+ *   - fv_pool_stat and fv_allocator_stat tell what the library counted (FV_ALLOCATOR_STOCK aside), and
+ *     change nothing;
  *   - a buffer's bytes are lent to nobody else until it is freed.
  *
  * These are true by how the library is built, and tested:
@@ -332,7 +334,7 @@ size_t fv_buf_len(const fv_buf *buf) FV_NOEXCEPT;
  * FV_EMPTY  `buf` holds none */
 uint32_t fv_buf_set_len(fv_buf *buf, size_t len) FV_NOEXCEPT;
 
-/* ---- Bursts: to free a burst costs as much as to free one buffer ---- */
+/* ---- Bursts: to free a burst costs, as a rule, as much as to free one buffer ---- */
 
 /* Opens an empty burst for at least `places` buffers of this allocator, in an object that holds no burst or
  * an empty one. Takes memory where no earlier burst's can be used again.
