@@ -60,11 +60,15 @@ fn fill<H: Heap, R: Wait + Clock>(rt: &R, heap: &mut H, to: &Edges<H>) -> <Stage
         for n in 0..25 {
             let _full = parcel.push(packet(rt, heap, 25 * burst + n)?);
         }
-        let _ended = to.send_parcel(rt, heap, 1, parcel);
+        if let Err(message) = to.send_parcel(rt, heap, 1, parcel) {
+            message.free(rt, heap);
+        }
     }
     for n in 1_000..2_000 {
         let buffer = packet(rt, heap, n)?;
-        let _ended = to.send_buffer(rt, heap, 1, buffer);
+        if let Err(message) = to.send_buffer(rt, heap, 1, buffer) {
+            message.free(rt, heap);
+        }
     }
     Ok((2_000, 1_998))
 }
@@ -92,9 +96,12 @@ fn look<H: Heap, R: Wait>(rt: &R, heap: &mut H, to: &Edges<H>, next: Option<usiz
                 }
             }
         }
-        match next {
-            Some(next) => drop(to.send(rt, heap, next, message)),
-            None => message.free(rt, heap),
+        let unsent = match next {
+            Some(next) => to.send(rt, heap, next, message),
+            None => Err(message),
+        };
+        if let Err(message) = unsent {
+            message.free(rt, heap);
         }
     }
     seen
