@@ -212,7 +212,7 @@ fn shorten<H: Heap, R: Wait>(rt: &R, heap: &mut H) -> Option<&'static str> {
     let is_refused = parcel.len() == 1 && parcel.set_len_at(0, 17) == Err(Full);
     let mut is_kept = true;
     for buffer in parcel.buffers() {
-        is_kept = is_kept && buffer.data() == b"a ";
+        is_kept = is_kept && buffer.data() == b"a ".as_slice();
     }
     heap.free_all(rt, parcel);
     if !is_shorter || !is_refused || !is_kept {
