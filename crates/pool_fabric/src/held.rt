@@ -1,5 +1,5 @@
 //! A station that a worker holds.
-ghost use Rattle.std.specs.Prelude.{◌≡◌, ◌≢◌, ◌<◌, ◌≤◌, ◌^◌, ◌↔◌, [], IsTrue, MatchResult, IfOk};
+ghost use Rattle.std.specs.Prelude.{◌≡◌, ◌≢◌, ◌<◌, ◌≤◌, ◌%◌, ◌^◌, ◌↔◌, [], length, IsTrue, MatchResult, IfOk};
 ghost use Rattle.slot_chain.specs.Counts.{capped, sizes};
 ghost use Rattle.region_cut.specs.Classes.{classes_of};
 ghost use Rattle.pool_desk.specs.Desks.{profile_at};
@@ -93,6 +93,22 @@ impl<'r, T: Receiver, S: Sender, J: Naming> HeldStation<'r, T, S, J> {
         ensures { IsTrue result ↔ HasClass class self.now.desk.home }
     {
         self.desk.has_home(class)
+    }
+
+    /// How many buffers it lent, modulo 2^64.
+    #[inline(always)]
+    pub fn lent_count(&self) -> u64
+        ensures { result ≡ length self.now.lent % 2 ^ 64 }
+    {
+        self.lent.count()
+    }
+
+    /// How many buffers were freed to it, modulo 2^64.
+    #[inline(always)]
+    pub fn freed_count(&self) -> u64
+        ensures { result ≡ length self.now.freed % 2 ^ 64 }
+    {
+        self.freed.count()
     }
 
     /// Gives out a buffer of at least `size` bytes, as [`Desk::alloc`] does.

@@ -71,6 +71,14 @@ impl<'r, J: Naming> Parcel<'r, J> {
         (parcel, receipt)
     }
 
+    /// The number of the allocator that made it: whose buffers it takes.
+    #[inline]
+    pub fn owner(&self) -> u16
+        ensures { result ≡ self.now.owner }
+    {
+        self.parcel.owner()
+    }
+
     /// How many buffers it has.
     pub fn len(&self) -> usize
         ensures { result ≡ length self.now.items }
