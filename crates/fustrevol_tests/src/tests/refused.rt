@@ -1,4 +1,4 @@
-//! Whichever one allocation is refused, a second try has its answer, and nothing is lost.
+//! Whichever one allocation over a region is refused, a second try answers, and nothing is lost.
 
 use super::{Outcome, relayed};
 use fustrevol::{CHUNK, Fault, InboxKind, Pool, PoolError};
@@ -7,16 +7,6 @@ use std::process::Abort;
 use std::sync::Wait;
 use std::thread::Threads;
 use std::time::Clock;
-
-// So many bytes. Where memory for them was refused, the next try works.
-fn bytes_of(rt: &impl Abort, alloc: Global, len: usize) -> Vec<u8> {
-    match Vec::from_elem(alloc, 0u8, len) {
-        Ok(bytes) => bytes,
-        Err(_) => Vec::from_elem(alloc, 0u8, len)
-            .ok()
-            .expect(rt, "memory is there again"),
-    }
-}
 
 // What two tasks answered over the region, or none where memory or a thread was refused.
 fn relayed_over<R: Threads + Wait + Clock + Sync>(
@@ -29,10 +19,12 @@ fn relayed_over<R: Threads + Wait + Clock + Sync>(
     relayed(rt, alloc, pool.inbox(kind), 5).ok()
 }
 
-// A buffer may have found no memory, and so may the audit. The second task is served last.
+// A buffer may have found no memory, and so may the audit.
 fn tries_again<R: AllocGlobal + Abort + Threads + Wait + Clock + Sync>(rt: &R, kind: InboxKind) {
     let alloc = rt.alloc();
-    let mut region = bytes_of(rt, alloc, 2 * CHUNK);
+    let Ok(mut region) = Vec::from_elem(alloc, 0u8, 2 * CHUNK) else {
+        return;
+    };
     let outcome = match relayed_over(rt, alloc, &mut region, kind) {
         Some(outcome) => outcome,
         None => relayed_over(rt, alloc, &mut region, kind).expect(rt, "memory is there again"),

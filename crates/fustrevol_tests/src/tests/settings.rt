@@ -30,7 +30,7 @@ fn region(alloc: Global) -> Result<Vec<u8>, Fail> {
 }
 
 #[test]
-fn as_it_is(rt: HostRuntime) -> Result<(), Fail> {
+fn with_its_defaults(rt: HostRuntime) -> Result<(), Fail> {
     let mut region = region(rt.alloc())?;
     works(&rt, Pool::new(rt.alloc(), &mut region)?, 512)
 }
