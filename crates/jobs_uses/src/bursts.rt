@@ -6,7 +6,7 @@ use crate::pair::{Held, Over, Worker, both_retire, two_workers};
 use crate::passing::Passed;
 use link_inbox::{LinkInbox, SendSeat, TakeSeat};
 use pool_fabric::{GatherError, Naming, Opening, gather};
-use pool_jobs::{NoGate, Parcel};
+use pool_jobs::NoGate;
 use slot_chain::NoMemory;
 use std::alloc::Global;
 use std::marker::Brand;
@@ -14,26 +14,6 @@ use std::sync::Wait;
 
 // The size that is asked for.
 const SIZE: usize = 512;
-
-// Fills a parcel with so many buffers, or as many as there are. Says how many.
-fn pack_some<'a, 'r, J: Naming, R: Wait>(
-    rt: &R,
-    owner: &mut Worker<'a, 'r, J>,
-    parcel: &mut Parcel<'r, J>,
-    count: u32,
-) -> u32 {
-    let mut packed = 0u32;
-    for _buffer in 0..count {
-        let Ok(buffer) = owner.alloc(rt, SIZE) else {
-            return packed;
-        };
-        match parcel.push(buffer) {
-            Ok(()) => packed = packed.saturating_add(1),
-            Err(buffer) => owner.free(rt, buffer),
-        }
-    }
-    packed
-}
 
 // So many parcels go from the owner to the stranger, one after the other. Says how many buffers went.
 fn pass_bursts<'a, 'r, J: Naming, R: Wait>(
@@ -46,8 +26,10 @@ fn pass_bursts<'a, 'r, J: Naming, R: Wait>(
     let mut passed = 0u32;
     for _burst in 0..bursts {
         let mut parcel = owner.parcel(count as usize)?;
-        let packed = pack_some(rt, owner, &mut parcel, count);
-        passed = passed.saturating_add(packed);
+        let lent = owner
+            .fill(rt, &mut parcel, SIZE, count as usize)
+            .unwrap_or(0);
+        passed = passed.saturating_add(lent as u32);
         stranger.free_all(rt, parcel);
     }
     Ok(passed)
@@ -94,7 +76,7 @@ fn at_fabric<'r, J: Naming, R: Wait>(
     Ok(Passed { allocated, found })
 }
 
-/// One worker packs so many buffers of 512 bytes, another frees them as a whole, and so on, so often.
+/// One worker lends so many buffers of 512 bytes, another frees them as a whole, and so on, so often.
 /// Says how many there were, and all that there is then. It wants two desks.
 pub fn pass_in_bursts<'r, R: Wait>(
     rt: &R,

@@ -1,9 +1,10 @@
 pub mod Accounts
 pub mod Adding
-pub mod Looking
+pub mod Bursts
+pub mod Fillings
 pub mod Largest
+pub mod Looking
+pub mod Lost
+pub mod Promised
 pub mod Travels
 pub mod Waits
-pub mod Fillings
-pub mod Promised
-pub mod Lost

@@ -1,5 +1,6 @@
 pub mod Refusals
 pub mod Serving
+pub mod Bursts
 pub mod Ends
 pub mod Rounds
 pub mod Counted

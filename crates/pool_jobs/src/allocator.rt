@@ -20,7 +20,7 @@ use std::sync::Wait;
 use std::time::{Clock, Duration, Instant};
 use std::{fmt, io};
 
-// How many calls go by between two looks into the inbox, where slots of each class are at home all
+// How many buffers are lent between two looks into the inbox, where slots of each class are at home all
 // the while.
 const LOOK_EVERY: u64 = 64;
 
@@ -35,14 +35,12 @@ pub struct Allocator<'a, 'r, M: Mailbox, T: Receiver, S: Sender, G: Gate, J: Nam
     gate: &'a G,
     alloc: Global,
     worker: u32,
-    // The number of calls there had been when it last looked into its inbox for their number alone, and
-    // how many there were since.
-    looked: u64,
-    since: u64,
+    // How many calls the gate was told of.
+    calls: u64,
     // While fewer bytes are cached, nothing is posted: 0 but after a post that was refused, until
     // the next claim.
     post_from: u64,
-    station: HeldStation<'r, T, S, J>,
+    pub(crate) station: HeldStation<'r, T, S, J>,
 }
 
 impl<'a, 'r, M: Mailbox, T: Receiver, S: Sender, G: Gate, J: Naming> Model
@@ -83,8 +81,7 @@ impl<'a, 'r, M: Mailbox, T: Receiver, S: Sender, G: Gate, J: Naming> Allocator<
             gate,
             alloc,
             worker,
-            looked: 0,
-            since: 0,
+            calls: 0,
             post_from: 0,
             station,
         }
@@ -100,31 +97,48 @@ impl<
     G: Gate,
     J: Naming,
 > Allocator<'a, 'r, M, T, S, G, J> {
-    // The number of the call that comes next.
-    fn next_call(&mut self) -> u64
+    // Tells the gate of the call that comes next, and gives its number. Calls are counted for a gate alone.
+    #[inline(always)]
+    pub(crate) fn before(&mut self) -> u64
         ensures { self.new ≡ self.old }
     {
-        self.since = self.since.wrapping_add(1);
-        self.looked.wrapping_add(self.since)
+        if self.gate.is_told() {
+            self.calls = self.calls.wrapping_add(1);
+            self.gate.before(self.worker, self.calls);
+        }
+        self.calls
     }
 
-    // Whether it is time for a look into the inbox, where a buffer is asked for.
-    fn is_to_look(&mut self) -> bool
-        ensures { self.new ≡ self.old }
-    {
-        if self.since < LOOK_EVERY {
-            return false;
+    // Tells the gate that the call was answered.
+    #[inline(always)]
+    pub(crate) fn after(&self, call: u64) {
+        if self.gate.is_told() {
+            self.gate.after(self.worker, call);
         }
-        self.looked = self.looked.wrapping_add(self.since);
-        self.since = 0;
-        true
+    }
+
+    // Whether it is time for a look into the inbox, where so many buffers are asked for: one of them is the
+    // next after 64 others.
+    #[inline(always)]
+    pub(crate) fn is_to_look(&self, count: u64) -> bool {
+        let lent = self.station.lent_count() % LOOK_EVERY;
+        lent == 0 || lent.saturating_add(count) > LOOK_EVERY
+    }
+
+    // The number of its desk.
+    #[inline(always)]
+    pub(crate) fn number(&self) -> u16
+        ensures { result ≡ self.now.desk.number }
+    {
+        self.station.number()
     }
 
     // The class of a buffer of so many bytes, or that none has as many.
     #[inline]
-    fn class_for(&self, size: usize) -> Option<Class>
-        ensures { MatchOption result (NoClassFor (profile_of J.names.digits.bits) size)
+    pub(crate) fn class_for(&self, size: usize) -> Option<Class>
+        ensures class { MatchOption result (NoClassFor (profile_of J.names.digits.bits) size)
             (λ class. IsClassFor J.names size class) }
+        ensures digits { self.now.desk.digits ≡ J.names.digits }
     {
         self.station.digits().profile().class_for(size)
     }
@@ -167,7 +181,7 @@ impl<
     // A post that was refused is then tried again with the next buffer that is freed.
     #[cold]
     #[inline(never)]
-    fn fetch<R: Wait>(&mut self, rt: &R, class: Class)
+    pub(crate) fn fetch<R: Wait>(&mut self, rt: &R, class: Class)
         requires { class < classes_of (profile_of J.names.digits.bits) }
         ensures { Keeps J.names self.old self.new }
     {
@@ -178,19 +192,34 @@ impl<
         }
     }
 
-    // Whether a slot of the class has to be fetched before the desk is asked.
+    // Lends a buffer of the class.
     #[inline(always)]
-    fn is_to_fetch(&mut self, class: Class) -> bool
-        ensures { self.new ≡ self.old }
+    pub(crate) fn lend<R: Wait>(&mut self, rt: &R, class: Class) -> Result<Buffer<'r, J>, PoolError>
+        requires { class < classes_of (profile_of J.names.digits.bits) }
+        ensures { ServesClass J.names self.old class result self.new }
     {
-        self.is_to_look() || !self.station.has_home(class)
+        match self.ask(class) {
+            Err(PoolError::UsedUp) => self.ask_again(rt, class),
+            answer => answer,
+        }
+    }
+
+    // Fetches a slot of the class, and lends it.
+    #[cold]
+    #[inline(never)]
+    fn ask_again<R: Wait>(&mut self, rt: &R, class: Class) -> Result<Buffer<'r, J>, PoolError>
+        requires { class < classes_of (profile_of J.names.digits.bits) }
+        ensures { ServesClass J.names self.old class result self.new }
+    {
+        self.fetch(rt, class);
+        self.ask(class)
     }
 
     /// Lends a buffer of at least `size` bytes. Nothing of it is cleared.
     ///
     /// It lends a slot at home. Where its class has none there, it takes at most 64 batches from its
-    /// inbox, and draws a chunk of the stock where they bring none. Once 64 calls have gone by it looks
-    /// into the inbox first, so that no sender waits until this allocator runs out of a class.
+    /// inbox, and draws a chunk of the stock where they bring none. At each 64th buffer that it lends it
+    /// looks into the inbox first, so that no sender waits until this allocator runs out of a class.
     ///
     /// [`PoolError::TooLarge`]: no class is large enough. [`PoolError::UsedUp`]: no slot of the class
     /// was at home, none came, and the stock was empty. [`PoolError::NoMemory`]: the system refused the
@@ -201,26 +230,24 @@ impl<
     pub fn alloc<R: Wait>(&mut self, rt: &R, size: usize) -> Result<Buffer<'r, J>, PoolError>
         ensures { Serves J.names self.old size result self.new }
     {
-        let call = self.next_call();
-        self.gate.before(self.worker, call);
-        recall(&self.station);
+        let call = self.before();
         let answer = match self.class_for(size) {
             None => Err(PoolError::TooLarge),
             Some(class) => {
-                if self.is_to_fetch(class) {
+                if self.is_to_look(1) {
                     self.fetch(rt, class);
                 }
-                self.ask(class)
+                self.lend(rt, class)
             }
         };
-        self.gate.after(self.worker, call);
+        self.after(call);
         answer
     }
 
     // Posts what is cached here, for others may wait for it, and waits a while.
     #[cold]
     #[inline(never)]
-    fn pause<R: Wait + Clock>(&mut self, rt: &R, pauses: &mut Pauses)
+    pub(crate) fn pause<R: Wait + Clock>(&mut self, rt: &R, pauses: &mut Pauses)
         ensures { Keeps J.names self.old self.new }
     {
         let _all = self.flush(rt);
@@ -321,10 +348,9 @@ impl<
         ensures lent { self.new.lent ≡ self.old.lent }
         ensures freed { self.new.freed ≡ self.old.freed ++ buffer.entry ∷ [] }
     {
-        let call = self.next_call();
-        self.gate.before(self.worker, call);
+        let call = self.before();
         let freed = self.station.free(buffer);
-        self.gate.after(self.worker, call);
+        self.after(call);
         if let Freed::Due = freed {
             self.post_again(rt);
         }
@@ -352,10 +378,9 @@ impl<
         ensures lent { self.new.lent ≡ self.old.lent }
         ensures freed { self.new.freed ≡ self.old.freed ++ parcel.entry.items }
     {
-        let call = self.next_call();
-        self.gate.before(self.worker, call);
+        let call = self.before();
         let freed = self.station.free_all(parcel);
-        self.gate.after(self.worker, call);
+        self.after(call);
         if let Freed::Due = freed {
             self.post_again(rt);
         }
@@ -374,8 +399,7 @@ impl<
             gate: _,
             alloc: _,
             worker,
-            looked: _,
-            since: _,
+            calls: _,
             post_from: _,
             mut station,
         } = self;
@@ -393,7 +417,7 @@ impl<
 // Tells a proof what the type of a station keeps: its number is one of the fabric's, and its digits are the
 // fabric's. It does nothing.
 #[inline(always)]
-fn recall<'r, T: Receiver, S: Sender, J: Naming>(station: &HeldStation<'r, T, S, J>)
+pub(crate) fn recall<'r, T: Receiver, S: Sender, J: Naming>(station: &HeldStation<'r, T, S, J>)
     ensures digits { station.now.desk.digits ≡ J.names.digits }
     ensures number { station.now.desk.number < 2 ^ J.names.digits.bits }
 {

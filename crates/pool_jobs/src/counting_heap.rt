@@ -1,11 +1,12 @@
 //! A heap that counts how often it gave no buffer.
-ghost use Rattle.std.specs.Prelude.{◌≡◌, ◌≢◌, ◌<◌, ◌≤◌, ◌↔◌, ◌+◌, [], ◌∷◌, ◌++◌, map, IsTrue, IfOk, IfSome};
+ghost use Rattle.std.specs.Prelude.{◌≡◌, ◌≢◌, ◌<◌, ◌≤◌, ◌↔◌, ◌+◌, [], ◌∷◌, ◌++◌, map, replicate, IsTrue, IfOk, IfSome, MatchResult};
 ghost use Rattle.region_cut.specs.Classes.{size_of, largest_of};
 ghost use Rattle.digit_route.specs.Profiles.{profile_of};
 ghost use Rattle.pool_fabric.specs.Limits.{most_taken};
 ghost use Rattle.pool_jobs.specs.declared.error.PoolError.TheVariants.{TooLarge, UsedUp};
 ghost use Rattle.slot_chain.specs.Counts.{capped};
 ghost use Rattle.slot_chain.specs.Filling.{data_of};
+ghost use Rattle.pool_jobs.specs.Bursts.{Fills};
 ghost use Rattle.pool_jobs.specs.Counted.{Counts, none_counted};
 ghost use Rattle.pool_jobs.specs.Serving.{Keeps, SameDesk, Serves};
 
@@ -172,6 +173,52 @@ impl<
         ensures same { self.new ≡ self.old }
     {
         self.allocator.parcel(places)
+    }
+
+    #[inline]
+    #[tactic(auto, using(crate::proofs::Bursts::filled_fillings, crate::proofs::Bursts::filled_most, crate::proofs::Bursts::filled_places, crate::proofs::Largest::filled_largest))]
+    fn fill<R: Wait>(
+        &mut self,
+        rt: &R,
+        parcel: &mut Parcel<'r, J>,
+        size: usize,
+        count: usize,
+    ) -> Result<usize, PoolError>
+        ensures fillings { MatchResult result
+            (λ n. map data_of parcel.new.items ≡ map data_of parcel.old.items ++ replicate n [])
+            (λ _. map data_of parcel.new.items ≡ map data_of parcel.old.items) }
+        ensures most { IfOk result (λ n. n ≤ count) }
+        ensures places { parcel.new.places ≡ parcel.old.places }
+        ensures too_large { (result ≡ Err TooLarge) ↔ (largest_of (profile_of J.names.digits.bits) < size) }
+        ensures fills { Fills J.names self.old.allocator size count parcel.old result self.new.allocator parcel.new }
+        ensures counted { Counts self.old.counts result self.new.counts }
+    {
+        let answer = self.allocator.fill(rt, parcel, size, count);
+        self.counts.count(answer.is_ok());
+        answer
+    }
+
+    #[tactic(auto, using(crate::proofs::Bursts::filled_fillings, crate::proofs::Bursts::filled_most, crate::proofs::Bursts::filled_places, crate::proofs::Largest::filled_largest))]
+    fn fill_waiting<R: Wait + Clock>(
+        &mut self,
+        rt: &R,
+        parcel: &mut Parcel<'r, J>,
+        size: usize,
+        count: usize,
+    ) -> Result<usize, PoolError>
+        ensures fillings { MatchResult result
+            (λ n. map data_of parcel.new.items ≡ map data_of parcel.old.items ++ replicate n [])
+            (λ _. map data_of parcel.new.items ≡ map data_of parcel.old.items) }
+        ensures most { IfOk result (λ n. n ≤ count) }
+        ensures places { parcel.new.places ≡ parcel.old.places }
+        ensures too_large { (result ≡ Err TooLarge) ↔ (largest_of (profile_of J.names.digits.bits) < size) }
+        ensures waits { result ≢ Err UsedUp }
+        ensures fills { Fills J.names self.old.allocator size count parcel.old result self.new.allocator parcel.new }
+        ensures counted { Counts self.old.counts result self.new.counts }
+    {
+        let answer = self.allocator.fill_waiting(rt, parcel, size, count);
+        self.counts.count(answer.is_ok());
+        answer
     }
 
     #[inline]

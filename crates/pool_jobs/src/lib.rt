@@ -14,6 +14,7 @@ mod crew_result;
 pub mod crossing;
 mod entrance;
 mod error;
+mod filling;
 mod gate;
 mod over_inbox;
 mod over_link;

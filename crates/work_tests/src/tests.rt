@@ -1,5 +1,6 @@
 //! What workloads and tasks are run over, and what is told of them at the end.
 
+mod bursts;
 mod due;
 mod edges;
 mod handed;

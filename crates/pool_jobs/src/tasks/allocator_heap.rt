@@ -1,9 +1,10 @@
 //! An allocator as the heap of a task.
-ghost use Rattle.std.specs.Prelude.{◌≡◌, ◌≢◌, ◌<◌, ◌≤◌, ◌↔◌, [], ◌∷◌, ◌++◌, map, IsTrue, IfOk};
+ghost use Rattle.std.specs.Prelude.{◌≡◌, ◌≢◌, ◌<◌, ◌≤◌, ◌↔◌, [], ◌∷◌, ◌++◌, map, replicate, IsTrue, IfOk, MatchResult};
 ghost use Rattle.region_cut.specs.Classes.{size_of, largest_of};
 ghost use Rattle.digit_route.specs.Profiles.{profile_of};
 ghost use Rattle.slot_chain.specs.Filling.{data_of};
 ghost use Rattle.pool_fabric.specs.Limits.{most_taken};
+ghost use Rattle.pool_jobs.specs.Bursts.{Fills};
 ghost use Rattle.pool_jobs.specs.Serving.{Keeps, SameDesk, Serves};
 ghost use Rattle.pool_jobs.specs.declared.error.PoolError.TheVariants.{TooLarge, UsedUp};
 
@@ -84,6 +85,46 @@ impl<
         ensures same { self.new ≡ self.old }
     {
         self.parcel(places)
+    }
+
+    #[inline]
+    #[tactic(auto, using(crate::proofs::Bursts::filled_fillings, crate::proofs::Bursts::filled_most, crate::proofs::Bursts::filled_places, crate::proofs::Largest::filled_largest))]
+    fn fill<R: Wait>(
+        &mut self,
+        rt: &R,
+        parcel: &mut Parcel<'r, J>,
+        size: usize,
+        count: usize,
+    ) -> Result<usize, PoolError>
+        ensures fillings { MatchResult result
+            (λ n. map data_of parcel.new.items ≡ map data_of parcel.old.items ++ replicate n [])
+            (λ _. map data_of parcel.new.items ≡ map data_of parcel.old.items) }
+        ensures most { IfOk result (λ n. n ≤ count) }
+        ensures places { parcel.new.places ≡ parcel.old.places }
+        ensures too_large { (result ≡ Err TooLarge) ↔ (largest_of (profile_of J.names.digits.bits) < size) }
+        ensures fills { Fills J.names self.old size count parcel.old result self.new parcel.new }
+    {
+        self.fill(rt, parcel, size, count)
+    }
+
+    #[tactic(auto, using(crate::proofs::Bursts::filled_fillings, crate::proofs::Bursts::filled_most, crate::proofs::Bursts::filled_places, crate::proofs::Largest::filled_largest))]
+    fn fill_waiting<R: Wait + Clock>(
+        &mut self,
+        rt: &R,
+        parcel: &mut Parcel<'r, J>,
+        size: usize,
+        count: usize,
+    ) -> Result<usize, PoolError>
+        ensures fillings { MatchResult result
+            (λ n. map data_of parcel.new.items ≡ map data_of parcel.old.items ++ replicate n [])
+            (λ _. map data_of parcel.new.items ≡ map data_of parcel.old.items) }
+        ensures most { IfOk result (λ n. n ≤ count) }
+        ensures places { parcel.new.places ≡ parcel.old.places }
+        ensures too_large { (result ≡ Err TooLarge) ↔ (largest_of (profile_of J.names.digits.bits) < size) }
+        ensures waits { result ≢ Err UsedUp }
+        ensures fills { Fills J.names self.old size count parcel.old result self.new parcel.new }
+    {
+        self.fill_waiting(rt, parcel, size, count)
     }
 
     #[inline]

@@ -1,5 +1,5 @@
 //! What a task sees of its allocator. These traits name no lifetime, so a thread may run over them.
-ghost use Rattle.std.specs.Prelude.{◌≡◌, ◌≢◌, ◌+◌, ◌<◌, ◌≤◌, ◌↔◌, [], IfOk};
+ghost use Rattle.std.specs.Prelude.{◌≡◌, ◌≢◌, ◌+◌, ◌<◌, ◌≤◌, ◌↔◌, [], ◌++◌, replicate, IfOk, MatchResult};
 ghost use Rattle.pool_jobs.specs.declared.error.PoolError.TheVariants.{TooLarge, UsedUp};
 
 use crate::buffers::burst::Burst;
@@ -72,6 +72,47 @@ pub trait Heap: Drop {
     fn parcel(&mut self, places: usize) -> Result<Self::Parcel, NoMemory>
         ensures places { IfOk result (λ p. places ≤ Self.Parcel.places p) }
         ensures empty { IfOk result (λ p. Self.Parcel.fillings p ≡ []) }
+        ensures largest { largest self.new ≡ largest self.old };
+
+    /// Lends up to `count` buffers of at least `size` bytes, all of one size class, to the end of a parcel
+    /// of this heap, by one call, and says how many it lent. Nothing of them is filled:
+    /// [`Burst::edit_at`] writes them, and [`Burst::set_len_at`] says how much counts.
+    ///
+    /// It lends fewer than `count` where the parcel has fewer places, or where the pool has no more slots
+    /// for now; and 0 only where `count` is 0, the parcel has no place, or another heap made it. An error
+    /// is that of [`Heap::alloc`], and comes only where not one buffer was lent.
+    fn fill<R: Wait>(
+        &mut self,
+        rt: &R,
+        parcel: &mut Self::Parcel,
+        size: usize,
+        count: usize,
+    ) -> Result<usize, PoolError>
+        ensures fillings { MatchResult result
+            (λ n. Self.Parcel.fillings parcel.new ≡ Self.Parcel.fillings parcel.old ++ replicate n [])
+            (λ _. Self.Parcel.fillings parcel.new ≡ Self.Parcel.fillings parcel.old) }
+        ensures most { IfOk result (λ n. n ≤ count) }
+        ensures places { Self.Parcel.places parcel.new ≡ Self.Parcel.places parcel.old }
+        ensures too_large { (result ≡ Err TooLarge) ↔ (largest self.old < size) }
+        ensures largest { largest self.new ≡ largest self.old };
+
+    /// The same, and where the pool is used up it waits for the next slot, as [`Heap::alloc_waiting`] does.
+    /// So it lends `count` buffers, or as many as the parcel has places for; fewer only where the system
+    /// refuses memory after the first one.
+    fn fill_waiting<R: Wait + Clock>(
+        &mut self,
+        rt: &R,
+        parcel: &mut Self::Parcel,
+        size: usize,
+        count: usize,
+    ) -> Result<usize, PoolError>
+        ensures fillings { MatchResult result
+            (λ n. Self.Parcel.fillings parcel.new ≡ Self.Parcel.fillings parcel.old ++ replicate n [])
+            (λ _. Self.Parcel.fillings parcel.new ≡ Self.Parcel.fillings parcel.old) }
+        ensures most { IfOk result (λ n. n ≤ count) }
+        ensures places { Self.Parcel.places parcel.new ≡ Self.Parcel.places parcel.old }
+        ensures too_large { (result ≡ Err TooLarge) ↔ (largest self.old < size) }
+        ensures waits { result ≢ Err UsedUp }
         ensures largest { largest self.new ≡ largest self.old };
 
     /// Takes all buffers of a parcel back, whichever allocator of the pool made it.

@@ -1,0 +1,232 @@
+-- Buffers are lent into a parcel, some after others.
+use Rattle.std.proofs.Common.{◌≡◌, ℕ, ◌+◌, ◌-◌, ◌≤◌, ◌<◌, List, [], ◌∷◌, ◌++◌, length, map, take, refl, sym, ap, subst, ◌∙◌, arith, append-nil, append_assoc, All, Result, Ok, Err}
+use Rattle.std.specs.Prelude.{MatchResult, IfOk, replicate}
+use Rattle.std.proofs.lemmas.List.{length-append, length-map, map-append}
+use Rattle.std.proofs.lemmas.List.Elements.{All-append, All-cons, All-head, All-nil, All-tail}
+use Rattle.slot_chain.specs.Buffer.{Buffer}
+use Rattle.slot_chain.specs.Filling.{data_of}
+use Rattle.slot_chain.specs.Parcels.{ParcelState, Packs}
+use Rattle.pool_desk.specs.Steps.{freed}
+use Rattle.pool_fabric.specs.Names.{Names}
+use Rattle.pool_fabric.specs.Stations.{StationState}
+use Rattle.pool_jobs.specs.Bursts.{Fills, LendsInto, TakesNone, packed}
+use Rattle.pool_jobs.specs.Serving.{IsClassFor, Keeps, Serves, ServesClass}
+use Rattle.pool_jobs.specs.declared.error.PoolError.{PoolError}
+use Rattle.pool_jobs.specs.declared.error.PoolError.TheVariants.{TooLarge, UsedUp, NoMemory}
+use Rattle.pool_jobs.proofs.Looking.{Step}
+use Rattle.pool_jobs.proofs.Waits.{serves_since}
+
+-- none
+pub into_none : (names : Names) (n count : ℕ) (old : StationState) (p : ParcelState) (new : StationState) → Keeps names old new → LendsInto names n count old p 0 new p
+into_none names n count old p new k = record {
+  buffers = [];
+  lends = record {
+    desk = k.desk;
+    class = All-nil _;
+    owner = All-nil _;
+    empty = All-nil _;
+    lent = k.lent ∙ sym (append-nil old.lent);
+    freed = k.freed;
+  };
+  number = refl;
+  most = omega arith;
+  into = ap (λ bs. record p { items = bs }) (sym (append-nil p.items));
+}
+
+-- one
+pub into_one : (names : Names) (n c : ℕ) (old : StationState) (p : ParcelState) (b : Buffer) (new : StationState) (p' : ParcelState)
+    → IsClassFor names n c → ServesClass names old c (Ok b) new → Packs p b p' → LendsInto names n 1 old p 1 new p'
+into_one names n c old p b new p' is s h = record {
+  buffers = b ∷ [];
+  lends = record {
+    desk = s.1.desk;
+    class = All-cons (λ (x : Buffer). IsClassFor names n x.class) b [] (rw s.0 is) (All-nil _);
+    owner = All-cons (λ (x : Buffer). x.owner ≡ old.desk.number) b [] s.1.owner (All-nil _);
+    empty = All-cons (λ (x : Buffer). x.filled ≡ 0) b [] s.1.empty (All-nil _);
+    lent = s.1.lent;
+    freed = s.1.freed;
+  };
+  number = refl;
+  most = omega arith;
+  into = h.2;
+}
+
+-- some, and then more
+pub into_then : (names : Names) (n a c count : ℕ) (old mid new : StationState) (p q r : ParcelState) (k j : ℕ)
+    → k + j ≤ count → LendsInto names n a old p k mid q → LendsInto names n c mid q j new r → LendsInto names n count old p (k + j) new r
+into_then names n a c count old mid new p q r k j le h g =
+    let l = h.lends in let m = g.lends in let xs = h.buffers in let ys = g.buffers in
+    let owner : All (λ (x : Buffer). x.owner ≡ old.desk.number) ys = λ i d lt. m.owner i d lt ∙ l.desk.number in
+    record {
+      buffers = xs ++ ys;
+      lends = record {
+        desk = record { number = m.desk.number ∙ l.desk.number; digits = m.desk.digits };
+        class = All-append (λ (x : Buffer). IsClassFor names n x.class) xs ys l.class m.class;
+        owner = All-append (λ (x : Buffer). x.owner ≡ old.desk.number) xs ys l.owner owner;
+        empty = All-append (λ (x : Buffer). x.filled ≡ 0) xs ys l.empty m.empty;
+        lent = m.lent ∙ (ap (λ bs. bs ++ ys) l.lent ∙ append_assoc old.lent xs ys);
+        freed = m.freed ∙ l.freed;
+      };
+      number = length-append xs ys ∙ (ap (λ z. z + length ys) h.number ∙ ap (λ z. k + z) g.number);
+      most = le;
+      into =
+          g.into ∙ (ap (λ (z : ParcelState). packed z ys) h.into
+          ∙ ap (λ bs. record p { items = bs }) (append_assoc p.items (map freed xs) (map freed ys) ∙ ap (λ bs. p.items ++ bs) (sym (map-append freed xs ys))));
+    }
+
+-- nothing was lent after some were
+pub into_kept : (names : Names) (n count : ℕ) (old mid new : StationState) (p q : ParcelState) (k : ℕ)
+    → LendsInto names n count old p k mid q → Keeps names mid new → LendsInto names n count old p k new q
+into_kept names n count old mid new p q k h s =
+    let l = h.lends in
+    record {
+      buffers = h.buffers;
+      lends = record {
+        desk = record { number = s.desk.number ∙ l.desk.number; digits = s.desk.digits };
+        class = l.class;
+        owner = l.owner;
+        empty = l.empty;
+        lent = s.lent ∙ l.lent;
+        freed = s.freed ∙ l.freed;
+      };
+      number = h.number;
+      most = h.most;
+      into = h.into;
+    }
+
+no_length : (bs : List Buffer) → length bs ≡ 0 → bs ≡ []
+no_length [] e = refl
+no_length (b ∷ bs) e = absurd (omega (arith, e))
+
+-- where none was lent, none was lent or freed since
+pub into_since : (names : Names) (n count : ℕ) (old mid : StationState) (p q : ParcelState) (k : ℕ) → k ≡ 0
+    → LendsInto names n count old p k mid q → Step old mid × (q ≡ p)
+into_since names n count old mid p q k z h =
+    let none : h.buffers ≡ [] = no_length h.buffers (h.number ∙ z) in (
+      record {
+        number = h.lends.desk.number;
+        lent = h.lends.lent ∙ (ap (λ bs. old.lent ++ bs) none ∙ append-nil old.lent);
+        freed = h.lends.freed;
+      },
+      h.into ∙ ap (λ bs. record p { items = bs }) (ap (λ bs. p.items ++ map freed bs) none ∙ append-nil p.items),
+    )
+
+-- there is a place more
+pub into_room : (names : Names) (n count : ℕ) (old mid : StationState) (p q : ParcelState) (k : ℕ) → LendsInto names n count old p k mid q
+    → length p.items + count ≤ p.places → k < count → length q.items < q.places
+into_room names n count old mid p q k h room lt =
+    let len = length-append p.items (map freed h.buffers) in
+    let more = length-map h.buffers freed in
+    let number = h.number in
+    rw h.into (omega (arith, len, more, number))
+
+pub into_owner : (names : Names) (n count : ℕ) (old mid : StationState) (p q : ParcelState) (k : ℕ) → LendsInto names n count old p k mid q
+    → p.owner ≡ old.desk.number → q.owner ≡ mid.desk.number
+into_owner names n count old mid p q k h own =
+    ap (λ (z : ParcelState). z.owner) h.into ∙ (own ∙ sym h.lends.desk.number)
+
+-- a class that has no slot is that of a size
+pub served_size : (names : Names) (n c : ℕ) (old : StationState) (e : PoolError) (new : StationState) → IsClassFor names n c
+    → ServesClass names old c (Err e) new → Serves names old n (Err e) new
+served_size names n c old TooLarge new is h = absurd h
+served_size names n c old UsedUp new is h = ((c, is, h.0), h.1)
+served_size names n c old NoMemory new is h = ((c, is, h.0), h.1)
+
+-- what is refused changes nothing of what was lent
+pub served_keeps : (names : Names) (n : ℕ) (old : StationState) (e : PoolError) (new : StationState) → Serves names old n (Err e) new → Keeps names old new
+served_keeps names n old TooLarge new h = h.1
+served_keeps names n old UsedUp new h = h.1
+served_keeps names n old NoMemory new h = h.1
+
+pub keeps_same : (names : Names) (old new : StationState) → new ≡ old → old.desk.digits ≡ names.digits → Keeps names old new
+keeps_same names old new e d =
+    let same : Keeps names old old = record { desk = record { number = refl; digits = d }; lent = refl; freed = refl } in
+    rw e same
+
+-- with room for fewer than were asked for
+pub filled : (names : Names) (n most count : ℕ) (old : StationState) (p : ParcelState) (r : Result ℕ PoolError) (new : StationState) (p' : ParcelState)
+    → MatchResult r (λ k. LendsInto names n most old p k new p') (λ e. Serves names old n (Err e) new × (p' ≡ p))
+    → IfOk r (λ k. k ≡ 0 → most ≡ 0) → most ≤ count → (most ≡ 0 → TakesNone count old.desk.number p) → (c : ℕ) → IsClassFor names n c
+    → Fills names old n count p r new p'
+filled names n most count old p (Ok k) new p' h some le none c is = (
+  (c, is),
+  record { buffers = h.buffers; lends = h.lends; number = h.number; most = (let m = h.most in omega (arith, m, le)); into = h.into },
+  λ z. none (some z),
+)
+filled names n most count old p (Err e) new p' h some le none c is = h
+
+-- of what was lent nothing is filled
+new_filling : (b : Buffer) → b.filled ≡ 0 → data_of (freed b) ≡ []
+new_filling b e = ap (λ z. take z b.bytes.now) e
+
+new_fillings : (bs : List Buffer) → All (λ (b : Buffer). b.filled ≡ 0) bs → map data_of (map freed bs) ≡ replicate (length bs) []
+new_fillings [] h = refl
+new_fillings (b ∷ bs) h =
+    let one = new_filling b (All-head (λ (x : Buffer). x.filled ≡ 0) b bs h) in
+    let rest = new_fillings bs (All-tail (λ (x : Buffer). x.filled ≡ 0) b bs h) in
+    rw (one, rest) refl
+
+into_fillings : (names : Names) (n count : ℕ) (old new : StationState) (p p' : ParcelState) (k : ℕ) → LendsInto names n count old p k new p'
+    → map data_of p'.items ≡ map data_of p.items ++ replicate k []
+into_fillings names n count old new p p' k h =
+    ap (λ (z : ParcelState). map data_of z.items) h.into
+    ∙ (map-append data_of p.items (map freed h.buffers)
+    ∙ ap (λ l. map data_of p.items ++ l) (new_fillings h.buffers h.lends.empty ∙ ap (λ z. replicate z []) h.number))
+
+pub filled_fillings : (names : Names) (n count : ℕ) (old : StationState) (p : ParcelState) (r : Result ℕ PoolError) (new : StationState) (p' : ParcelState)
+    → Fills names old n count p r new p'
+    → MatchResult r (λ k. map data_of p'.items ≡ map data_of p.items ++ replicate k []) (λ _. map data_of p'.items ≡ map data_of p.items)
+filled_fillings names n count old p (Ok k) new p' h = into_fillings names n count old new p p' k h.1
+filled_fillings names n count old p (Err e) new p' h = ap (λ (z : ParcelState). map data_of z.items) h.1
+
+pub filled_most : (names : Names) (n count : ℕ) (old : StationState) (p : ParcelState) (r : Result ℕ PoolError) (new : StationState) (p' : ParcelState)
+    → Fills names old n count p r new p' → IfOk r (λ k. k ≤ count)
+filled_most names n count old p (Ok k) new p' h = h.1.most
+filled_most names n count old p (Err e) new p' h = tt
+
+pub filled_places : (names : Names) (n count : ℕ) (old : StationState) (p : ParcelState) (r : Result ℕ PoolError) (new : StationState) (p' : ParcelState)
+    → Fills names old n count p r new p' → p'.places ≡ p.places
+filled_places names n count old p (Ok k) new p' h = ap (λ (z : ParcelState). z.places) h.1.into
+filled_places names n count old p (Err e) new p' h = ap (λ (z : ParcelState). z.places) h.1
+
+-- the same of an allocator that was told of the call
+pub filled_from : (names : Names) (n most count : ℕ) (old mid : StationState) (p : ParcelState) (r : Result ℕ PoolError) (new : StationState) (p' : ParcelState)
+    → mid ≡ old → MatchResult r (λ k. LendsInto names n most mid p k new p') (λ e. Serves names mid n (Err e) new × (p' ≡ p))
+    → IfOk r (λ k. k ≡ 0 → most ≡ 0) → most ≤ count → (most ≡ 0 → TakesNone count mid.desk.number p) → (c : ℕ) → IsClassFor names n c
+    → Fills names old n count p r new p'
+filled_from names n most count old mid p r new p' e h some le none c is =
+    subst (λ (z : StationState). Fills names z n count p r new p') e (filled names n most count mid p r new p' h some le none c is)
+
+takes_same : (count c number m : ℕ) (p q : ParcelState) → c ≡ count → m ≡ number → q ≡ p → TakesNone c m q → TakesNone count number p
+takes_same count c number m p q a b e t =
+    subst (λ z. TakesNone z number p) a (subst (λ z. TakesNone c z p) b (subst (λ (z : ParcelState). TakesNone c m z) e t))
+
+-- some were lent, and then none, since the parcel takes no more
+pub filled_stop : (names : Names) (n count : ℕ) (old mid : StationState) (p q : ParcelState) (k : ℕ) (new : StationState) (r : ParcelState)
+    → LendsInto names n count old p k mid q → Fills names mid n (count - k) q (Ok 0) new r → Fills names old n count p (Ok k) new r
+filled_stop names n count old mid p q k new r h f =
+    let most = h.most in
+    let all : k + 0 ≡ k = omega arith in (
+      f.0,
+      subst (λ z. LendsInto names n count old p z new r) all (into_then names n count (count - k) count old mid new p q r k 0 (omega (arith, most)) h f.1),
+      λ z. let s = into_since names n count old mid p q k z h in takes_same count (count - k) old.desk.number mid.desk.number p q (omega (arith, z)) s.0.number s.1 (f.2 refl),
+    )
+
+-- none was lent, and then none for want of a slot or of memory
+pub filled_err : (names : Names) (n count : ℕ) (old mid : StationState) (p q : ParcelState) (k : ℕ) (e : PoolError) (new : StationState) (r : ParcelState)
+    → k ≡ 0 → LendsInto names n count old p k mid q → Fills names mid n (count - k) q (Err e) new r → Fills names old n count p (Err e) new r
+filled_err names n count old mid p q k e new r z h f =
+    let s = into_since names n count old mid p q k z h in (serves_since names old mid n (Err e) new s.0 f.0, f.1 ∙ s.1)
+
+some_class : (names : Names) (n : ℕ) (bs : List Buffer) → (length bs ≡ 0 → ⊥) → All (λ (b : Buffer). IsClassFor names n b.class) bs → (c : ℕ) × IsClassFor names n c
+some_class names n [] ne h = absurd (ne refl)
+some_class names n (b ∷ bs) ne h = (b.class, All-head (λ (x : Buffer). IsClassFor names n x.class) b bs h)
+
+-- some were lent, and then none for want of a slot or of memory
+pub filled_some : (names : Names) (n count : ℕ) (old mid : StationState) (p q : ParcelState) (k : ℕ) (e : PoolError) (new : StationState) (r : ParcelState)
+    → (k ≡ 0 → ⊥) → LendsInto names n count old p k mid q → Fills names mid n (count - k) q (Err e) new r → Fills names old n count p (Ok k) new r
+filled_some names n count old mid p q k e new r ne h f = (
+  some_class names n h.buffers (λ z. ne (sym h.number ∙ z)) h.lends.class,
+  subst (λ (z : ParcelState). LendsInto names n count old p k new z) (sym f.1) (into_kept names n count old mid new p q k h (served_keeps names n mid e new f.0)),
+  λ z. absurd (ne z),
+)

@@ -1,0 +1,44 @@
+-- What the filling of a parcel does.
+use Rattle.std.specs.Prelude.{◌≡◌, ◌≢◌, ℕ, ◌≤◌, ◌⊎◌, List, [], ◌∷◌, ◌++◌, All, Result, Ok, Err, length, map}
+use Rattle.slot_chain.specs.Buffer.{Buffer}
+use Rattle.slot_chain.specs.Parcels.{ParcelState}
+use Rattle.pool_desk.specs.Steps.{freed}
+use Rattle.pool_fabric.specs.Names.{Names}
+use Rattle.pool_fabric.specs.Stations.{StationState}
+use Rattle.pool_jobs.specs.Serving.{IsClassFor, SameDesk, Serves}
+use Rattle.pool_jobs.specs.declared.error.PoolError.{PoolError}
+
+-- These buffers of the desk's own were lent out, one after the other: each of the least class that holds n bytes, and
+-- nothing of it is filled. None was freed.
+pub record LendsEach (names : Names) (n : ℕ) (old : StationState) (bs : List Buffer) (new : StationState) : Type 0 where
+  pub desk : SameDesk names old new
+  pub class : All (λ (b : Buffer). IsClassFor names n b.class) bs
+  pub owner : All (λ (b : Buffer). b.owner ≡ old.desk.number) bs
+  pub empty : All (λ (b : Buffer). b.filled ≡ 0) bs
+  pub lent : new.lent ≡ old.lent ++ bs
+  pub freed : new.freed ≡ old.freed
+
+-- the parcel with these buffers at its end, none of which was passed on
+abbrev pub packed : ParcelState → List Buffer → ParcelState
+packed p bs = record p { items = p.items ++ map freed bs }
+
+-- k buffers, and no more than count, were lent into the parcel
+pub record LendsInto (names : Names) (n count : ℕ) (old : StationState) (p : ParcelState) (k : ℕ) (new : StationState)
+    (p' : ParcelState) : Type 0 where
+  pub buffers : List Buffer
+  pub lends : LendsEach names n old buffers new
+  pub number : length buffers ≡ k
+  pub most : k ≤ count
+  pub into : p' ≡ packed p buffers
+
+-- why no buffer comes into a parcel: none was asked for, it is another allocator's, or it has no place
+abbrev pub TakesNone : ℕ → ℕ → ParcelState → Type 0
+TakesNone count number p = (count ≡ 0) ⊎ (p.owner ≢ number) ⊎ (p.places ≤ length p.items)
+
+-- A class holds n bytes, and buffers of it were lent into the parcel: none only where it takes none. Or none was, for the
+-- reasons that one buffer is refused for.
+abbrev pub Fills : Names → StationState → ℕ → ℕ → ParcelState → Result ℕ PoolError → StationState → ParcelState → Type 0
+Fills names old n count p (Ok k) new p' =
+    ((c : ℕ) × IsClassFor names n c) × LendsInto names n count old p k new p'
+    × (k ≡ 0 → TakesNone count old.desk.number p)
+Fills names old n count p (Err e) new p' = Serves names old n (Err e) new × (p' ≡ p)

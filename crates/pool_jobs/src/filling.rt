@@ -1,0 +1,154 @@
+//! Parcels that are filled by one call.
+ghost use Rattle.std.specs.Prelude.{◌≡◌, ◌≢◌, ◌+◌, ◌≤◌, ◌<◌, length, IfOk, MatchResult};
+ghost use Rattle.pool_jobs.specs.Bursts.{Fills, LendsInto, TakesNone};
+ghost use Rattle.pool_jobs.specs.Serving.{IsClassFor, Serves};
+ghost use Rattle.pool_jobs.specs.declared.error.PoolError.TheVariants.{UsedUp};
+
+use crate::allocator::{Allocator, recall};
+use crate::error::PoolError;
+use crate::gate::Gate;
+use crate::waiting::Pauses;
+use batch_inbox::{Mail, Receiver, Sender};
+use pool_fabric::{Naming, Parcel};
+use region_cut::Class;
+use std::sync::Wait;
+use std::time::Clock;
+
+impl<
+    'a,
+    'r,
+    T: Receiver,
+    S: Sender,
+    M: Mail<'r, TakeSeat = T, SendSeat = S>,
+    G: Gate,
+    J: Naming,
+> Allocator<'a, 'r, M, T, S, G, J> {
+    /// Lends up to `count` buffers of at least `size` bytes, all of one size class, to the end of a parcel
+    /// of this allocator, and says how many it lent: fewer than `count` where the parcel has fewer places,
+    /// or where the pool has no more slots for now. It is 0 only where `count` is, where the parcel has no
+    /// place, or where another allocator made it.
+    ///
+    /// An error comes where not one buffer was lent, and is that of [`Allocator::alloc`]. The parcel is
+    /// then as it was.
+    #[inline]
+    pub fn fill<R: Wait>(
+        &mut self,
+        rt: &R,
+        parcel: &mut Parcel<'r, J>,
+        size: usize,
+        count: usize,
+    ) -> Result<usize, PoolError>
+        ensures { Fills J.names self.old size count parcel.old result self.new parcel.new }
+    {
+        let call = self.before();
+        let answer = match self.class_for(size) {
+            None => Err(PoolError::TooLarge),
+            Some(class) => {
+                let most = self.places_for(parcel, count);
+                self.fill_class(rt, parcel, size, class, most)
+            }
+        };
+        self.after(call);
+        answer
+    }
+
+    /// Lends `count` buffers into a parcel as [`Allocator::fill`] does, and where the pool is used up it
+    /// waits for the next one, as [`Allocator::alloc_waiting`] does. It lends fewer only where the parcel
+    /// has fewer places, or where the system refuses memory after the first one.
+    #[tactic(auto, using(crate::proofs::Bursts::filled_err, crate::proofs::Bursts::filled_some, crate::proofs::Bursts::filled_stop))]
+    pub fn fill_waiting<R: Wait + Clock>(
+        &mut self,
+        rt: &R,
+        parcel: &mut Parcel<'r, J>,
+        size: usize,
+        count: usize,
+    ) -> Result<usize, PoolError>
+        ensures fills { Fills J.names self.old size count parcel.old result self.new parcel.new }
+        ensures waits { result ≢ Err UsedUp }
+    {
+        recall(&self.station);
+        let mut pauses = Pauses::new();
+        let mut lent = 0;
+        for _ in rt.forever() {
+            match self.fill(rt, parcel, size, count - lent) {
+                Ok(0) => return Ok(lent),
+                Ok(more) => lent += more,
+                Err(PoolError::UsedUp) => self.pause(rt, &mut pauses),
+                Err(error) => {
+                    if lent == 0 {
+                        return Err(error);
+                    }
+                    return Ok(lent);
+                }
+            }
+        }
+        unreachable!()
+    }
+
+    // How many of so many buffers the parcel takes.
+    fn places_for(&self, parcel: &Parcel<'r, J>, count: usize) -> usize
+        ensures most { result ≤ count }
+        ensures room { 0 < result → length parcel.now.items + result ≤ parcel.now.places }
+        ensures own { 0 < result → parcel.now.owner ≡ self.now.desk.number }
+        ensures none { result ≡ 0 → TakesNone count self.now.desk.number parcel.now }
+    {
+        if parcel.owner() != self.number() {
+            return 0;
+        }
+        count.min(parcel.places().saturating_sub(parcel.len()))
+    }
+
+    // Lends so many buffers of the class that a size has into the parcel, or as many as there are.
+    fn fill_class<R: Wait>(
+        &mut self,
+        rt: &R,
+        parcel: &mut Parcel<'r, J>,
+        size: usize,
+        class: Class,
+        most: usize,
+    ) -> Result<usize, PoolError>
+        requires class { IsClassFor J.names size class }
+        requires digits { self.old.desk.digits ≡ J.names.digits }
+        requires room { 0 < most → length parcel.old.items + most ≤ parcel.old.places }
+        requires own { 0 < most → parcel.old.owner ≡ self.old.desk.number }
+        ensures value { MatchResult result
+            (λ n. LendsInto J.names size most self.old parcel.old n self.new parcel.new)
+            (λ e. Serves J.names self.old size (Err e) self.new × (parcel.new ≡ parcel.old)) }
+        ensures some { IfOk result (λ n. n ≡ 0 → most ≡ 0) }
+    {
+        if self.is_to_look(most as u64) {
+            self.fetch(rt, class);
+        }
+        let mut lent = 0;
+        while lent < most {
+            match self.lend_into(rt, parcel, size, class) {
+                Ok(()) => lent += 1,
+                Err(error) => return if lent == 0 { Err(error) } else { Ok(lent) },
+            }
+        }
+        Ok(lent)
+    }
+
+    // Lends a buffer of the class that a size has to the end of the parcel.
+    #[inline(always)]
+    fn lend_into<R: Wait>(
+        &mut self,
+        rt: &R,
+        parcel: &mut Parcel<'r, J>,
+        size: usize,
+        class: Class,
+    ) -> Result<(), PoolError>
+        requires class { IsClassFor J.names size class }
+        requires room { length parcel.old.items < parcel.old.places }
+        requires own { parcel.old.owner ≡ self.old.desk.number }
+        ensures { MatchResult result
+            (λ _. LendsInto J.names size 1 self.old parcel.old 1 self.new parcel.new)
+            (λ e. Serves J.names self.old size (Err e) self.new × (parcel.new ≡ parcel.old)) }
+    {
+        let buffer = self.lend(rt, class)?;
+        let Ok(()) = parcel.push(buffer) else {
+            unreachable!();
+        };
+        Ok(())
+    }
+}

@@ -1,0 +1,246 @@
+//! Parcels that are filled by one call.
+ghost use Rattle.std.specs.Prelude.{◌≡◌, ◌≤◌};
+
+use super::{BOTH, Ground, Inboxes, Outcome, outcome_of};
+use pool_jobs::{Burst, Channels, Data, Heap, Message, PoolError, Task};
+use std::process::Abort;
+use std::sync::Wait;
+use std::test::Fail;
+use std::thread::Threads;
+use std::time::Clock;
+
+// So many slots of 512 bytes has a chunk.
+const SLOTS: usize = 8;
+
+// What a thread does. It answers with what went wrong, or with nothing.
+#[derive(Drop)]
+enum Act {
+    // Asks for more than a chunk has, and once more.
+    Exhausts,
+    // Asks for more than a parcel takes, for none, and for too large ones.
+    Overfills,
+    // Fills a parcel, and lends the same slots again.
+    Lends,
+    // Hands all its slots over, and waits until they come home.
+    Hands,
+    // Frees the parcel that it receives, once it has tried to fill it.
+    Frees,
+}
+
+impl Task for Act {
+    type Answer = Result<(), &'static str>;
+
+    fn sends_to(&self, task: usize) -> bool {
+        match self {
+            Act::Hands => task == 1,
+            _ => false,
+        }
+    }
+
+    fn run<H: Heap, R: Wait + Clock>(
+        self,
+        rt: &R,
+        heap: &mut H,
+        channels: Channels<H::Buffer, H::Parcel>,
+    ) -> Result<(), &'static str> {
+        match self {
+            Act::Exhausts => exhaust(rt, heap),
+            Act::Overfills => overfill(rt, heap),
+            Act::Lends => lend(rt, heap),
+            Act::Hands => hand(rt, heap, &channels),
+            Act::Frees => free(rt, heap, &channels),
+        }
+    }
+}
+
+fn parcel<H: Heap>(heap: &mut H, places: usize) -> Result<H::Parcel, &'static str> {
+    heap.parcel(places).map_err(|_| "no parcel")
+}
+
+// What is wrong, unless it is so.
+fn check(is_so: bool, what: &'static str) -> Result<(), &'static str> {
+    if is_so { Ok(()) } else { Err(what) }
+}
+
+fn exhaust<H: Heap, R: Wait>(rt: &R, heap: &mut H) -> Result<(), &'static str> {
+    let mut parcel = parcel(heap, 2 * SLOTS)?;
+    let first = heap.fill(rt, &mut parcel, 512, SLOTS + 2);
+    check(first == Ok(SLOTS), "not all slots of the chunk")?;
+    let second = heap.fill(rt, &mut parcel, 512, 1);
+    check(second == Err(PoolError::UsedUp), "a ninth buffer")?;
+    check(parcel.len() == SLOTS, "another number of buffers")?;
+    heap.free_all(rt, parcel);
+    Ok(())
+}
+
+fn overfill<H: Heap, R: Wait>(rt: &R, heap: &mut H) -> Result<(), &'static str> {
+    let mut parcel = parcel(heap, 4)?;
+    let places = parcel.places();
+    check(heap.fill(rt, &mut parcel, 16, 0) == Ok(0), "more than none")?;
+    check(heap.fill(rt, &mut parcel, 16, 3) == Ok(3), "not three")?;
+    check(
+        heap.fill(rt, &mut parcel, 16, places) == Ok(places.saturating_sub(3)),
+        "not what was left",
+    )?;
+    check(
+        heap.fill(rt, &mut parcel, 16, 1) == Ok(0),
+        "one more than there are places",
+    )?;
+    let too_large = heap.fill(rt, &mut parcel, heap.largest_size().saturating_add(1), 1);
+    check(too_large == Err(PoolError::TooLarge), "too large a buffer")?;
+    check(parcel.len() == places, "another number of buffers")?;
+    heap.free_all(rt, parcel);
+    Ok(())
+}
+
+// A parcel with a buffer for each place: each byte of it is the place, and it has 100 bytes and as many more.
+fn packed<H: Heap, R: Wait + Clock>(
+    rt: &R,
+    heap: &mut H,
+    places: usize,
+) -> Result<H::Parcel, PoolError> {
+    let mut parcel = heap.parcel(places)?;
+    let _lent = heap.fill_waiting(rt, &mut parcel, 512, places)?;
+    for at in 0..places {
+        if at >= parcel.len() {
+            break;
+        }
+        parcel.edit_at(at, |bytes| bytes.fill(at as u8));
+        let _fits = parcel.set_len_at(at, at.saturating_add(100));
+    }
+    Ok(parcel)
+}
+
+fn lend_once<H: Heap, R: Wait + Clock>(rt: &R, heap: &mut H) -> Result<(), &'static str> {
+    let mut parcel = parcel(heap, SLOTS)?;
+    check(
+        heap.fill(rt, &mut parcel, 512, SLOTS) == Ok(SLOTS),
+        "not all slots",
+    )?;
+    for buffer in parcel.buffers() {
+        check(buffer.data().is_empty(), "filled already")?;
+    }
+    heap.free_all(rt, parcel);
+    let parcel = packed(rt, heap, SLOTS).map_err(|_| "no buffers")?;
+    let mut at = 0usize;
+    for buffer in parcel.buffers() {
+        let data = buffer.data();
+        check(
+            data.len() == at.saturating_add(100) && data.iter().all(|b| *b == at as u8),
+            "another's bytes",
+        )?;
+        at = at.saturating_add(1);
+    }
+    heap.free_all(rt, parcel);
+    check(at == SLOTS, "another number of buffers")
+}
+
+fn lend<H: Heap, R: Wait + Clock>(rt: &R, heap: &mut H) -> Result<(), &'static str> {
+    lend_once(rt, heap)?;
+    lend_once(rt, heap)
+}
+
+fn hand<H: Heap, R: Wait + Clock>(
+    rt: &R,
+    heap: &mut H,
+    channels: &Channels<H::Buffer, H::Parcel>,
+) -> Result<(), &'static str> {
+    let mut first = parcel(heap, SLOTS)?;
+    check(
+        heap.fill_waiting(rt, &mut first, 512, SLOTS) == Ok(SLOTS),
+        "not all slots",
+    )?;
+    if let Err(message) = channels.send_parcel(rt, heap, 1, first) {
+        message.free(rt, heap);
+        return Err("not handed over");
+    }
+    let mut second = parcel(heap, SLOTS)?;
+    check(
+        heap.fill_waiting(rt, &mut second, 512, SLOTS) == Ok(SLOTS),
+        "not all came home",
+    )?;
+    heap.free_all(rt, second);
+    Ok(())
+}
+
+fn free<H: Heap, R: Wait>(
+    rt: &R,
+    heap: &mut H,
+    channels: &Channels<H::Buffer, H::Parcel>,
+) -> Result<(), &'static str> {
+    let Some(Message::Parcel(mut parcel)) = channels.receive(rt, heap) else {
+        return Err("no parcel came");
+    };
+    let filled = heap.fill(rt, &mut parcel, 512, 1);
+    let len = parcel.len();
+    heap.free_all(rt, parcel);
+    let _all = heap.flush(rt);
+    check(
+        filled == Ok(0) && len == SLOTS,
+        "another allocator's parcel was filled",
+    )
+}
+
+fn ground(inboxes: Inboxes, chunks: usize, desks: u16) -> Ground
+    requires { (1 ≤ desks) × (desks ≤ 64) × (chunks ≤ 1024) }
+    ensures { (result.chunks ≡ chunks) × (result.desks ≡ desks) × (result.limit ≡ 1024) }
+{
+    Ground {
+        chunks,
+        desks,
+        width: 2,
+        limit: 1_024,
+        inboxes,
+    }
+}
+
+// One task over a chunk: so many buffers are lent, and all are freed.
+fn alone<R: AllocGlobal + Abort + Threads + Wait + Clock + Sync>(
+    rt: &R,
+    inboxes: Inboxes,
+    act: Act,
+    lent: u64,
+) -> Result<(), Fail> {
+    let tasks = vec![in rt.alloc(); act]?;
+    let Outcome { answers, tally } = outcome_of(rt, ground(inboxes, 1, 1), tasks)?;
+    assert_eq!(rt; answers.as_slice(), [Some(Ok(()))].as_slice());
+    assert!(rt; tally.counts.allocated == lent && tally.counts.freed == lent);
+    assert!(rt; tally.audit.is_ok());
+    Ok(())
+}
+
+#[test]
+fn a_fill_takes_what_there_is(rt: HostRuntime) -> Result<(), Fail> {
+    for inboxes in BOTH {
+        alone(&rt, inboxes, Act::Exhausts, 8)?;
+    }
+    Ok(())
+}
+
+#[test]
+fn a_parcel_is_not_overfilled(rt: HostRuntime) -> Result<(), Fail> {
+    for inboxes in BOTH {
+        alone(&rt, inboxes, Act::Overfills, 4)?;
+    }
+    Ok(())
+}
+
+#[test]
+fn slots_are_lent_again_unfilled(rt: HostRuntime) -> Result<(), Fail> {
+    for inboxes in BOTH {
+        alone(&rt, inboxes, Act::Lends, 32)?;
+    }
+    Ok(())
+}
+
+#[test]
+fn a_fill_waits_for_what_comes_home(rt: HostRuntime) -> Result<(), Fail> {
+    for inboxes in BOTH {
+        let tasks = vec![in rt.alloc(); Act::Hands, Act::Frees]?;
+        let Outcome { answers, tally } = outcome_of(&rt, ground(inboxes, 1, 2), tasks)?;
+        assert_eq!(rt; answers.as_slice(), [Some(Ok(())), Some(Ok(()))].as_slice());
+        assert!(rt; tally.counts.allocated == 16 && tally.counts.freed == 16);
+        assert!(rt; tally.audit.is_ok());
+    }
+    Ok(())
+}
