@@ -13,3 +13,8 @@ pub use link_inbox::{LinkInbox, SendSeat, TakeSeat};
 pub use pool_fabric::{Fabric, HeldStation, Naming, Opening};
 pub use pool_jobs::{Entrance, Gate, MOST_THREADS, NoGate, WorkReport, settle};
 pub use region_cut::{Part, cut};
+
+/// The seats of [`Inbox`]. Those of [`LinkInbox`] have the same names.
+pub mod queued {
+    pub use batch_inbox::{SendSeat, TakeSeat};
+}
