@@ -35,5 +35,6 @@ fn main(rt: HostRuntime) -> anyhow::Result<()> {
     let workers = vec![in rt.alloc(); Worker(0), Worker(1)]?;
     let report = Pool::new(rt.alloc(), &mut region)?.run(&rt, workers)?;
     println!(rt; "{:?}", report.tally)?;
+    report.tally.audit?;
     Ok(())
 }

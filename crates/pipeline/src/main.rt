@@ -116,5 +116,5 @@ fn main(rt: HostRuntime) -> anyhow::Result<()> {
         println!(rt; "{packets} packets, {whole} whole")?;
     }
     println!(rt; "{:?}", report.tally)?;
-    Ok(())
+    report.tally.audit.context("the audit")
 }
