@@ -32,11 +32,11 @@ impl<H: Heap> Dealer<H> {
     pub fn new<R: Wait + Clock>(rt: &R, heap: &mut H, parsers: usize) -> Result<Dealer<H>> {
         for size in SIZES {
             let mut parcel = heap.parcel(PARCEL_LINES)?;
-            for _ in 0..PARCEL_LINES {
-                let buffer = heap.alloc(rt, size).context("taking the first buffers")?;
-                let _full = parcel.push(buffer);
-            }
+            let lent = heap.fill(rt, &mut parcel, size, PARCEL_LINES);
             heap.free_all(rt, parcel);
+            if lent.context("taking the first buffers")? < PARCEL_LINES {
+                bail!("taking the first buffers: too few of {size} bytes");
+            }
         }
         Ok(Dealer {
             parcel: None,
