@@ -1,6 +1,7 @@
 -- Buffers are lent into a parcel, some after others.
-use Rattle.std.proofs.Common.{◌≡◌, ℕ, ◌+◌, ◌-◌, ◌≤◌, ◌<◌, List, [], ◌∷◌, ◌++◌, length, map, take, refl, sym, ap, subst, ◌∙◌, arith, append-nil, append_assoc, All, Result, Ok, Err}
+use Rattle.std.proofs.Common.{◌≡◌, ◌≢◌, ◌⊎◌, inl, inr, ⊎_elim, ℕ, ◌+◌, ◌-◌, ◌≤◌, ◌<◌, List, [], ◌∷◌, ◌++◌, length, map, take, refl, sym, ap, subst, ◌∙◌, arith, append-nil, append_assoc, All, Result, Ok, Err}
 use Rattle.std.specs.Prelude.{MatchResult, IfOk, replicate}
+use Rattle.std.proofs.lemmas.Bool.{cases_lt}
 use Rattle.std.proofs.lemmas.List.{length-append, length-map, map-append}
 use Rattle.std.proofs.lemmas.List.Elements.{All-append, All-cons, All-head, All-nil, All-tail}
 use Rattle.slot_chain.specs.Buffer.{Buffer}
@@ -9,12 +10,12 @@ use Rattle.slot_chain.specs.Parcels.{ParcelState, Packs}
 use Rattle.pool_desk.specs.Steps.{freed}
 use Rattle.pool_fabric.specs.Names.{Names}
 use Rattle.pool_fabric.specs.Stations.{StationState}
-use Rattle.pool_jobs.specs.Bursts.{Fills, LendsInto, TakesNone, packed}
-use Rattle.pool_jobs.specs.Serving.{IsClassFor, Keeps, Serves, ServesClass}
+use Rattle.pool_jobs.specs.Bursts.{Fills, HasNoMore, LendsInto, TakesNone, WantsNoSlot, packed}
+use Rattle.pool_jobs.specs.Serving.{HasOnlyUnused, IsClassFor, Keeps, Serves, ServesClass}
 use Rattle.pool_jobs.specs.declared.error.PoolError.{PoolError}
 use Rattle.pool_jobs.specs.declared.error.PoolError.TheVariants.{TooLarge, UsedUp, NoMemory}
 use Rattle.pool_jobs.proofs.Looking.{Step}
-use Rattle.pool_jobs.proofs.Waits.{serves_since}
+use Rattle.pool_jobs.proofs.Waits.{keeps_since, serves_since}
 
 -- none
 pub into_none : (names : Names) (n count : ℕ) (old : StationState) (p : ParcelState) (new : StationState) → Keeps names old new → LendsInto names n count old p 0 new p
@@ -111,6 +112,12 @@ into_since names n count old mid p q k z h =
       h.into ∙ ap (λ bs. record p { items = bs }) (ap (λ bs. p.items ++ map freed bs) none ∙ append-nil p.items),
     )
 
+into_length : (names : Names) (n count : ℕ) (old mid : StationState) (p q : ParcelState) (k : ℕ) → LendsInto names n count old p k mid q
+    → length q.items ≡ length p.items + k
+into_length names n count old mid p q k h =
+    ap (λ (z : ParcelState). length z.items) h.into
+    ∙ (length-append p.items (map freed h.buffers) ∙ ap (λ z. length p.items + z) (length-map h.buffers freed ∙ h.number))
+
 -- there is a place more
 pub into_room : (names : Names) (n count : ℕ) (old mid : StationState) (p q : ParcelState) (k : ℕ) → LendsInto names n count old p k mid q
     → length p.items + count ≤ p.places → k < count → length q.items < q.places
@@ -143,17 +150,63 @@ keeps_same names old new e d =
     let same : Keeps names old old = record { desk = record { number = refl; digits = d }; lent = refl; freed = refl } in
     rw e same
 
+-- a class that has no slot to lend has no more of them
+served_out : (names : Names) (c : ℕ) (old : StationState) (e : PoolError) (new : StationState) → ServesClass names old c (Err e) new
+    → HasNoMore c new × Keeps names old new
+served_out names c old TooLarge new h = absurd h
+served_out names c old UsedUp new h = (inl h.0, h.1)
+served_out names c old NoMemory new h = (inr h.0, h.1)
+
+class_since : (names : Names) (old mid : StationState) (c : ℕ) (e : PoolError) (new : StationState) → Step old mid
+    → ServesClass names mid c (Err e) new → ServesClass names old c (Err e) new
+class_since names old mid c TooLarge new s h = absurd h
+class_since names old mid c UsedUp new s h = (h.0, keeps_since names old mid new s h.1)
+class_since names old mid c NoMemory new s h = (h.0, keeps_since names old mid new s h.1)
+
+-- none was lent, and then the class had none
+pub class_none : (names : Names) (n count c : ℕ) (old mid : StationState) (p q : ParcelState) (k : ℕ) (e : PoolError) (new : StationState) (r : ParcelState)
+    → k ≡ 0 → LendsInto names n count old p k mid q → ServesClass names mid c (Err e) new × (r ≡ q)
+    → ServesClass names old c (Err e) new × (r ≡ p)
+class_none names n count c old mid p q k e new r z h f =
+    let s = into_since names n count old mid p q k z h in (class_since names old mid c e new s.0 f.0, f.1 ∙ s.1)
+
+-- some were lent, and then the class had none
+pub class_some : (names : Names) (n count c : ℕ) (old mid : StationState) (p q : ParcelState) (k : ℕ) (e : PoolError) (new : StationState) (r : ParcelState)
+    → LendsInto names n count old p k mid q → ServesClass names mid c (Err e) new × (r ≡ q)
+    → LendsInto names n count old p k new r × HasNoMore c new
+class_some names n count c old mid p q k e new r h f =
+    let out = served_out names c mid e new f.0 in (
+      subst (λ (z : ParcelState). LendsInto names n count old p k new z) (sym f.1) (into_kept names n count old mid new p q k h out.1),
+      out.0,
+    )
+
+-- as many came as the parcel takes
+takes_no_more : (names : Names) (n most count : ℕ) (old : StationState) (p : ParcelState) (k : ℕ) (new : StationState) (p' : ParcelState)
+    → LendsInto names n most old p k new p' → k ≡ most
+    → (most < count → (p.owner ≢ old.desk.number) ⊎ (p.places ≤ length p.items + most))
+    → TakesNone (count - k) old.desk.number p'
+takes_no_more names n most count old p k new p' h e whole =
+    ⊎_elim
+    (λ (lt : most < count). ⊎_elim
+    (λ (other : p.owner ≢ old.desk.number). inr (inl (λ same. other (sym (ap (λ (z : ParcelState). z.owner) h.into) ∙ same))))
+    (λ (full : p.places ≤ length p.items + most). let len = into_length names n most old new p p' k h in let places = ap (λ (z : ParcelState). z.places) h.into in inr (inr (omega (arith, len, places, full, e))))
+    (whole lt))
+    (λ (all : count ≤ most). inl (omega (arith, all, e)))
+    (cases_lt most count)
+
 -- with room for fewer than were asked for
-pub filled : (names : Names) (n most count : ℕ) (old : StationState) (p : ParcelState) (r : Result ℕ PoolError) (new : StationState) (p' : ParcelState)
-    → MatchResult r (λ k. LendsInto names n most old p k new p') (λ e. Serves names old n (Err e) new × (p' ≡ p))
-    → IfOk r (λ k. k ≡ 0 → most ≡ 0) → most ≤ count → (most ≡ 0 → TakesNone count old.desk.number p) → (c : ℕ) → IsClassFor names n c
+pub filled : (names : Names) (n c most count : ℕ) (old : StationState) (p : ParcelState) (r : Result ℕ PoolError) (new : StationState) (p' : ParcelState)
+    → MatchResult r (λ k. LendsInto names n most old p k new p') (λ e. ServesClass names old c (Err e) new × (p' ≡ p))
+    → IfOk r (λ k. (k ≡ most) ⊎ ((k ≢ 0) × HasNoMore c new)) → most ≤ count
+    → (most < count → (p.owner ≢ old.desk.number) ⊎ (p.places ≤ length p.items + most)) → IsClassFor names n c
     → Fills names old n count p r new p'
-filled names n most count old p (Ok k) new p' h some le none c is = (
+filled names n c most count old p (Ok k) new p' h ends le whole is = (
   (c, is),
   record { buffers = h.buffers; lends = h.lends; number = h.number; most = (let m = h.most in omega (arith, m, le)); into = h.into },
-  λ z. none (some z),
+  ⊎_elim (λ (e : k ≡ most). inl (takes_no_more names n most count old p k new p' h e whole))
+      (λ (o : (k ≢ 0) × HasNoMore c new). inr (o.0, (c, is, o.1))) ends,
 )
-filled names n most count old p (Err e) new p' h some le none c is = h
+filled names n c most count old p (Err e) new p' h ends le whole is = (served_size names n c old e new is h.0, h.1)
 
 -- of what was lent nothing is filled
 new_filling : (b : Buffer) → b.filled ≡ 0 → data_of (freed b) ≡ []
@@ -190,26 +243,39 @@ filled_places names n count old p (Ok k) new p' h = ap (λ (z : ParcelState). z.
 filled_places names n count old p (Err e) new p' h = ap (λ (z : ParcelState). z.places) h.1
 
 -- the same of an allocator that was told of the call
-pub filled_from : (names : Names) (n most count : ℕ) (old mid : StationState) (p : ParcelState) (r : Result ℕ PoolError) (new : StationState) (p' : ParcelState)
-    → mid ≡ old → MatchResult r (λ k. LendsInto names n most mid p k new p') (λ e. Serves names mid n (Err e) new × (p' ≡ p))
-    → IfOk r (λ k. k ≡ 0 → most ≡ 0) → most ≤ count → (most ≡ 0 → TakesNone count mid.desk.number p) → (c : ℕ) → IsClassFor names n c
+pub filled_from : (names : Names) (n c most count : ℕ) (old mid : StationState) (p : ParcelState) (r : Result ℕ PoolError) (new : StationState) (p' : ParcelState)
+    → mid ≡ old → MatchResult r (λ k. LendsInto names n most mid p k new p') (λ e. ServesClass names mid c (Err e) new × (p' ≡ p))
+    → IfOk r (λ k. (k ≡ most) ⊎ ((k ≢ 0) × HasNoMore c new)) → most ≤ count
+    → (most < count → (p.owner ≢ mid.desk.number) ⊎ (p.places ≤ length p.items + most)) → IsClassFor names n c
     → Fills names old n count p r new p'
-filled_from names n most count old mid p r new p' e h some le none c is =
-    subst (λ (z : StationState). Fills names z n count p r new p') e (filled names n most count mid p r new p' h some le none c is)
+filled_from names n c most count old mid p r new p' e h ends le whole is =
+    subst (λ (z : StationState). Fills names z n count p r new p') e (filled names n c most count mid p r new p' h ends le whole is)
 
-takes_same : (count c number m : ℕ) (p q : ParcelState) → c ≡ count → m ≡ number → q ≡ p → TakesNone c m q → TakesNone count number p
-takes_same count c number m p q a b e t =
-    subst (λ z. TakesNone z number p) a (subst (λ z. TakesNone c z p) b (subst (λ (z : ParcelState). TakesNone c m z) e t))
+-- a parcel that takes nothing after some were lent takes no more than these
+stops : (names : Names) (n count : ℕ) (old mid : StationState) (p q : ParcelState) (k : ℕ) (new : StationState) (r : ParcelState)
+    → LendsInto names n count old p k mid q → Fills names mid n (count - k) q (Ok 0) new r → TakesNone (count - k) old.desk.number r
+stops names n count old mid p q k new r h f =
+    let whole : (count - k) - 0 ≡ count - k = omega arith in
+    ⊎_elim
+    (λ (t : TakesNone ((count - k) - 0) mid.desk.number r). subst (λ z. TakesNone z old.desk.number r) whole (subst (λ z. TakesNone ((count - k) - 0) z r) h.lends.desk.number t))
+    (λ (o : (0 ≢ 0) × ((c : ℕ) × IsClassFor names n c × HasNoMore c new)). absurd (o.0 refl))
+    f.2
 
 -- some were lent, and then none, since the parcel takes no more
-pub filled_stop : (names : Names) (n count : ℕ) (old mid : StationState) (p q : ParcelState) (k : ℕ) (new : StationState) (r : ParcelState)
-    → LendsInto names n count old p k mid q → Fills names mid n (count - k) q (Ok 0) new r → Fills names old n count p (Ok k) new r
-filled_stop names n count old mid p q k new r h f =
+pub filled_stop : (names : Names) (n count : ℕ) (old mid : StationState) (p q : ParcelState) (k j : ℕ) (new : StationState) (r : ParcelState)
+    → j ≡ 0 → LendsInto names n count old p k mid q → Fills names mid n (count - k) q (Ok j) new r
+    → Fills names old n count p (Ok k) new r × WantsNoSlot names old n count k new r
+filled_stop names n count old mid p q k j new r z h g =
+    let f = subst (λ (x : ℕ). Fills names mid n (count - k) q (Ok x) new r) z g in
     let most = h.most in
-    let all : k + 0 ≡ k = omega arith in (
-      f.0,
-      subst (λ z. LendsInto names n count old p z new r) all (into_then names n count (count - k) count old mid new p q r k 0 (omega (arith, most)) h f.1),
-      λ z. let s = into_since names n count old mid p q k z h in takes_same count (count - k) old.desk.number mid.desk.number p q (omega (arith, z)) s.0.number s.1 (f.2 refl),
+    let all : k + 0 ≡ k = omega arith in
+    let none = stops names n count old mid p q k new r h f in (
+      (
+        f.0,
+        subst (λ z. LendsInto names n count old p z new r) all (into_then names n count (count - k) count old mid new p q r k 0 (omega (arith, most)) h f.1),
+        inl none,
+      ),
+      inl none,
     )
 
 -- none was lent, and then none for want of a slot or of memory
@@ -222,11 +288,37 @@ some_class : (names : Names) (n : ℕ) (bs : List Buffer) → (length bs ≡ 0 �
 some_class names n [] ne h = absurd (ne refl)
 some_class names n (b ∷ bs) ne h = (b.class, All-head (λ (x : Buffer). IsClassFor names n x.class) b bs h)
 
--- some were lent, and then none for want of a slot or of memory
+-- some were lent, then none for want of a slot, and then the allocator waited
+pub into_waited : (names : Names) (n count : ℕ) (old mid rest new : StationState) (p q r : ParcelState) (k : ℕ) (e : PoolError)
+    → LendsInto names n count old p k mid q → Serves names mid n (Err e) rest × (r ≡ q) → Keeps names rest new
+    → LendsInto names n count old p k new r
+into_waited names n count old mid rest new p q r k e h f s =
+    let kept = into_kept names n count old mid rest p q k h (served_keeps names n mid e rest f.0) in
+    subst (λ (z : ParcelState). LendsInto names n count old p k new z) (sym f.1) (into_kept names n count old rest new p q k kept s)
+
+-- where a class holds n bytes, a refusal is for want of its slots, or of memory for them
+runs_out : (names : Names) (n c : ℕ) (old : StationState) (e : PoolError) (new : StationState) → IsClassFor names n c → Serves names old n (Err e) new
+    → (d : ℕ) × IsClassFor names n d × HasNoMore d new
+runs_out names n c old TooLarge new is h = let small = h.0 c is.is_used in let holds = is.holds in absurd (omega (arith, small, holds))
+runs_out names n c old UsedUp new is h = (h.0.0, h.0.1, inl h.0.2)
+runs_out names n c old NoMemory new is h = (h.0.0, h.0.1, inr h.0.2)
+
+lacks_memory : (names : Names) (n c : ℕ) (old : StationState) (e : PoolError) (new : StationState) → IsClassFor names n c → e ≢ UsedUp
+    → Serves names old n (Err e) new → (d : ℕ) × IsClassFor names n d × HasOnlyUnused d new
+lacks_memory names n c old TooLarge new is ne h = let small = h.0 c is.is_used in let holds = is.holds in absurd (omega (arith, small, holds))
+lacks_memory names n c old UsedUp new is ne h = absurd (ne refl)
+lacks_memory names n c old NoMemory new is ne h = h.0
+
+-- some were lent, and then none for want of memory
 pub filled_some : (names : Names) (n count : ℕ) (old mid : StationState) (p q : ParcelState) (k : ℕ) (e : PoolError) (new : StationState) (r : ParcelState)
-    → (k ≡ 0 → ⊥) → LendsInto names n count old p k mid q → Fills names mid n (count - k) q (Err e) new r → Fills names old n count p (Ok k) new r
-filled_some names n count old mid p q k e new r ne h f = (
-  some_class names n h.buffers (λ z. ne (sym h.number ∙ z)) h.lends.class,
-  subst (λ (z : ParcelState). LendsInto names n count old p k new z) (sym f.1) (into_kept names n count old mid new p q k h (served_keeps names n mid e new f.0)),
-  λ z. absurd (ne z),
-)
+    → (k ≡ 0 → ⊥) → e ≢ UsedUp → LendsInto names n count old p k mid q → Fills names mid n (count - k) q (Err e) new r
+    → Fills names old n count p (Ok k) new r × WantsNoSlot names old n count k new r
+filled_some names n count old mid p q k e new r ne other h f =
+    let s = some_class names n h.buffers (λ z. ne (sym h.number ∙ z)) h.lends.class in (
+      (
+        s,
+        subst (λ (z : ParcelState). LendsInto names n count old p k new z) (sym f.1) (into_kept names n count old mid new p q k h (served_keeps names n mid e new f.0)),
+        inr (ne, runs_out names n s.0 mid e new s.1 f.0),
+      ),
+      inr (lacks_memory names n s.0 mid e new s.1 other f.0),
+    )

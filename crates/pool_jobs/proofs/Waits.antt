@@ -9,7 +9,7 @@ use Rattle.pool_jobs.specs.declared.error.PoolError.TheVariants.{TooLarge, UsedU
 use Rattle.pool_jobs.proofs.Looking.{Step}
 
 -- nothing was lent or freed since an earlier state
-keeps_since : (names : Names) (old mid new : StationState) → Step old mid → Keeps names mid new → Keeps names old new
+pub keeps_since : (names : Names) (old mid new : StationState) → Step old mid → Keeps names mid new → Keeps names old new
 keeps_since names old mid new s k = record {
   desk = record { number = k.desk.number ∙ s.number; digits = k.desk.digits };
   lent = k.lent ∙ s.lent;

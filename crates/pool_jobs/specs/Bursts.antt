@@ -1,11 +1,12 @@
 -- What the filling of a parcel does.
-use Rattle.std.specs.Prelude.{◌≡◌, ◌≢◌, ℕ, ◌≤◌, ◌⊎◌, List, [], ◌∷◌, ◌++◌, All, Result, Ok, Err, length, map}
+use Rattle.std.specs.Prelude.{◌≡◌, ◌≢◌, ℕ, ◌-◌, ◌≤◌, ◌⊎◌, List, [], ◌∷◌, ◌++◌, All, Result, Ok, Err, length, map}
 use Rattle.slot_chain.specs.Buffer.{Buffer}
 use Rattle.slot_chain.specs.Parcels.{ParcelState}
+use Rattle.pool_desk.specs.HomesState.{LacksClass}
 use Rattle.pool_desk.specs.Steps.{freed}
 use Rattle.pool_fabric.specs.Names.{Names}
 use Rattle.pool_fabric.specs.Stations.{StationState}
-use Rattle.pool_jobs.specs.Serving.{IsClassFor, SameDesk, Serves}
+use Rattle.pool_jobs.specs.Serving.{HasOnlyUnused, IsClassFor, SameDesk, Serves}
 use Rattle.pool_jobs.specs.declared.error.PoolError.{PoolError}
 
 -- These buffers of the desk's own were lent out, one after the other: each of the least class that holds n bytes, and
@@ -31,14 +32,23 @@ pub record LendsInto (names : Names) (n count : ℕ) (old : StationState) (p : P
   pub most : k ≤ count
   pub into : p' ≡ packed p buffers
 
--- why no buffer comes into a parcel: none was asked for, it is another allocator's, or it has no place
+-- why no buffer comes into a parcel: none is asked for, it is another allocator's, or it has no place
 abbrev pub TakesNone : ℕ → ℕ → ParcelState → Type 0
 TakesNone count number p = (count ≡ 0) ⊎ (p.owner ≢ number) ⊎ (p.places ≤ length p.items)
 
--- A class holds n bytes, and buffers of it were lent into the parcel: none only where it takes none. Or none was, for the
--- reasons that one buffer is refused for.
+-- no slot of the class is at home, or each one there wants memory
+abbrev pub HasNoMore : ℕ → StationState → Type 0
+HasNoMore c s = LacksClass c s.desk.home ⊎ HasOnlyUnused c s
+
+-- A class holds n bytes, and buffers of it were lent into the parcel, until it took no more; or at least one was, and
+-- then the class had no more. Or none was, for the reasons that one buffer is refused for.
 abbrev pub Fills : Names → StationState → ℕ → ℕ → ParcelState → Result ℕ PoolError → StationState → ParcelState → Type 0
 Fills names old n count p (Ok k) new p' =
     ((c : ℕ) × IsClassFor names n c) × LendsInto names n count old p k new p'
-    × (k ≡ 0 → TakesNone count old.desk.number p)
+    × (TakesNone (count - k) old.desk.number p' ⊎ ((k ≢ 0) × ((c : ℕ) × IsClassFor names n c × HasNoMore c new)))
 Fills names old n count p (Err e) new p' = Serves names old n (Err e) new × (p' ≡ p)
+
+-- it ended for no want of slots: the parcel takes no more than these k, or each slot of the class at home wants memory
+abbrev pub WantsNoSlot : Names → StationState → ℕ → ℕ → ℕ → StationState → ParcelState → Type 0
+WantsNoSlot names old n count k new p' =
+    TakesNone (count - k) old.desk.number p' ⊎ ((c : ℕ) × IsClassFor names n c × HasOnlyUnused c new)

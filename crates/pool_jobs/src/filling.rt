@@ -1,7 +1,7 @@
 //! Parcels that are filled by one call.
-ghost use Rattle.std.specs.Prelude.{◌≡◌, ◌≢◌, ◌+◌, ◌≤◌, ◌<◌, length, IfOk, MatchResult};
-ghost use Rattle.pool_jobs.specs.Bursts.{Fills, LendsInto, TakesNone};
-ghost use Rattle.pool_jobs.specs.Serving.{IsClassFor, Serves};
+ghost use Rattle.std.specs.Prelude.{◌≡◌, ◌≢◌, ◌+◌, ◌≤◌, ◌<◌, ◌⊎◌, ◌↔◌, length, IsTrue, IfOk, MatchResult};
+ghost use Rattle.pool_jobs.specs.Bursts.{Fills, HasNoMore, LendsInto, WantsNoSlot};
+ghost use Rattle.pool_jobs.specs.Serving.{IsClassFor, ServesClass};
 ghost use Rattle.pool_jobs.specs.declared.error.PoolError.TheVariants.{UsedUp};
 
 use crate::allocator::{Allocator, recall};
@@ -25,8 +25,8 @@ impl<
 > Allocator<'a, 'r, M, T, S, G, J> {
     /// Lends up to `count` buffers of at least `size` bytes, all of one size class, to the end of a parcel
     /// of this allocator, and says how many it lent: fewer than `count` where the parcel has fewer places,
-    /// or where the pool has no more slots for now. It is 0 only where `count` is, where the parcel has no
-    /// place, or where another allocator made it.
+    /// where the pool has no more slots for now, or where the system refuses memory after the first one. It
+    /// is 0 only where `count` is, where the parcel has no place, or where another allocator made it.
     ///
     /// An error comes where not one buffer was lent, and is that of [`Allocator::alloc`]. The parcel is
     /// then as it was.
@@ -54,8 +54,8 @@ impl<
 
     /// Lends `count` buffers into a parcel as [`Allocator::fill`] does, and where the pool is used up it
     /// waits for the next one, as [`Allocator::alloc_waiting`] does. It lends fewer only where the parcel
-    /// has fewer places, or where the system refuses memory after the first one.
-    #[tactic(auto, using(crate::proofs::Bursts::filled_err, crate::proofs::Bursts::filled_some, crate::proofs::Bursts::filled_stop))]
+    /// takes no more, or where the system refuses memory after the first one.
+    #[tactic(auto, using(crate::proofs::Bursts::filled_err))]
     pub fn fill_waiting<R: Wait + Clock>(
         &mut self,
         rt: &R,
@@ -65,6 +65,7 @@ impl<
     ) -> Result<usize, PoolError>
         ensures fills { Fills J.names self.old size count parcel.old result self.new parcel.new }
         ensures waits { result ≢ Err UsedUp }
+        ensures slots { IfOk result (λ k. WantsNoSlot J.names self.old size count k self.new parcel.new) }
     {
         recall(&self.station);
         let mut pauses = Pauses::new();
@@ -73,12 +74,14 @@ impl<
             match self.fill(rt, parcel, size, count - lent) {
                 Ok(0) => return Ok(lent),
                 Ok(more) => lent += more,
-                Err(PoolError::UsedUp) => self.pause(rt, &mut pauses),
                 Err(error) => {
-                    if lent == 0 {
-                        return Err(error);
+                    if !wants_slots(error) {
+                        if lent == 0 {
+                            return Err(error);
+                        }
+                        return Ok(lent);
                     }
-                    return Ok(lent);
+                    self.pause(rt, &mut pauses);
                 }
             }
         }
@@ -90,7 +93,8 @@ impl<
         ensures most { result ≤ count }
         ensures room { 0 < result → length parcel.now.items + result ≤ parcel.now.places }
         ensures own { 0 < result → parcel.now.owner ≡ self.now.desk.number }
-        ensures none { result ≡ 0 → TakesNone count self.now.desk.number parcel.now }
+        ensures whole { result < count →
+            (parcel.now.owner ≢ self.now.desk.number) ⊎ (parcel.now.places ≤ length parcel.now.items + result) }
     {
         if parcel.owner() != self.number() {
             return 0;
@@ -99,6 +103,7 @@ impl<
     }
 
     // Lends so many buffers of the class that a size has into the parcel, or as many as there are.
+    #[tactic(auto, using(crate::proofs::Bursts::class_none))]
     fn fill_class<R: Wait>(
         &mut self,
         rt: &R,
@@ -113,8 +118,8 @@ impl<
         requires own { 0 < most → parcel.old.owner ≡ self.old.desk.number }
         ensures value { MatchResult result
             (λ n. LendsInto J.names size most self.old parcel.old n self.new parcel.new)
-            (λ e. Serves J.names self.old size (Err e) self.new × (parcel.new ≡ parcel.old)) }
-        ensures some { IfOk result (λ n. n ≡ 0 → most ≡ 0) }
+            (λ e. ServesClass J.names self.old class (Err e) self.new × (parcel.new ≡ parcel.old)) }
+        ensures ends { IfOk result (λ n. (n ≡ most) ⊎ ((n ≢ 0) × HasNoMore class self.new)) }
     {
         if self.is_to_look(most as u64) {
             self.fetch(rt, class);
@@ -123,7 +128,12 @@ impl<
         while lent < most {
             match self.lend_into(rt, parcel, size, class) {
                 Ok(()) => lent += 1,
-                Err(error) => return if lent == 0 { Err(error) } else { Ok(lent) },
+                Err(error) => {
+                    if lent == 0 {
+                        return Err(error);
+                    }
+                    return Ok(lent);
+                }
             }
         }
         Ok(lent)
@@ -143,12 +153,22 @@ impl<
         requires own { parcel.old.owner ≡ self.old.desk.number }
         ensures { MatchResult result
             (λ _. LendsInto J.names size 1 self.old parcel.old 1 self.new parcel.new)
-            (λ e. Serves J.names self.old size (Err e) self.new × (parcel.new ≡ parcel.old)) }
+            (λ e. ServesClass J.names self.old class (Err e) self.new × (parcel.new ≡ parcel.old)) }
     {
         let buffer = self.lend(rt, class)?;
         let Ok(()) = parcel.push(buffer) else {
             unreachable!();
         };
         Ok(())
+    }
+}
+
+// Whether a slot may come home that ends the want.
+fn wants_slots(error: PoolError) -> bool
+    ensures { IsTrue result ↔ (error ≡ UsedUp) }
+{
+    match error {
+        PoolError::UsedUp => true,
+        _ => false,
     }
 }

@@ -1,6 +1,7 @@
-use Rattle.std.proofs.Common.{refl, sym, ap, ◌∙◌, arith}
+use Rattle.std.proofs.Common.{◌≢◌, refl, sym, ap, ◌∙◌, arith, true≢false}
 use Rattle.pool_fabric.specs.Stations.{StationState}
-use Rattle.pool_jobs.proofs.Bursts.{filled_some, into_none, into_then, keeps_same}
+use Rattle.pool_jobs.proofs.Bursts.{filled_some, filled_stop, into_none, into_then, into_waited, keeps_same}
+use Rattle.pool_jobs.specs.declared.error.PoolError.TheVariants.{UsedUp}
 use Rattle.pool_jobs.proofs.allocator.Allocator.fill_waiting.Goals as goal
 
 pub loop-init : goal.loop-init
@@ -15,8 +16,16 @@ loop-preserved-in-Ok g c =
     let more = c.in-Ok.ensures.1.most in
     into_then _ _ _ _ c.args.count _ _ _ _ _ _ c.loop.lent c.in-Ok.more (omega (arith, before, more)) c.loop.invariant c.in-Ok.ensures.1
 
-pub returns-in-Err : goal.returns-in-Err
-returns-in-Err g c = record {
-  fills = filled_some g.J.Naming.names c.args.size c.args.count c.args.self.now c.loop.self c.args.parcel.now c.loop.parcel c.loop.lent c.in-Err.error c.fill.new.self c.fill.new.parcel c.if-lent-eq0.false c.loop.invariant c.in-Err.ensures;
-  waits = λ e. absurd (cc);
-}
+pub loop-preserved : goal.loop-preserved
+loop-preserved g c = into_waited g.J.Naming.names c.args.size c.args.count c.args.self.now c.loop.self c.fill.new.self c.pause.new.self c.args.parcel.now c.loop.parcel c.fill.new.parcel c.loop.lent c.in-Err.error c.loop.invariant c.in-Err.ensures c.pause.ensures
+
+pub returns-in-Ok-eq0 : goal.returns-in-Ok-eq0
+returns-in-Ok-eq0 g c =
+    let out = filled_stop g.J.Naming.names c.args.size c.args.count c.args.self.now c.loop.self c.args.parcel.now c.loop.parcel c.loop.lent c.in-Ok-eq0.field-0 c.fill.new.self c.fill.new.parcel c.in-Ok-eq0.field-0-test c.loop.invariant c.in-Ok-eq0.ensures in
+    record { fills = out.0; waits = λ e. absurd (cc); slots = out.1 }
+
+pub returns-then-not-wants_slots : goal.returns-then-not-wants_slots
+returns-then-not-wants_slots g c =
+    let other : c.in-Err.error ≢ UsedUp = λ e. true≢false (sym (c.if-not-wants_slots.ensures.1 e)) in
+    let out = filled_some g.J.Naming.names c.args.size c.args.count c.args.self.now c.loop.self c.args.parcel.now c.loop.parcel c.loop.lent c.in-Err.error c.fill.new.self c.fill.new.parcel c.if-lent-eq0.false other c.loop.invariant c.in-Err.ensures in
+    record { fills = out.0; waits = λ e. absurd (cc); slots = out.1 }
