@@ -12,6 +12,8 @@ mod fixed;
 #[cfg(test)]
 mod handing;
 #[cfg(test)]
+mod looking;
+#[cfg(test)]
 mod over_counting;
 #[cfg(test)]
 mod over_counting_link;
@@ -42,6 +44,8 @@ pub use bursts::pass_in_bursts;
 pub use fixed::Fixed;
 #[cfg(test)]
 pub use handing::{Handed, hand_parcels};
+#[cfg(test)]
+pub use looking::{Looked, look_after};
 #[cfg(test)]
 pub use over_counting::work_counting;
 #[cfg(test)]

@@ -6,6 +6,7 @@ mod alone;
 mod bursts;
 mod counted;
 mod handing;
+mod looking;
 mod passing;
 mod promised;
 mod refused;

@@ -1,0 +1,102 @@
+//! A worker looks into its inbox though it never runs out of slots.
+ghost use Rattle.std.specs.Prelude.{◌≡◌, IfOk};
+ghost use Rattle.pool_jobs.specs.Ends.{IsAccounted};
+
+use crate::pair::{Held, Over, Worker, both_retire, two_workers};
+use link_inbox::{LinkInbox, SendSeat, TakeSeat};
+use pool_fabric::{Naming, Opening};
+use pool_jobs::{JobError, NoGate, PoolError, WorkReport, settle};
+use std::alloc::Global;
+use std::marker::Brand;
+use std::sync::Wait;
+
+// The size that the owner asks for all the while, and that of the buffer which another worker frees.
+const SIZE: usize = 16;
+
+const FREED_SIZE: usize = 512;
+
+/// What there is when both workers have ended.
+#[derive(Drop)]
+pub struct Looked<'r> {
+    /// How many batches the owner still found in its inbox.
+    pub batches: Result<u32, PoolError>,
+    pub report: WorkReport<'r>,
+}
+
+// Allocates a buffer and frees it at once, so many times.
+fn go_on<'a, 'r, J: Naming, R: Wait>(
+    rt: &R,
+    worker: &mut Worker<'a, 'r, J>,
+    loans: u32,
+) -> Result<(), PoolError> {
+    for _ in 0..loans {
+        let buffer = worker.alloc(rt, SIZE)?;
+        worker.free(rt, buffer);
+    }
+    Ok(())
+}
+
+// The owner draws a chunk for each size. The stranger frees one of its buffers, and the owner goes on
+// without the size of that one: how many batches it finds then.
+fn both_work<'a, 'r, J: Naming, R: Wait>(
+    rt: &R,
+    owner: &mut Worker<'a, 'r, J>,
+    stranger: &mut Worker<'a, 'r, J>,
+    loans: u32,
+) -> Result<u32, PoolError> {
+    go_on(rt, owner, 1)?;
+    let buffer = owner.alloc(rt, FREED_SIZE)?;
+    stranger.free(rt, buffer);
+    let _all = stranger.flush(rt);
+    go_on(rt, owner, loans)?;
+    Ok(owner.collect(rt))
+}
+
+// Both workers: the batches, and the stations that don't go back on the shelf.
+fn at_work<'a, 'r, J: Naming, R: Wait>(
+    rt: &R,
+    alloc: Global,
+    fabric: &'a Over<'r, J>,
+    gate: &'a NoGate,
+    loans: u32,
+) -> Option<(Result<u32, PoolError>, Vec<Held<'r, J>>)> {
+    let (mut owner, mut stranger) = two_workers(rt, alloc, fabric, gate)?;
+    let batches = both_work(rt, &mut owner, &mut stranger, loans);
+    let held = both_retire(rt, alloc, owner, stranger).ok()?;
+    Some((batches, held))
+}
+
+// The same at a fabric that `J` names, and its end.
+fn at_fabric<'r, J: Naming, R: Wait>(
+    rt: &R,
+    alloc: Global,
+    opening: Opening<'r, LinkInbox<'r>, TakeSeat<'r>, SendSeat<'r>>,
+    loans: u32,
+) -> Result<Looked<'r>, JobError>
+    requires { J.names ≡ opening }
+    ensures accounted { let n = opening.entry in
+        IfOk result (λ t. IsAccounted n.chunks n.count t.report.found t.report.tally) }
+{
+    let fabric = Over::<'r, J>::open(alloc, opening)?;
+    let Some((batches, held)) = at_work(rt, alloc, &fabric, &NoGate, loans) else {
+        return Err(JobError::NoMemory);
+    };
+    let report = settle(rt, alloc, fabric, held)?;
+    Ok(Looked { batches, report })
+}
+
+/// An owner lends a buffer of 16 bytes, which comes back at once, and one of 512 bytes, which another
+/// worker frees. Then it lends so many buffers of 16 bytes, one after the other, and looks into its inbox.
+///
+/// It wants two desks and two chunks.
+pub fn look_after<'r, R: Wait>(
+    rt: &R,
+    alloc: Global,
+    opening: Opening<'r, LinkInbox<'r>, TakeSeat<'r>, SendSeat<'r>>,
+    loans: u32,
+) -> Result<Looked<'r>, JobError>
+    ensures accounted { let n = opening.entry in
+        IfOk result (λ t. IsAccounted n.chunks n.count t.report.found t.report.tally) }
+{
+    at_fabric::<Brand, R>(rt, alloc, opening, loans)
+}
