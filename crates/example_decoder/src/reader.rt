@@ -5,7 +5,7 @@ use crate::bundle::Bundle;
 use crate::capture::{Capture, Cause, Stop};
 use crate::note::NOTE;
 use crate::stages::ReadEnd;
-use fustrevol::{Bytes, Edges, Heap, PoolError};
+use fustrevol::{Bytes, Edges, Heap, Message, PoolError};
 use std::io::Read;
 use std::sync::Wait;
 use std::time::Clock;
@@ -149,9 +149,7 @@ impl<I: Read + Drop> Reader<I> {
         }
         match bundle.close() {
             Ok(parcel) => {
-                if let Err(message) = to.send_parcel(rt, heap, self.next, parcel) {
-                    message.free(rt, heap);
-                }
+                to.send_or_free(rt, heap, self.next, Message::Parcel(parcel));
             }
             Err(bundle) => bundle.free(rt, heap),
         }

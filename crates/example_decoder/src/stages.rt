@@ -81,9 +81,7 @@ fn decode_all<H: Heap, R: Wait>(
             Message::Parcel(parcel) => Message::Parcel(decode_bundle(link, parcel)),
             Message::Buffer(buffer) => Message::Buffer(buffer),
         };
-        if let Err(message) = to.send(rt, heap, counter, message) {
-            message.free(rt, heap);
-        }
+        to.send_or_free(rt, heap, counter, message);
     }
 }
 

@@ -23,10 +23,5 @@ pub fn drain<H: Heap, R: Wait>(rt: &R, heap: &mut H, to: &Edges<H>) {
         return;
     };
     stop_reader(rt, heap, to, first);
-    for _ in rt.forever() {
-        let Some(message) = to.receive(rt, heap) else {
-            break;
-        };
-        message.free(rt, heap);
-    }
+    let _messages = to.free_rest(rt, heap);
 }

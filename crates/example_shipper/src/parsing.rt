@@ -62,9 +62,7 @@ impl Parsing {
                 Message::Parcel(parcel) => Message::Parcel(parser.parse(parcel)),
                 message => message,
             };
-            if let Err(message) = to.send(rt, heap, self.writer(), message) {
-                message.free(rt, heap);
-            }
+            to.send_or_free(rt, heap, self.writer(), message);
         }
         match fault {
             None => Ok(parser.kept),

@@ -1,7 +1,7 @@
 //! One task writes lines into buffers; another one receives and frees them.
 #![tactic(auto)]
 
-use fustrevol::{CHUNK, Edges, Heap, Pool, PoolError, Task};
+use fustrevol::{CHUNK, Edges, Heap, Message, Pool, PoolError, Task};
 use std::io::Write;
 use std::sync::Wait;
 use std::time::Clock;
@@ -21,7 +21,7 @@ impl Task for Worker {
             if self.0 == 0 {
                 let mut buffer = heap.alloc_waiting(rt, 32)?;
                 let _fits = write!(buffer, "line {line}\n");
-                let _sent = edges.send_buffer(rt, heap, 1, buffer);
+                edges.send_or_free(rt, heap, 1, Message::Buffer(buffer));
             } else if let Some(message) = edges.receive(rt, heap) {
                 message.free(rt, heap);
             }

@@ -4,7 +4,7 @@ mod limits;
 mod refused;
 mod settings;
 
-use fustrevol::{Edges, Heap, JobError, Pool, PoolError, RunReport, Tally, Task};
+use fustrevol::{Edges, Heap, JobError, Message, Pool, PoolError, RunReport, Tally, Task};
 use std::alloc::Global;
 use std::sync::Wait;
 use std::thread::Threads;
@@ -32,7 +32,9 @@ impl Task for Act {
     fn run<H: Heap, R: Wait + Clock>(self, rt: &R, heap: &mut H, edges: Edges<H>) -> Self::Answer {
         match self {
             Act::Sends(count) => send_all(rt, heap, &edges, count)?,
-            Act::Frees => free_all(rt, heap, &edges),
+            Act::Frees => {
+                let _messages = edges.free_rest(rt, heap);
+            }
             Act::Asks => {
                 let buffer = heap.alloc(rt, 1)?;
                 heap.free(rt, buffer);
@@ -50,20 +52,9 @@ fn send_all<H: Heap, R: Wait + Clock>(
 ) -> Result<(), PoolError> {
     for _ in 0..count {
         let buffer = heap.alloc_waiting(rt, heap.largest_size())?;
-        if let Err(message) = edges.send_buffer(rt, heap, 1, buffer) {
-            message.free(rt, heap);
-        }
+        edges.send_or_free(rt, heap, 1, Message::Buffer(buffer));
     }
     Ok(())
-}
-
-fn free_all<H: Heap, R: Wait>(rt: &R, heap: &mut H, edges: &Edges<H>) {
-    for _ in rt.forever() {
-        let Some(message) = edges.receive(rt, heap) else {
-            break;
-        };
-        message.free(rt, heap);
-    }
 }
 
 // What tasks answered and counted.

@@ -60,15 +60,11 @@ fn fill<H: Heap, R: Wait + Clock>(rt: &R, heap: &mut H, to: &Edges<H>) -> <Stage
         for n in 0..25 {
             let _full = parcel.push(packet(rt, heap, 25 * burst + n)?);
         }
-        if let Err(message) = to.send_parcel(rt, heap, 1, parcel) {
-            message.free(rt, heap);
-        }
+        to.send_or_free(rt, heap, 1, Message::Parcel(parcel));
     }
     for n in 1_000..2_000 {
         let buffer = packet(rt, heap, n)?;
-        if let Err(message) = to.send_buffer(rt, heap, 1, buffer) {
-            message.free(rt, heap);
-        }
+        to.send_or_free(rt, heap, 1, Message::Buffer(buffer));
     }
     Ok((2_000, 1_998))
 }
@@ -96,12 +92,11 @@ fn look<H: Heap, R: Wait>(rt: &R, heap: &mut H, to: &Edges<H>, next: Option<usiz
                 }
             }
         }
-        let unsent = match next {
-            Some(next) => to.send(rt, heap, next, message),
-            None => Err(message),
-        };
-        if let Err(message) = unsent {
-            message.free(rt, heap);
+        match next {
+            None => message.free(rt, heap),
+            Some(next) => {
+                to.send_or_free(rt, heap, next, message);
+            }
         }
     }
     seen

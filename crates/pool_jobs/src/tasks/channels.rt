@@ -30,12 +30,23 @@ impl<B: Bytes, P: Burst<B>> Message<B, P> {
     }
 }
 
+// The buffers are not printed.
+impl<B: Drop, P: Drop> fmt::Debug for Message<B, P> {
+    fn fmt<W: fmt::Write>(&self, f: &mut fmt::Formatter<W>) -> fmt::Result {
+        f.write_str(match self {
+            Message::Buffer(_) => "Buffer(..)",
+            Message::Parcel(_) => "Parcel(..)",
+        })
+    }
+}
+
 /// Why a message was not handed over. It comes back.
 #[derive(Drop)]
 pub enum Unsent<M> {
     /// The queue of the receiving task is full.
     Full(M),
-    /// There is no such edge, or the task at its end has ended.
+    /// [`Task::sends_to`] named no such edge, [`Channels::stop_sending`] was called, or the task at its
+    /// end has ended.
     Closed(M),
 }
 
@@ -71,6 +82,9 @@ const LOOKS: u32 = 11;
 /// ([`Task::bound`]). It is a bounded channel of `crossbeam_channel`: a send or a receive takes a lock for
 /// a moment, and who waits looks again for some microseconds and then sleeps. So hand over parcels where
 /// packets are many.
+///
+/// What is left in the queue when its task ends is dropped, and those slots are lost. So a task that gives
+/// up frees first what still comes ([`Channels::free_rest`]).
 #[derive(Drop)]
 pub struct Channels<B: Drop, P: Drop> {
     from: Receiver<Message<B, P>>,
@@ -78,7 +92,8 @@ pub struct Channels<B: Drop, P: Drop> {
 }
 
 impl<B: Bytes, P: Burst<B>> Channels<B, P> {
-    /// Hands a message to the task of this number, or hands it back: it doesn't wait.
+    /// Hands a message to the task of this number, or hands it back: it doesn't wait. Nor does it post what
+    /// is cached here; a task that tries again and again calls [`Heap::flush`] between.
     pub fn try_send<R: Wait>(
         &self,
         rt: &R,
@@ -167,7 +182,26 @@ impl<B: Bytes, P: Burst<B>> Channels<B, P> {
         self.send(rt, heap, task, Message::Parcel(parcel))
     }
 
-    /// Gives the next message, or `None` where none is there now: it doesn't wait.
+    /// Hands a message over as [`Channels::send`] does, and frees it where it comes back. Says whether it
+    /// was handed over.
+    pub fn send_or_free<H: Heap<Buffer = B, Parcel = P>, R: Wait>(
+        &self,
+        rt: &R,
+        heap: &mut H,
+        task: usize,
+        message: Message<B, P>,
+    ) -> bool {
+        match self.send(rt, heap, task, message) {
+            Ok(()) => true,
+            Err(message) => {
+                message.free(rt, heap);
+                false
+            }
+        }
+    }
+
+    /// Gives the next message, or `None` where none is there now: it doesn't wait, and doesn't post what is
+    /// cached here. Only [`Channels::receive`] tells that no more will come.
     pub fn try_receive<R: Wait>(&self, rt: &R) -> Option<Message<B, P>> {
         self.from.try_recv(rt).ok()
     }
@@ -195,7 +229,21 @@ impl<B: Bytes, P: Burst<B>> Channels<B, P> {
         self.from.recv(rt).ok()
     }
 
-    /// Sends no more messages, to any task.
+    /// Frees all that comes, until [`Channels::receive`] answers `None`, and says how many messages that
+    /// were.
+    pub fn free_rest<H: Heap<Buffer = B, Parcel = P>, R: Wait>(&self, rt: &R, heap: &mut H) -> u64 {
+        let mut freed = 0u64;
+        for _ in rt.forever() {
+            let Some(message) = self.receive(rt, heap) else {
+                break;
+            };
+            message.free(rt, heap);
+            freed = freed.saturating_add(1);
+        }
+        freed
+    }
+
+    /// Sends no more messages, to any task: each later send hands its message back.
     pub fn stop_sending(&mut self) {
         self.to.clear();
     }

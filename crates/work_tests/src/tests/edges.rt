@@ -86,7 +86,9 @@ fn fill<H: Heap, R: Wait>(
     let Err(Unsent::Closed(message)) = channels.try_send(rt, 1, message) else {
         return Some("taken though there is no such edge");
     };
-    message.free(rt, heap);
+    if channels.send_or_free(rt, heap, 1, message) {
+        return Some("handed over though there is no such edge");
+    }
     for text in [b"first".as_slice(), b"second"] {
         let Some(Message::Buffer(buffer)) = channels.try_receive(rt) else {
             return Some("nothing came");
@@ -96,6 +98,16 @@ fn fill<H: Heap, R: Wait>(
         }
         heap.free(rt, buffer);
     }
+    let Ok(buffer) = line(rt, heap, b"fourth") else {
+        return Some("no fourth buffer");
+    };
+    if !channels.send_or_free(rt, heap, 0, Message::Buffer(buffer)) {
+        return Some("freed though there is room");
+    }
+    let Some(message) = channels.try_receive(rt) else {
+        return Some("the fourth didn't come");
+    };
+    message.free(rt, heap);
     match channels.try_receive(rt) {
         Some(_) => Some("more came than was sent"),
         None => None,
@@ -241,7 +253,7 @@ fn a_full_edge_hands_back(rt: HostRuntime) -> Result<(), Fail> {
         let tasks = vec![in rt.alloc(); Act::Fills]?;
         let Outcome { answers, tally } = outcome_of(&rt, ground(inboxes, 1, 1), tasks)?;
         assert!(rt; answers.as_slice() == [Some(None)].as_slice());
-        assert!(rt; tally.counts.allocated == 3 && tally.counts.freed == 3 && tally.audit.is_ok());
+        assert!(rt; tally.counts.allocated == 4 && tally.counts.freed == 4 && tally.audit.is_ok());
     }
     Ok(())
 }

@@ -60,10 +60,10 @@ impl Task for Act {
                 let given = give(rt, heap, &channels, count, to);
                 let mut channels = channels;
                 channels.stop_sending();
-                let _freed = free_all(rt, heap, &channels);
+                let _messages = channels.free_rest(rt, heap);
                 Ok(given)
             }
-            Act::Frees => Ok(free_all(rt, heap, &channels)),
+            Act::Frees => Ok(channels.free_rest(rt, heap)),
             Act::Drops => Ok(drop_all(rt, heap, &channels)),
             Act::Fails => Err(PoolError::UsedUp),
         }
@@ -118,22 +118,6 @@ fn wait_and_give<H: Heap, R: Wait + Clock>(
         given = given.wrapping_add(1);
     }
     Ok(given)
-}
-
-fn free_all<H: Heap, R: Wait>(
-    rt: &R,
-    heap: &mut H,
-    channels: &Channels<H::Buffer, H::Parcel>,
-) -> u64 {
-    let mut freed = 0u64;
-    for _ in rt.forever() {
-        let Some(message) = channels.receive(rt, heap) else {
-            break;
-        };
-        message.free(rt, heap);
-        freed = freed.wrapping_add(1);
-    }
-    freed
 }
 
 fn drop_all<H: Heap, R: Wait>(
