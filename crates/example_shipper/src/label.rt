@@ -15,7 +15,7 @@ pub enum Form {
 
 /// What stands ahead of the text in a buffer: which piece it is of, what form it has, and how long it is.
 ///
-/// The length stands here, since a buffer in a parcel can be written, but how much of it is filled stays.
+/// The length stands here, ahead of the text: all bytes of such a buffer count as filled.
 #[derive(Clone, Copy, Debug, PartialEq, Eq)]
 pub struct Label {
     pub mark: Mark,

@@ -73,6 +73,7 @@ fn ship<R: Threads + Wait + Clock + Sync>(rt: &R, host: HostRuntime, asked: Aske
             read = counts;
         }
     }
+    report.tally.audit.context("the audit")?;
     if progress {
         let a_second = read.over(began.elapsed(rt)?);
         let lines = written.lines;

@@ -6,6 +6,9 @@
 //! ([`Channels`]). A buffer that another thread frees goes home by messages, without a copy and without
 //! a lock. When all tasks have ended, every slot is accounted for.
 //!
+//! A program imports [`Heap`] for its allocator, [`Bytes`] for buffers, [`Burst`] for parcels, and [`Data`]
+//! for the buffers in a parcel.
+//!
 //! This crate has what a program names; `pool_jobs` and the crates below it have the parts.
 #![tactic(auto)]
 
@@ -13,12 +16,13 @@ pub mod own_threads;
 mod pool;
 
 pub use digit_route::Digits;
-pub use pool::{InboxKind, Pool};
+pub use pool::{InboxKind, LARGEST_DEFAULT_LIMIT, LARGEST_LIMIT, Pool};
+pub use pool_fabric::Found;
 pub use pool_jobs::{
     Allocator, Buffer, BufferCounts, Burst, Bytes, Channels, DEFAULT_BOUND, Data, Heap, JobError,
     Message, Parcel, PoolError, RunReport, Tally, Task, Unsent,
 };
-pub use region_cut::{CHUNK, CutError, MAX_CHUNKS};
+pub use region_cut::{CHUNK, CutError, MAX_CHUNKS, Slot};
 pub use slot_audit::Fault;
 pub use slot_chain::{Full, NoMemory};
 

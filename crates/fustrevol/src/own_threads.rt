@@ -10,7 +10,7 @@
 
 pub use batch_inbox::Inbox;
 pub use link_inbox::{LinkInbox, SendSeat, TakeSeat};
-pub use pool_fabric::{Fabric, HeldStation, Naming, Opening};
+pub use pool_fabric::{Fabric, GatherError, HeldStation, Naming, Opening};
 pub use pool_jobs::{Entrance, Gate, MOST_THREADS, NoGate, WorkReport, settle};
 pub use region_cut::{Part, cut};
 

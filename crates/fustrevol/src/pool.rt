@@ -37,6 +37,9 @@ pub enum InboxKind {
 /// The greatest limit, in bytes, that the pool picks where [`Pool::limit`] isn't called.
 pub const LARGEST_DEFAULT_LIMIT: u64 = 262_144;
 
+/// The greatest limit, in bytes, that [`Pool::limit`] takes.
+pub const LARGEST_LIMIT: u64 = 1_048_576;
+
 /// A pool over a region that the program lends it, cut into chunks of 4,096 bytes ([`CHUNK`]). A chunk
 /// becomes slots of one size class, of at most 512 bytes (1,024 with [`Digits::new2`]).
 ///
@@ -74,7 +77,9 @@ impl<'r> Model for Pool<'r> {
 impl<'r> Pool<'r> {
     ghost use Rattle.std.specs.Prelude.{None};
 
-    /// A pool over this region. What is left of it behind the last whole chunk isn't used.
+    /// A pool over this region. What is left of it behind the last whole chunk isn't used. A region of less
+    /// than [`CHUNK`] bytes gives a pool without slots: each `alloc` answers that it is used up, and
+    /// `alloc_waiting` waits for ever.
     ///
     /// [`CutError::TooMany`]: the region has more than 1,024 whole chunks. [`CutError::NoMemory`]: the
     /// system refused memory for the list of its chunks.
@@ -99,8 +104,9 @@ impl<'r> Pool<'r> {
         })
     }
 
-    /// Sets how many bytes of others' buffers a thread keeps before it posts them, at most a mebibyte.
-    /// A greater limit means fewer posts, and more slots on their way home.
+    /// Sets how many bytes of others' buffers a thread keeps before it posts them, at most
+    /// [`LARGEST_LIMIT`]. A greater limit means fewer posts, and more slots on their way home. With 0 each
+    /// free of another's buffer posts.
     ///
     /// Where it isn't set, all threads together keep at most a quarter of the region, and each at most
     /// 262,144 bytes.

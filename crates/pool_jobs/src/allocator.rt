@@ -26,8 +26,8 @@ const LOOK_EVERY: u64 = 64;
 
 /// The allocator of one worker: a station of the fabric that all workers share.
 ///
-/// Only these take memory: [`Allocator::alloc`] at a slot's first use, [`Allocator::parcel`] where no
-/// kept array is large enough, and perhaps posts. A contract sees its station.
+/// Only these take memory: [`Allocator::alloc`] and [`Allocator::fill`] at a slot's first use,
+/// [`Allocator::parcel`] where no kept array is large enough, and perhaps posts. A contract sees its station.
 #[must_use]
 #[derive(Drop)]
 pub struct Allocator<'a, 'r, M: Mailbox, T: Receiver, S: Sender, G: Gate, J: Naming> {
@@ -218,8 +218,8 @@ impl<
     /// Lends a buffer of at least `size` bytes. Nothing of it is cleared.
     ///
     /// It lends a slot at home. Where its class has none there, it takes at most 64 batches from its
-    /// inbox, and draws a chunk of the stock where they bring none. At each 64th buffer that it lends it
-    /// looks into the inbox first, so that no sender waits until this allocator runs out of a class.
+    /// inbox, and draws a chunk of the stock where they bring none. After each 64 buffers that it lends it
+    /// looks into the inbox, so that no sender waits until this allocator runs out of a class.
     ///
     /// [`PoolError::TooLarge`]: no class is large enough. [`PoolError::UsedUp`]: no slot of the class
     /// was at home, none came, and the stock was empty. [`PoolError::NoMemory`]: the system refused the
@@ -389,7 +389,7 @@ impl<
     /// Posts all that is cached and puts the station on the shelf: `None`.
     ///
     /// The station comes back where a post was refused, so that something is still cached, or where the
-    /// shelf is full. Give it to [`settle`](crate::settle), or go on with
+    /// shelf is full. Give it to [`settle`](crate::settle), for which it is missing else, or go on with
     /// [`Entrance::resume`](crate::Entrance::resume).
     pub fn retire<R: Wait>(self, rt: &R) -> Option<HeldStation<'r, T, S, J>>
         ensures { IfSome result (λ s. Keeps J.names self.entry s) }

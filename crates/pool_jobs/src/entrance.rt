@@ -26,7 +26,7 @@ impl<'a, 'r, M: Mailbox, T: Receiver, S: Sender, G: Gate, J: Naming> Entrance<
     G,
     J,
 > {
-    /// An entrance to the fabric, for the worker of this number.
+    /// An entrance to the fabric, for the worker of this number: any, which the gate is told.
     pub fn new(
         alloc: Global,
         fabric: &'a Fabric<'r, M, T, S, J>,
@@ -51,7 +51,7 @@ impl<
     G: Gate,
     J: Naming,
 > Entrance<'a, 'r, M, T, S, G, J> {
-    /// Takes a station off the shelf; `None` where the shelf is empty.
+    /// Takes a station off the shelf; `None` where the shelf is empty: each desk has a worker.
     pub fn enter<R: Wait>(self, rt: &R) -> Option<Allocator<'a, 'r, M, T, S, G, J>> {
         let worker = self.worker;
         let station = self.fabric.station(rt)?;

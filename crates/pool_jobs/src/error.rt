@@ -10,14 +10,15 @@ use thiserror::Error;
 /// Why an allocator gives no buffer.
 #[derive(Clone, Copy, Debug, PartialEq, Eq, Drop, Error)]
 pub enum PoolError {
-    /// No class is large enough.
-    #[error("too large")]
+    /// No size class has as many bytes.
+    #[error("no size class has as many bytes")]
     TooLarge,
-    /// No slot of the class is at home, none came in a batch, and every chunk is drawn.
-    #[error("the pool is used up")]
+    /// No slot of the class is at home at this allocator, none came in a batch, and every chunk is drawn.
+    /// Free slots of other classes, or at other allocators, don't help.
+    #[error("the pool has no slot of this size left")]
     UsedUp,
     /// The system refused the memory for a buffer that was never handed out before.
-    #[error("no memory")]
+    #[error("no memory for a slot's first use")]
     NoMemory,
 }
 
@@ -46,10 +47,10 @@ impl From<NoMemory> for PoolError {
 #[derive(Clone, Copy, Debug, PartialEq, Eq, Drop, Error)]
 pub enum JobError {
     /// The system refused memory for the run's own desks, queues, edges or lists.
-    #[error("no memory")]
+    #[error("no memory for the run")]
     NoMemory,
     /// A thread couldn't be started, or a station didn't come back from one.
-    #[error("no thread")]
+    #[error("a thread couldn't be started")]
     NoThread,
 }
 

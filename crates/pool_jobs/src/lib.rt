@@ -2,8 +2,8 @@
 //!
 //! A worker allocates and frees at an [`Allocator`] of its own. As in snmalloc ("snmalloc: A Message
 //! Passing Allocator", ISMM 2019) a buffer that a stranger frees goes home by messages, which the
-//! allocator posts when enough are cached, and takes when it has no slot left. When all workers have
-//! ended, all that is found is accounted for: nothing is lost.
+//! allocator posts when enough are cached, and takes from time to time and when it has no slot left. When
+//! all workers have ended, all that is found is accounted for: nothing is lost.
 #![tactic(auto)]
 
 mod allocator;

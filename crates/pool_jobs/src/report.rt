@@ -12,11 +12,13 @@ use crate::tasks::worker::TaskReport;
 use batch_inbox::{Mail, Receiver, Sender};
 use pool_fabric::{Fabric, Found, GatherError, HeldStation, Naming, account, gather};
 use std::alloc::Global;
+use std::fmt;
 use std::sync::Wait;
 
 /// What there is when all workers have ended.
 #[derive(Drop)]
 pub struct WorkReport<'r> {
+    /// What was counted, and the audit.
     pub tally: Tally,
     /// All that was found. `tally.audit` is its audit.
     pub found: Found<'r>,
@@ -25,12 +27,31 @@ pub struct WorkReport<'r> {
 /// What there is when all tasks of a program have ended.
 #[derive(Drop)]
 pub struct RunReport<'r, A: Drop> {
-    /// What each task answered, in order; nothing for a task that was not begun, since no desk was
-    /// left for it.
+    /// What each task answered, in order; `None` for a task beyond the 64th, which is not begun.
     pub answers: Vec<Option<A>>,
+    /// What was counted, and the audit.
     pub tally: Tally,
     /// All that was found. `tally.audit` is its audit.
     pub found: Found<'r>,
+}
+
+// What was found is not printed.
+impl fmt::Debug for WorkReport<'_> {
+    fn fmt<W: fmt::Write>(&self, f: &mut fmt::Formatter<W>) -> fmt::Result {
+        write!(f, "WorkReport({:?})", self.tally)
+    }
+}
+
+// Neither the answers nor what was found are printed.
+impl<A: Drop> fmt::Debug for RunReport<'_, A> {
+    fn fmt<W: fmt::Write>(&self, f: &mut fmt::Formatter<W>) -> fmt::Result {
+        write!(
+            f,
+            "RunReport({} answers, {:?})",
+            self.answers.len(),
+            self.tally
+        )
+    }
 }
 
 /// Gathers all that there is, once no thread holds a station any more, and audits it: the stations on

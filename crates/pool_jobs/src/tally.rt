@@ -11,7 +11,7 @@ use slot_audit::Fault;
 /// What a worker counts that its station doesn't tell. Each count stops at the greatest `u64`.
 #[derive(Clone, Copy, Debug, PartialEq, Eq)]
 pub struct WorkerCounts {
-    /// How often no buffer was to be had.
+    /// How many calls that lend buffers answered with an error.
     pub starved: u64,
     /// The buffers that it dropped since its workload says so.
     pub dropped: u64,
@@ -57,7 +57,9 @@ pub struct BufferCounts {
     pub allocated: u64,
     /// The buffers that were freed, one by one or in parcels.
     pub freed: u64,
-    /// How often no buffer was to be had, as far as it was counted. It stops at the greatest `u64`.
+    /// How many calls of `alloc`, `fill` and those that wait answered with an error, `TooLarge` and
+    /// `NoMemory` too. A `fill` that lent fewer than were asked for isn't one. It stops at the greatest
+    /// `u64`, and is 0 after [`settle`](crate::settle), which doesn't know it.
     pub starved: u64,
     /// The buffers that were lent and not freed: they were dropped, or are still held. Their slots are
     /// missing.
@@ -84,6 +86,9 @@ impl BufferCounts {
 /// What was counted, and what the audit says of all that was found when all workers had ended.
 #[derive(Clone, Copy, Debug, PartialEq, Eq)]
 pub struct Tally {
+    /// What was counted of buffers.
     pub counts: BufferCounts,
+    /// `Ok` where each slot of each drawn chunk was found once, and no other. Where buffers were dropped it
+    /// names the least slot that is missing. It is no error of the run: a program asks for it.
     pub audit: Result<(), Fault>,
 }

@@ -16,9 +16,13 @@ fn is_printed(rt: &impl Abort, alloc: Global, value: &impl Display, text: &str) 
 #[test]
 fn an_allocator_says_why_there_is_no_buffer(rt: HostRuntime) {
     for (error, number, text) in [
-        (PoolError::TooLarge, 1, "too large"),
-        (PoolError::UsedUp, 2, "the pool is used up"),
-        (PoolError::NoMemory, 3, "no memory"),
+        (PoolError::TooLarge, 1, "no size class has as many bytes"),
+        (
+            PoolError::UsedUp,
+            2,
+            "the pool has no slot of this size left",
+        ),
+        (PoolError::NoMemory, 3, "no memory for a slot's first use"),
     ] {
         assert_eq!(rt; error.number(), number);
         is_printed(&rt, rt.alloc(), &error, text);
@@ -28,8 +32,8 @@ fn an_allocator_says_why_there_is_no_buffer(rt: HostRuntime) {
 #[test]
 fn workers_say_why_there_is_no_tally(rt: HostRuntime) {
     for (error, number, text) in [
-        (JobError::NoMemory, 1, "no memory"),
-        (JobError::NoThread, 2, "no thread"),
+        (JobError::NoMemory, 1, "no memory for the run"),
+        (JobError::NoThread, 2, "a thread couldn't be started"),
     ] {
         assert_eq!(rt; error.number(), number);
         is_printed(&rt, rt.alloc(), &error, text);

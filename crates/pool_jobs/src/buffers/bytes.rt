@@ -11,7 +11,8 @@ use std::io::{self, Read, Write};
 /// A buffer, which its user fills from the front. It is a writer as well: `write!(buffer, ..)` appends.
 /// Where there is too little room the `write!` fails, and what fitted is filled.
 ///
-/// How much is filled stays with the buffer wherever it goes. A new buffer has nothing filled.
+/// How much is filled stays with the buffer wherever it goes. A new buffer has nothing filled. `write!`
+/// wants `use std::io::Write`.
 pub trait Bytes: Drop + Write {
     ghost use Rattle.std.specs.Prelude.{ℕ, List};
 
@@ -42,12 +43,13 @@ pub trait Bytes: Drop + Write {
         ensures value { result.now ≡ take (filled self.now) (held self.now) }
         ensures written { Self.contents self.now ≡ Some result.now };
 
-    /// All its bytes. Nothing is cleared when a buffer is allocated.
+    /// All its bytes. Nothing is cleared when a buffer is lent: behind what is filled stand bytes of earlier
+    /// users.
     fn bytes(&self) -> &[u8]
         ensures value { result.now ≡ held self.now }
         ensures size { length result.now ≡ size self.now };
 
-    /// Says how many bytes count as filled. No byte is written.
+    /// Says how many bytes count as filled, at most the capacity. No byte is written.
     fn set_len(&mut self, len: usize)
         requires { len ≤ size self.old }
         ensures filled { filled self.new ≡ len }
@@ -66,7 +68,7 @@ pub trait Bytes: Drop + Write {
         ensures held { held self.new ≡ held self.old }
         ensures size { size self.new ≡ size self.old };
 
-    /// Writes `byte` into each byte, and all are filled.
+    /// Writes `byte` into each byte, which may be more than were asked for, and all are filled.
     fn fill(&mut self, byte: u8)
         ensures filled { filled self.new ≡ size self.old }
         ensures held { held self.new ≡ replicate (size self.old) byte }

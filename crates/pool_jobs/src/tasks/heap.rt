@@ -25,10 +25,10 @@ pub trait Heap: Drop {
     fn largest_size(&self) -> usize
         ensures { result ≡ largest self.now };
 
-    /// A buffer of at least `size` bytes, of which nothing is filled.
+    /// A buffer of at least `size` bytes, of which nothing is filled. It doesn't wait for a slot.
     ///
-    /// It answers [`PoolError::TooLarge`] exactly where no class has as many. [`PoolError::UsedUp`]: no
-    /// slot of the class is at home, none came, and every chunk is drawn. [`PoolError::NoMemory`]: the
+    /// It answers [`PoolError::TooLarge`] exactly where no class has as many. [`PoolError::UsedUp`]: this
+    /// heap has no slot of the class, none came, and every chunk is drawn. [`PoolError::NoMemory`]: the
     /// system refused the memory for a slot's first use.
     fn alloc<R: Wait>(&mut self, rt: &R, size: usize) -> Result<Self::Buffer, PoolError>
         ensures large_enough { IfOk result (λ b. size ≤ Self.Buffer.size b) }
@@ -36,8 +36,9 @@ pub trait Heap: Drop {
         ensures too_large { (result ≡ Err TooLarge) ↔ (largest self.old < size) }
         ensures largest { largest self.new ≡ largest self.old };
 
-    /// The same, and where the pool is used up it waits until a slot comes home: it posts what it keeps of
-    /// others, takes what came, yields, and then sleeps, so that it uses little of a core.
+    /// Lends a buffer as [`Heap::alloc`] does, and where the pool is used up it waits until a slot comes
+    /// home, so that it never answers [`PoolError::UsedUp`]. It posts what it keeps of others, takes what
+    /// came, yields, and then sleeps, so that it uses little of a core.
     ///
     /// A task that waits while it holds back what others need can wait for ever, as one does that waits
     /// for more buffers than the pool has.
@@ -52,8 +53,8 @@ pub trait Heap: Drop {
         ensures waits { result ≢ Err UsedUp }
         ensures largest { largest self.new ≡ largest self.old };
 
-    /// The same, but it waits at most `limit`, plus up to a millisecond. Then it answers
-    /// [`PoolError::UsedUp`]. Where the clock can't be read it doesn't wait.
+    /// Lends a buffer as [`Heap::alloc_waiting`] does, but waits at most `limit`, plus up to a millisecond.
+    /// Then it answers [`PoolError::UsedUp`]. Where the clock can't be read it doesn't wait.
     fn alloc_within<R: Wait + Clock>(
         &mut self,
         rt: &R,
@@ -65,10 +66,14 @@ pub trait Heap: Drop {
         ensures too_large { (result ≡ Err TooLarge) ↔ (largest self.old < size) }
         ensures largest { largest self.new ≡ largest self.old };
 
-    /// Takes a buffer back, whichever allocator of the pool gave it.
+    /// Takes a buffer back, whichever allocator of the pool lent it. An own one can be lent again at once.
+    /// Another's is cached here, and all that is cached is posted once that is more than the pool's limit.
+    /// It doesn't wait for other tasks, and can't fail.
     fn free<R: Wait>(&mut self, rt: &R, buffer: Self::Buffer);
 
-    /// An empty parcel for buffers of this allocator, with room for at least so many.
+    /// An empty parcel for buffers that this allocator lends, with room for at least so many. It takes no
+    /// others: a task can't repack what it received. [`NoMemory`]: no kept array is large enough (up to 16
+    /// are kept, each for at most 256 buffers), and the system refused memory for one.
     fn parcel(&mut self, places: usize) -> Result<Self::Parcel, NoMemory>
         ensures places { IfOk result (λ p. places ≤ Self.Parcel.places p) }
         ensures empty { IfOk result (λ p. Self.Parcel.fillings p ≡ []) }
@@ -78,9 +83,10 @@ pub trait Heap: Drop {
     /// of this heap, by one call, and says how many it lent. Nothing of them is filled:
     /// [`Burst::edit_at`] writes them, and [`Burst::set_len_at`] says how much counts.
     ///
-    /// It lends fewer than `count` where the parcel has fewer places, or where the pool has no more slots
-    /// for now; and 0 only where `count` is 0, the parcel has no place, or another heap made it. An error
-    /// is that of [`Heap::alloc`], and comes only where not one buffer was lent.
+    /// It lends fewer than `count` where the parcel has fewer places, the pool has no more slots for now, or
+    /// the system refuses memory after the first one; and 0 only where `count` is 0, the parcel has no
+    /// place, or another heap made it. An error is that of [`Heap::alloc`], and comes only where not one
+    /// buffer was lent.
     fn fill<R: Wait>(
         &mut self,
         rt: &R,
@@ -96,9 +102,9 @@ pub trait Heap: Drop {
         ensures too_large { (result ≡ Err TooLarge) ↔ (largest self.old < size) }
         ensures largest { largest self.new ≡ largest self.old };
 
-    /// The same, and where the pool is used up it waits for the next slot, as [`Heap::alloc_waiting`] does.
-    /// So it lends `count` buffers, or as many as the parcel has places for; fewer only where the system
-    /// refuses memory after the first one.
+    /// Lends buffers as [`Heap::fill`] does, and where the pool is used up it waits for the next slot, as
+    /// [`Heap::alloc_waiting`] does. So it lends `count` buffers, or as many as the parcel takes; fewer only
+    /// where the system refuses memory after the first one.
     fn fill_waiting<R: Wait + Clock>(
         &mut self,
         rt: &R,
@@ -115,7 +121,8 @@ pub trait Heap: Drop {
         ensures waits { result ≢ Err UsedUp }
         ensures largest { largest self.new ≡ largest self.old };
 
-    /// Takes all buffers of a parcel back, whichever allocator of the pool made it.
+    /// Takes all buffers of a parcel back, whichever allocator of the pool made it, as [`Heap::free`] does
+    /// one. Another's parcel takes constant time.
     fn free_all<R: Wait>(&mut self, rt: &R, parcel: Self::Parcel);
 
     /// Posts all of others' buffers that are cached here, so that they come home, and says whether all

@@ -4,7 +4,7 @@ use crate::tasks::heap::Heap;
 use std::sync::Wait;
 use std::time::Clock;
 
-/// How many messages may wait at the end of an edge, where a task doesn't say otherwise.
+/// How many places an edge adds to its receiver's queue, where a task doesn't say otherwise.
 pub const DEFAULT_BOUND: usize = 64;
 
 /// What one thread of a program does, at an allocator of its own. A task's number is its place in the
@@ -24,12 +24,16 @@ pub trait Task: Drop {
     /// Whether it hands buffers or parcels to the task of this number. It is asked before any task runs.
     fn sends_to(&self, task: usize) -> bool;
 
-    /// How many messages may wait at the end of the edge to this task, before a send waits.
+    /// How many places the edge to the task of this number adds to that task's queue. All who send to it
+    /// share the places, 1 to 1,048,576 in all, and a send waits while each has a message. Their memory is
+    /// taken before any task runs.
     fn bound(&self, _task: usize) -> usize {
         DEFAULT_BOUND
     }
 
-    /// Does the work. The ends of its channels are closed when it returns, at the latest.
+    /// Does the work. When it returns, by `?` too, the ends of its channels are closed: what is left in its
+    /// queue is lost, and what others send to it comes back to them. So a task that fails first frees what
+    /// comes ([`Channels::free_rest`]).
     fn run<H: Heap, R: Wait + Clock>(
         self,
         rt: &R,

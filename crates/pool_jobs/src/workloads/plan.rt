@@ -1,7 +1,7 @@
 //! What a workload is to do.
 ghost use Rattle.std.specs.Prelude.{◌≤◌};
 
-/// How many threads a workload has at most.
+/// How many threads a workload or a run has at most: a run begins no more tasks.
 pub const MOST_THREADS: u32 = 64;
 
 /// How many buffers a worker allocates at most, or replaces in a round.
