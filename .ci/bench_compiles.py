@@ -5,6 +5,7 @@ the repository, so that the gate doesn't prove them, and a name that changes in 
 Each is tried on a copy, with a function at its end whose type is wrong. That has to be the only error that the compiler
 finds: it looks for errors before any proof, and stops at one, so nothing is proved and no library is built. Prints a
 line for each program. The exit status is 1 where one has an error of its own."""
+import argparse
 import concurrent.futures
 import os
 import pathlib
@@ -40,6 +41,7 @@ def errors(name):
 
 
 def main():
+    argparse.ArgumentParser(description=__doc__, formatter_class=argparse.RawDescriptionHelpFormatter).parse_args()
     failed = 0
     names = list(programs.listed(TOP / "bench/crates.txt.in"))
     with concurrent.futures.ThreadPoolExecutor(len(os.sched_getaffinity(0))) as pool:

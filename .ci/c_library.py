@@ -7,6 +7,7 @@ more, since it takes no library of `rt ci` for its own. So this proves and build
 
 The exit status is that of what failed first.
 """
+import argparse
 import os
 import pathlib
 import shutil
@@ -40,6 +41,7 @@ def build_over_the_gate():
 
 
 def main():
+    argparse.ArgumentParser(description=__doc__, formatter_class=argparse.RawDescriptionHelpFormatter).parse_args()
     os.chdir(CRATE)
     (CRATE / "out").mkdir(exist_ok=True)
     status = build_over_the_gate()

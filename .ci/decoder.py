@@ -5,6 +5,7 @@ says of broken captures, and its exit statuses.
 The program is `crates/example_decoder/out/example_decoder`, which `rt ci` and `rt run` leave, or the one that is named.
 Prints a line for each case; the exit status is 1 where one is not as it should be.
 """
+import argparse
 import json
 import pathlib
 import random
@@ -333,9 +334,12 @@ def words():
 
 
 def main():
+    parser = argparse.ArgumentParser(description=__doc__, formatter_class=argparse.RawDescriptionHelpFormatter)
+    parser.add_argument("program", nargs="?", help="what is tried (default: what the gate built)")
+    given = parser.parse_args()
     global PROGRAM
-    if len(sys.argv) > 1:
-        PROGRAM = pathlib.Path(sys.argv[1]).resolve()
+    if given.program:
+        PROGRAM = pathlib.Path(given.program).resolve()
     elif not PROGRAM.exists():
         subprocess.run(["rt", "run", "--", "--help"], cwd=PROGRAM.parent.parent, check=True, stdout=subprocess.DEVNULL)
     for part in (kinds, raw, cuts, large, many, broken, files, memory, words):

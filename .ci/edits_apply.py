@@ -3,12 +3,14 @@
 its file. Nothing is compiled or proved. Prints a line for each edit that can't, and how many there are. The exit status
 is 1 where there is one.
 """
+import argparse
 import sys
 
 import edits
 
 
 def main():
+    argparse.ArgumentParser(description=__doc__, formatter_class=argparse.RawDescriptionHelpFormatter).parse_args()
     paths = sorted(path for folder in edits.FOLDERS for path in edits.TOP.glob(f"crates/*/{folder}/*.edit"))
     bad = 0
     for path in paths:

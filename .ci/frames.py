@@ -5,6 +5,7 @@ Disassembles it with `objdump`, and follows how far each function moves the stac
 above `TOLD` bytes, the largest first. The exit status is 1 where one is above `MOST` bytes, and 2 where the program
 can't be read, or has a frame whose size stands in a register. What is large lies on the heap.
 """
+import argparse
 import pathlib
 import re
 import subprocess
@@ -72,6 +73,7 @@ def frames():
 
 
 def main():
+    argparse.ArgumentParser(description=__doc__, formatter_class=argparse.RawDescriptionHelpFormatter).parse_args()
     try:
         found = frames()
     except OSError as error:

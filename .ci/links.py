@@ -4,6 +4,7 @@ heading, of the page itself or of another document, to one that is there.
 
 Prints each that doesn't, and how many there are. The exit status is 1 where one leads nowhere.
 """
+import argparse
 import functools
 import pathlib
 import re
@@ -43,6 +44,7 @@ def is_there(page, link):
 
 
 def main():
+    argparse.ArgumentParser(description=__doc__, formatter_class=argparse.RawDescriptionHelpFormatter).parse_args()
     listed = subprocess.run(["git", "ls-files", "*.md"], cwd=TOP, stdout=subprocess.PIPE, text=True, check=True).stdout
     pages = [(TOP / page).resolve() for page in listed.split()]
     links = [(page, link) for page in pages for link in targets(page.read_text()) if "://" not in link]

@@ -10,6 +10,7 @@ Prints a line for each edit. The exit status is 1 where one was not refused in t
 time as there are processors. One that was not refused then is tried again alone: where two copies build a library at
 the same time, rt may begin with what the other has kept, and find it gone.
 """
+import argparse
 import concurrent.futures
 import os
 import pathlib
@@ -64,6 +65,7 @@ def refused(edit):
 
 
 def main():
+    argparse.ArgumentParser(description=__doc__, formatter_class=argparse.RawDescriptionHelpFormatter).parse_args()
     failed = 0
     edits = sorted(TOP.glob("crates/*/must-not-compile/*.edit"))
     with concurrent.futures.ThreadPoolExecutor(len(os.sched_getaffinity(0))) as pool:

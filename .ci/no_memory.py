@@ -17,6 +17,7 @@ without such a test fail too.
 Prints a line for each crate, and one for each test that fails. The exit status is 1 where there is one, and 2 where a
 test can't be run.
 """
+import argparse
 import os
 import pathlib
 import subprocess
@@ -168,10 +169,13 @@ def faults_of(library, program, test, told):
 
 
 def main():
+    parser = argparse.ArgumentParser(description=__doc__, formatter_class=argparse.RawDescriptionHelpFormatter)
+    parser.add_argument("crates", nargs="*", help="those whose tests are run (default: all that mark calls)")
+    given = parser.parse_args()
     bad = False
     with tempfile.TemporaryDirectory() as work:
         library = before_libc.compiled(LIBRARY, pathlib.Path(work))
-        for name in sys.argv[1:] or CRATES:
+        for name in given.crates or CRATES:
             program, tests = tests_of(TOP / "crates" / name)
             failed = 0
             for test in tests:

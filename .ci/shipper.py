@@ -8,6 +8,7 @@ read back with Python's `json`. PROGRAM is `crates/example_shipper/out/example_s
 `rt ci` and `rt run` leave; where that is missing, or older than a source, `rt run` makes it first. Prints a line for each
 test; the exit status is 1 where one failed.
 """
+import argparse
 import json
 import os
 import pathlib
@@ -377,9 +378,12 @@ def is_fresh():
 
 
 def main():
+    parser = argparse.ArgumentParser(description=__doc__, formatter_class=argparse.RawDescriptionHelpFormatter)
+    parser.add_argument("program", nargs="?", help="what is tried (default: what the gate built)")
+    given = parser.parse_args()
     global PROGRAM
-    if len(sys.argv) > 1:
-        PROGRAM = pathlib.Path(sys.argv[1]).resolve()
+    if given.program:
+        PROGRAM = pathlib.Path(given.program).resolve()
     elif not is_fresh():
         built = subprocess.run(["rt", "run"], cwd=CRATE, capture_output=True, text=True)
         if built.returncode != 0:

@@ -9,6 +9,7 @@ library that stands before the C library's.
 The program is `crates/poolctl/out/poolctl`, which `rt ci` and `rt run` leave. Where it is missing, or older than a
 source, `rt run` makes it first. Prints a line for each row; the exit status is 1 where one is not as it should be.
 """
+import argparse
 import errno
 import os
 import pathlib
@@ -363,6 +364,7 @@ def stacks():
 
 
 def main():
+    argparse.ArgumentParser(description=__doc__, formatter_class=argparse.RawDescriptionHelpFormatter).parse_args()
     if not is_fresh():
         built = subprocess.run(["rt", "run", "--", "classes"], cwd=CRATE, capture_output=True, text=True)
         if built.returncode != 0:

@@ -12,10 +12,10 @@ The logs in crates/example_shipper/data are from a run of this script. With `--e
 program has to make of logs in a folder: their texts are those of MESSAGES, and the time and the host are cut out of the
 line. crates/example_shipper/stdout is that for the logs in crates/example_shipper/data.
 """
+import argparse
 import json
 import socket
 import subprocess
-import sys
 import tempfile
 import time
 from pathlib import Path
@@ -124,8 +124,12 @@ def print_expected(folder):
 
 
 def main():
-    folder = Path(sys.argv[-1]).resolve()
-    if "--expected" in sys.argv:
+    parser = argparse.ArgumentParser(description=__doc__, formatter_class=argparse.RawDescriptionHelpFormatter)
+    parser.add_argument("--expected", action="store_true", help="print the objects of the logs that are there")
+    parser.add_argument("folder", help="where the logs are, or are to be")
+    given = parser.parse_args()
+    folder = Path(given.folder).resolve()
+    if given.expected:
         print_expected(folder)
         return
     folder.mkdir(parents=True, exist_ok=True)
