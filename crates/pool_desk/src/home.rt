@@ -115,7 +115,7 @@ impl<'r> Home<'r> {
             (λ e. IsRefused self.old.class self.old.slots e × (self.new ≡ self.old)) }
     {
         if let Some(mut buf) = self.list.pop() {
-            buf.set_len(0);
+            buf.clear();
             return Ok(buf);
         }
         let Some(bump) = &mut self.bump else {
