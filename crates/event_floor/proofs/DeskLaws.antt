@@ -13,7 +13,7 @@ use Rattle.slot_chain.specs.Buffer.{Buffer}
 use Rattle.digit_route.specs.Digits.{Scheme}
 use Rattle.digit_route.specs.States.{BatchState}
 use Rattle.digit_route.specs.Route.{GivesBucket as Routed}
-use Rattle.pool_desk.specs.Homes.{AtHome, unused_from, slot_at}
+use Rattle.pool_desk.specs.Homes.{AtHome, comes_home, unused_from, slot_at}
 use Rattle.pool_desk.specs.Homes.{GivenAs}
 use Rattle.pool_desk.specs.Homes.AtHome.{Kept, Fresh}
 use Rattle.pool_desk.specs.Desks.{DeskState}
@@ -89,7 +89,7 @@ numbered_cached : (digits : Scheme) (limit a : ℕ) (d d' : DeskState) → IsNum
 numbered_cached digits limit a d d' n same =
     numbered_as digits limit a d d' n (ap (λ (z : DeskState). z.number) same) (ap (λ (z : DeskState). z.limit) same) (ap (λ (z : DeskState). z.digits) same)
 
--- what the floor knows of a buffer rests neither on its count of forwards
+-- what the floor knows of a buffer rests neither on its count of forwards nor on what is filled
 pub known_freed : (n chunks : ℕ) (b : Buffer) → FitsFloor n chunks b → FitsFloor n chunks (freed b)
 known_freed n chunks b k = record { owner = k.owner; chunk = k.chunk; index = k.index }
 
@@ -163,8 +163,8 @@ send_keeps digits limit n chunks a d d' s x b h same g = record {
   known = all_right (FitsFloor n chunks) b.items d'.cached (given_known n chunks s x d.cached b d'.cached h.known g);
 }
 
-kept_placed : (n chunks : ℕ) (bs : List Buffer) → All (FitsFloor n chunks) bs → All (HasPlace chunks) (map (λ (b : Buffer). Kept b) bs)
-kept_placed n chunks bs h = All-map (HasPlace chunks) (λ (b : Buffer). Kept b) bs (λ k d l. let e = h k d l in (e.chunk, e.index))
+kept_placed : (n chunks : ℕ) (bs : List Buffer) → All (FitsFloor n chunks) bs → All (HasPlace chunks) (map comes_home bs)
+kept_placed n chunks bs h = All-map (HasPlace chunks) comes_home bs (λ k d l. let e = h k d l in (e.chunk, e.index))
 
 passed_known : (n chunks : ℕ) (bs : List Buffer) → All (FitsFloor n chunks) bs → All (FitsFloor n chunks) (map passed_on bs)
 passed_known n chunks bs h = All-map (FitsFloor n chunks) passed_on bs (λ k d l. known_passed_on n chunks (get_or bs k d) (h k d l))
@@ -173,8 +173,8 @@ pub handle_keeps : (digits : Scheme) (limit n chunks a : ℕ) (d d' : DeskState)
     → All (FitsFloor n chunks) bs → Handles d bs d' → IsDeskOf digits limit n chunks a (Held d')
 handle_keeps digits limit n chunks a d d' bs h k s = record {
   numbered = numbered_as digits limit a d d' h.numbered (ap (λ (z : DeskState). z.number) s.same) (ap (λ (z : DeskState). z.limit) s.same) (ap (λ (z : DeskState). z.digits) s.same);
-  placed = All-permutation (HasPlace chunks) (map (λ (b : Buffer). Kept b) (own d.number bs) ++ d.home) d'.home s.home
-      (All-append (HasPlace chunks) (map (λ (b : Buffer). Kept b) (own d.number bs)) d.home
+  placed = All-permutation (HasPlace chunks) (map comes_home (own d.number bs) ++ d.home) d'.home s.home
+      (All-append (HasPlace chunks) (map comes_home (own d.number bs)) d.home
       (kept_placed n chunks (own d.number bs) (All-filter (λ (b : Buffer). b.owner == d.number) (FitsFloor n chunks) bs k)) h.placed);
   known = All-permutation (FitsFloor n chunks) (map passed_on (others d.number bs) ++ d.cached) d'.cached s.cached
       (All-append (FitsFloor n chunks) (map passed_on (others d.number bs)) d.cached

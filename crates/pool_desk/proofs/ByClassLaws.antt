@@ -13,7 +13,7 @@ use Rattle.region_cut.specs.declared.part.Part.{Part}
 use Rattle.slot_chain.specs.Buffer.{Buffer}
 use Rattle.pool_desk.specs.declared.error.DeskError.{DeskError}
 use Rattle.pool_desk.specs.declared.error.DeskError.TheVariants.{TooLarge, NeedChunk, NotNeeded, Unsettled, NoMemory}
-use Rattle.pool_desk.specs.Homes.{AtHome, HomeState, IsAtHome, IsOwn, GivesOne, Names, Draws, IsUncut, class_at, IsUnused, IsRefused, unused_from}
+use Rattle.pool_desk.specs.Homes.{AtHome, HomeState, IsAtHome, LiesIn, IsOwn, GivesOne, Names, Draws, IsUncut, class_at, IsUnused, IsRefused, unused_from}
 use Rattle.pool_desk.specs.Homes.AtHome.{Kept, Fresh}
 use Rattle.pool_desk.specs.HomesState.{HomesState, slots_of_home, drawn_at, no_home, home_at, empties, IsHome, AreHomes, HasClass, LacksClass, IsWanting}
 use Rattle.pool_desk.proofs.HomeLaws.{unused_class}
@@ -265,9 +265,9 @@ claim_drawn owner part k hs hs' slots are l same d = record {
       (coming drawn_at hs k (with_slots (home_at hs k) slots (home_at hs' k).drawn) (d.drawn ∷ []) (rw are.count l) d.added);
 }
 
-pub own_kept : (owner k : ℕ) (hs : List HomeState) (b : Buffer) → AreHomes owner hs → k < class_count → b.owner ≡ owner → b.class ≡ k
-    → IsAtHome (home_at hs k).owner (home_at hs k).class (Kept b)
-own_kept owner k hs b are l o c = (o ∙ sym (are.each k l).owner_is, c ∙ sym (are.each k l).class_is)
+pub own_kept : (owner k : ℕ) (hs : List HomeState) (b : Buffer) → AreHomes owner hs → k < class_count → b.owner ≡ owner → b.class ≡ k → b.filled ≡ 0
+    → LiesIn (home_at hs k).owner (home_at hs k).class b
+own_kept owner k hs b are l o c f = (o ∙ sym (are.each k l).owner_is, c ∙ sym (are.each k l).class_is, f)
 
 pub keep_keeps : (owner k : ℕ) (hs hs' : List HomeState) (b : Buffer) → AreHomes owner hs → k < class_count → IsAtHome owner k (Kept b)
     → hs' ≡ set hs k (with_slots (home_at hs k) (home_at hs' k).slots (home_at hs k).drawn)

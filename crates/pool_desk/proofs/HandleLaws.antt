@@ -1,6 +1,6 @@
 -- The steps of handling a batch.
-use Rattle.std.proofs.Common.{◌≡◌, ℕ, ◌+◌, ◌^◌, true, false, eqb, List, [], ◌∷◌, ◌++◌, refl, sym, ap, ◌∙◌, arith, append_assoc, append-nil, All, IsPermutation}
-use Rattle.std.specs.Prelude.{Bool, Contains, MatchBool, ◌<◌, length}
+use Rattle.std.proofs.Common.{◌≡◌, ℕ, ◌+◌, ◌-◌, ◌^◌, true, false, eqb, List, [], ◌∷◌, ◌++◌, refl, sym, ap, subst, ◌∙◌, arith, append_assoc, append-nil, All, IsPermutation}
+use Rattle.std.specs.Prelude.{Bool, Contains, MatchBool, ◌<◌, ◌≤◌, length}
 use Rattle.std.proofs.lemmas.Bool.{eq-eqb, ne_eqb}
 use Rattle.std.proofs.lemmas.List.{length-append, map-append}
 use Rattle.std.proofs.lemmas.List.Elements.{All-weaker, All-contains, All-contains_itself, Contains-append_left, Contains-append_right, Contains-push, filter-append}
@@ -10,7 +10,7 @@ use Rattle.slot_chain.specs.Counts.{capped}
 use Rattle.digit_route.specs.Digits.{Scheme}
 use Rattle.digit_route.specs.Route.{IsWellRouted}
 use Rattle.pool_desk.specs.declared.counts.Counts.{Counts}
-use Rattle.pool_desk.specs.Homes.AtHome.{Kept}
+use Rattle.pool_desk.specs.Homes.{comes_home}
 use Rattle.pool_desk.specs.Desks.{DeskState}
 use Rattle.pool_desk.specs.Steps.{Handles, CountsOf, own, others, passed_on}
 use Rattle.pool_desk.specs.Handling.{Adds, IsPassed, GoesHome, GoesOn}
@@ -50,7 +50,7 @@ Handles-own old mid new done b h g =
     let test : eqb b.owner old.number ≡ true = eq-eqb _ _ (g.own ∙ number) in
     record {
       same = g.same ∙ (ap (λ (d : DeskState). record d { home = new.home }) h.same ∙ ap (λ c. record old { home = new.home; cached = c }) (sym cached));
-      home = rw test (more (Kept b) _ old.home mid.home new.home h.home g.home);
+      home = rw test (more (comes_home b) _ old.home mid.home new.home h.home g.home);
       cached = rw (test, cached) h.cached;
     }
 
@@ -113,6 +113,77 @@ Handled-more old mid new batch rest bs c d e h g a =
       counted = Adds-join old.number h.done bs c d e h.counted (rw number at a);
       passed = All-append_left (IsPassed old.digits old.number) rest bs h.passed;
     }
+
+-- what of an array is handled, and how much of it is passed on
+pub record HandledOf (old : DeskState) (array rest : List Buffer) (new : DeskState) (on : ℕ) : Type 0 where
+  pub done : List Buffer
+  pub parts : array ≡ rest ++ done
+  pub handled : Handles old done new
+  pub on_is : on ≡ length (others old.number done)
+  pub most : on + length rest ≤ length array
+  pub passed : All (IsPassed old.digits old.number) rest
+
+pub HandledOf-none : (d : DeskState) (array : List Buffer) → All (IsPassed d.digits d.number) array → HandledOf d array array d 0
+HandledOf-none d array p = record { done = []; parts = sym (append-nil array); handled = Handles-none d; on_is = refl; most = omega arith; passed = p }
+
+-- one buffer more came home
+pub HandledOf-home : (old mid new : DeskState) (array left rest : List Buffer) (b : Buffer) (on : ℕ) → HandledOf old array left mid on → left ≡ rest ++ b ∷ []
+    → GoesHome mid b new → HandledOf old array rest new on
+HandledOf-home old mid new array left rest b on h is g =
+    let number : mid.number ≡ old.number = ap (λ (d : DeskState). d.number) h.handled.same in
+    let test : eqb b.owner old.number ≡ true = eq-eqb _ _ (g.own ∙ number) in
+    let len = length-append rest (b ∷ []) in let most = rw is at h.most in
+    record {
+      done = b ∷ h.done;
+      parts = h.parts ∙ (ap (λ l. l ++ h.done) is ∙ append_assoc rest (b ∷ []) h.done);
+      handled = Handles-own old mid new h.done b h.handled g;
+      on_is = rw test h.on_is;
+      most = omega (arith, len, most);
+      passed = All-append_left (IsPassed old.digits old.number) rest (b ∷ []) (rw is at h.passed);
+    }
+
+-- one buffer more is passed on
+pub HandledOf-on : (old mid new : DeskState) (array left rest : List Buffer) (b : Buffer) (on : ℕ) → HandledOf old array left mid on → left ≡ rest ++ b ∷ []
+    → GoesOn mid b new → HandledOf old array rest new (on + 1)
+HandledOf-on old mid new array left rest b on h is g =
+    let number : mid.number ≡ old.number = ap (λ (d : DeskState). d.number) h.handled.same in
+    let test : eqb b.owner old.number ≡ false = ne_eqb _ _ (λ e. g.other (e ∙ sym number)) in
+    let len = length-append rest (b ∷ []) in let most = rw is at h.most in let on_is = h.on_is in
+    record {
+      done = b ∷ h.done;
+      parts = h.parts ∙ (ap (λ l. l ++ h.done) is ∙ append_assoc rest (b ∷ []) h.done);
+      handled = Handles-other old mid new h.done b h.handled g;
+      on_is = rw test (omega (arith, on_is));
+      most = omega (arith, len, most);
+      passed = All-append_left (IsPassed old.digits old.number) rest (b ∷ []) (rw is at h.passed);
+    }
+
+-- another may be passed on, and its number is no greater than that of the array
+pub one_more_on : (old mid : DeskState) (array left rest : List Buffer) (b : Buffer) (on : ℕ) → HandledOf old array left mid on → left ≡ rest ++ b ∷ [] → on + 1 ≤ length array
+one_more_on old mid array left rest b on h is = let len = length-append rest (b ∷ []) in let most = rw is at h.most in omega (arith, len, most)
+
+-- each buffer is a's own, or it isn't
+own_or_not_one : (a : ℕ) (b : Buffer) (bs : List Buffer) (r : Bool) → eqb b.owner a ≡ r → length (own a bs) + length (others a bs) ≡ length bs
+    → length (own a (b ∷ bs)) + length (others a (b ∷ bs)) ≡ length (b ∷ bs)
+own_or_not_one a b bs true e h = rw e (omega (arith, h))
+own_or_not_one a b bs false e h = rw e (omega (arith, h))
+
+own_or_not : (a : ℕ) (bs : List Buffer) → length (own a bs) + length (others a bs) ≡ length bs
+own_or_not a [] = refl
+own_or_not a (b ∷ bs) = own_or_not_one a b bs (eqb b.owner a) refl (own_or_not a bs)
+
+none_left : (bs : List Buffer) → length bs ≡ 0 → bs ≡ []
+none_left [] e = refl
+none_left (b ∷ bs) e = absurd (omega (arith, e))
+
+-- an array is handled: what is no other's came home
+pub Adds-array : (old new : DeskState) (array left : List Buffer) (on : ℕ) (c e : Counts) → HandledOf old array left new on → length left ≡ 0
+    → e.home ≡ capped (c.home + (length array - on)) → e.on ≡ capped (c.on + on) → Handles old array new × Adds old.number array c e
+Adds-array old new array left on c e g none home passed =
+    let h = subst (λ bs. HandledOf old array bs new on) (none_left left none) g in
+    let all = own_or_not old.number h.done in
+    let most = h.on_is in
+    rw h.parts (h.handled, record { home = rw h.parts at home ∙ ap (λ n. capped (c.home + n)) (omega (arith, all, most)); on = passed ∙ ap (λ n. capped (c.on + n)) h.on_is })
 
 -- what is left may still be handled by the desk as it is now
 pub still_passed : (old mid : DeskState) (batch rest : List Buffer) (c d : Counts) → Handled old c batch rest mid d → All (IsPassed mid.digits mid.number) rest

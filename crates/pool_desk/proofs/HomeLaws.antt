@@ -13,10 +13,9 @@ use Rattle.region_cut.specs.declared.part.Bump.{Bump}
 use Rattle.region_cut.specs.Bumps.{left_of, part_of, HoldsPart, GivesNext}
 use Rattle.region_cut.specs.Classes.{slots_of, size_of}
 use Rattle.slot_chain.specs.Buffer.{Buffer}
-use Rattle.slot_chain.specs.Filling.{emptied}
 use Rattle.pool_desk.specs.declared.error.DeskError.{DeskError}
 use Rattle.pool_desk.specs.NextSlots.{GivesNextSlot}
-use Rattle.pool_desk.specs.Homes.{HomeState, IsRefused, AtHome, IsAtHome, unused_from, unused_of, IsUnused, GivesOne, Draws, taken_next}
+use Rattle.pool_desk.specs.Homes.{HomeState, IsRefused, AtHome, IsAtHome, LiesIn, comes_home, unused_from, unused_of, IsUnused, GivesOne, Draws, taken_next}
 use Rattle.region_cut.specs.Carved.{Carved, carved_of}
 use Rattle.pool_desk.specs.Homes.AtHome.{Kept, Fresh}
 
@@ -103,17 +102,17 @@ kept_pop bs b us = IsPermutation-sym _ _ (kept_push bs b us)
 pub All-end : {X : Type 0} (P : X → Type 0) (xs : List X) (x : X) → All P (xs ++ x ∷ []) → P x
 All-end P xs x h = All-contains P (xs ++ x ∷ []) x h (Contains-push xs x)
 
--- a buffer that came home is given out as x
-pub gives_kept : (owner class : ℕ) (list rest : List Buffer) (b x : Buffer) (us : List AtHome) (drawn : List Carved)
-    → All (λ (b : Buffer). (b.owner ≡ owner) × (b.class ≡ class)) list → list ≡ rest ++ b ∷ [] → x ≡ emptied b
-    → GivesOne owner class (map {A = Buffer} {B = AtHome} (λ x. Kept x) list ++ us) x (map {A = Buffer} {B = AtHome} (λ x. Kept x) rest ++ us) drawn drawn
-gives_kept owner class list rest b x us drawn all is e =
-    let one = All-end (λ (b : Buffer). (b.owner ≡ owner) × (b.class ≡ class)) rest b (rw is at all) in
+-- a buffer that came home is given out
+pub gives_kept : (owner class : ℕ) (list rest : List Buffer) (b : Buffer) (us : List AtHome) (drawn : List Carved)
+    → All (LiesIn owner class) list → list ≡ rest ++ b ∷ []
+    → GivesOne owner class (map {A = Buffer} {B = AtHome} (λ x. Kept x) list ++ us) b (map {A = Buffer} {B = AtHome} (λ x. Kept x) rest ++ us) drawn drawn
+gives_kept owner class list rest b us drawn all is =
+    let one = All-end (LiesIn owner class) rest b (rw is at all) in
     record {
-      owner_is = ap (λ (z : Buffer). z.owner) e ∙ one.0;
-      class_is = ap (λ (z : Buffer). z.class) e ∙ one.1;
+      owner_is = one.0;
+      class_is = one.1;
       from = Kept b;
-      gives = e;
+      gives = ap (λ n. record b { filled = n }) one.2;
       others = rw is (kept_pop rest b us);
       names = refl;
     }
@@ -155,13 +154,12 @@ draws_new p class b old h = record {
 }
 
 -- the buffers of a chain but the last are of the owner and class too
-pub rest_own : (owner class : ℕ) (list rest : List Buffer) (b : Buffer) → All (λ (b : Buffer). (b.owner ≡ owner) × (b.class ≡ class)) list → list ≡ rest ++ b ∷ []
-    → All (λ (b : Buffer). (b.owner ≡ owner) × (b.class ≡ class)) rest
+pub rest_own : (owner class : ℕ) (list rest : List Buffer) (b : Buffer) → All (LiesIn owner class) list → list ≡ rest ++ b ∷ [] → All (LiesIn owner class) rest
 rest_own owner class list rest b all is =
-    let own : Buffer → Type 0 = λ (b : Buffer). (b.owner ≡ owner) × (b.class ≡ class) in
+    let own : Buffer → Type 0 = LiesIn owner class in
     All-weaker (Contains rest) own (λ x c. All-contains own (rest ++ b ∷ []) x (rw is at all) (Contains-append_left rest (b ∷ []) x c)) rest (All-contains_itself rest)
 
-pub none_own : (owner class : ℕ) (list : List Buffer) → list ≡ [] → All (λ (b : Buffer). (b.owner ≡ owner) × (b.class ≡ class)) list
+pub none_own : (owner class : ℕ) (list : List Buffer) → list ≡ [] → All (LiesIn owner class) list
 none_own owner class list e = rw e (All-nil _)
 
 pub unused_none : (chunk class : ℕ) (part : GName) (n i : ℕ) (bs : List ℕ) → n ≡ 0 → unused_from chunk class part n i bs ≡ []
@@ -186,9 +184,9 @@ next_slot_shown owner class b b' ties (Ok x) h = h ties
 next_slot_shown owner class b b' ties (Err e) h = (h.0, ap (λ (z : Bump). home_of owner class z ties) h.1)
 
 -- the last of a list goes home
-pub kept_last : (all s s' : List AtHome) (rest : List Buffer) (b : Buffer) → IsPermutation all (map (λ (x : Buffer). Kept x) (rest ++ b ∷ []) ++ s)
-    → IsPermutation (Kept b ∷ s) s' → IsPermutation all (map (λ (x : Buffer). Kept x) rest ++ s')
+pub kept_last : (all s s' : List AtHome) (rest : List Buffer) (b : Buffer) → IsPermutation all (map comes_home (rest ++ b ∷ []) ++ s)
+    → IsPermutation (comes_home b ∷ s) s' → IsPermutation all (map comes_home rest ++ s')
 kept_last all s s' rest b h g =
-    let ks = map (λ (x : Buffer). Kept x) rest in
-    let split : map (λ (x : Buffer). Kept x) (rest ++ b ∷ []) ++ s ≡ ks ++ Kept b ∷ s = rw map-append (append_assoc ks (Kept b ∷ []) s) in
+    let ks = map comes_home rest in
+    let split : map comes_home (rest ++ b ∷ []) ++ s ≡ ks ++ comes_home b ∷ s = rw map-append (append_assoc ks (comes_home b ∷ []) s) in
     IsPermutation-trans _ _ _ (subst (λ l. IsPermutation all l) split h) (IsPermutation-append_right ks _ _ g)

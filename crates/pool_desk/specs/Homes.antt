@@ -25,6 +25,10 @@ pub data AtHome : Type 0 where
   Kept : (buffer : Buffer) → AtHome
   Fresh : (unused : Unused) → AtHome
 
+-- an own buffer comes home: nothing of it counts as filled any more
+abbrev pub comes_home : Buffer → AtHome
+comes_home b = Kept (emptied b)
+
 -- a buffer that came home is this owner's
 abbrev pub IsOwn : ℕ → AtHome → Type 0
 IsOwn owner (Kept b) = b.owner ≡ owner
@@ -76,9 +80,13 @@ pub record HomeState : Type 0 where
   pub slots : List AtHome
   pub drawn : List Carved
 
+-- a buffer as it lies at home: it is of this owner and class, and nothing of it is filled
+abbrev pub LiesIn : ℕ → ℕ → Buffer → Type 0
+LiesIn owner class b = (b.owner ≡ owner) × (b.class ≡ class) × (b.filled ≡ 0)
+
 -- a slot at home of this owner and class
 abbrev pub IsAtHome : ℕ → ℕ → AtHome → Type 0
-IsAtHome owner class (Kept b) = (b.owner ≡ owner) × (b.class ≡ class)
+IsAtHome owner class (Kept b) = LiesIn owner class b
 IsAtHome owner class (Fresh u) = u.class ≡ class
 
 -- the part's chunk, drawn for the class, of which no slot was given yet

@@ -11,7 +11,7 @@ use Rattle.pool_desk.specs.declared.error.DeskError.TheVariants.{TooLarge, NeedC
 use Rattle.pool_desk.specs.declared.freed.Freed.{Freed}
 use Rattle.pool_desk.specs.declared.freed.Freed.TheVariants.{Home, Cached, Due}
 use Rattle.pool_desk.specs.declared.counts.Counts.{Counts}
-use Rattle.pool_desk.specs.Homes.{AtHome, class_at, unused_from, Draws, GivesOne, IsUnused}
+use Rattle.pool_desk.specs.Homes.{AtHome, class_at, comes_home, unused_from, Draws, GivesOne, IsUnused}
 use Rattle.pool_desk.specs.Homes.AtHome.{Kept}
 use Rattle.pool_desk.specs.HomesState.{HasClass, LacksClass, IsWanting}
 use Rattle.pool_desk.specs.Desks.{DeskState, profile_at}
@@ -53,9 +53,9 @@ AllocsClass old c (Ok b) new =
     × (new ≡ record old { home = new.home; drawn = new.drawn })
 AllocsClass old c (Err e) new = IsWanting c old.home e × (new ≡ old)
 
--- the buffer as it is freed: its count of forwards is 0, and all else is the same
+-- the buffer as it is freed: its count of forwards is 0, nothing of it is filled, and all else is the same
 abbrev pub freed : Buffer → Buffer
-freed b = record b { forwards = 0 }
+freed b = record b { forwards = 0; filled = 0 }
 
 -- another's buffer goes into the cache
 abbrev pub Caches : DeskState → Buffer → DeskState → Type 0
@@ -82,7 +82,7 @@ CachesAll old p new =
 abbrev pub FreesAll : DeskState → ParcelState → Freed → DeskState → Type 0
 FreesAll old p Home new =
     (p.owner ≡ old.number) × (new ≡ record old { home = new.home })
-    × IsPermutation (map (λ (b : Buffer). Kept b) p.items ++ old.home) new.home
+    × IsPermutation (map comes_home p.items ++ old.home) new.home
 FreesAll old p Cached new = CachesAll old p new × (sizes new.cached ≤ old.limit)
 FreesAll old p Due new = CachesAll old p new × (old.limit < sizes new.cached)
 
@@ -100,7 +100,7 @@ others a bs = filter (λ (b : Buffer). not (b.owner == a)) bs
 -- own buffers of the batch go home, and the others into the cache with one more forward
 pub record Handles (old : DeskState) (batch : List Buffer) (new : DeskState) : Type 0 where
   pub same : new ≡ record old { home = new.home; cached = new.cached }
-  pub home : IsPermutation (map (λ (b : Buffer). Kept b) (own old.number batch) ++ old.home) new.home
+  pub home : IsPermutation (map comes_home (own old.number batch) ++ old.home) new.home
   pub cached : IsPermutation (map passed_on (others old.number batch) ++ old.cached) new.cached
 
 -- how many came home, and how many are passed on

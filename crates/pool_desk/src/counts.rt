@@ -24,4 +24,15 @@ impl Counts {
             self.on = self.on.saturating_add(1);
         }
     }
+
+    /// So many more came home, and so many more are passed on.
+    pub(crate) fn plus(self, home: usize, on: usize) -> Counts
+        ensures home { result.home ≡ capped (self.home + home) }
+        ensures on { result.on ≡ capped (self.on + on) }
+    {
+        Counts {
+            home: self.home.saturating_add(home as u64),
+            on: self.on.saturating_add(on as u64),
+        }
+    }
 }

@@ -7,6 +7,7 @@ ghost use Rattle.slot_chain.specs.Counts.{capped, sizes};
 ghost use Rattle.digit_route.specs.Digits.{IsScheme, common};
 ghost use Rattle.digit_route.specs.Limits.{largest_limit};
 ghost use Rattle.digit_route.specs.Route.{IsCached, RouteFault};
+ghost use Rattle.slot_chain.specs.Magazines.{items_of};
 ghost use Rattle.slot_chain.specs.Slots.{AddsSlots, slot_of};
 ghost use Rattle.digit_route.specs.Route.{GivesBucket};
 ghost use Rattle.pool_desk.specs.HomesState.{HasClass};
@@ -23,7 +24,7 @@ use digit_route::laws::shared_at_most_all;
 use digit_route::{Batch, Cache, Digits};
 use region_cut::endings::Endings;
 use region_cut::{Class, Part, Slot};
-use slot_chain::{Buf, BufParcel, Magazine, NoMemory};
+use slot_chain::{Buf, BufParcel, Chain, NoMemory, Portion};
 use std::alloc::Global;
 use std::fmt;
 use std::marker::Model;
@@ -183,7 +184,7 @@ impl<'r> Desk<'r> {
         ensures { Frees self.old buf.entry result self.new }
     {
         let mut buf = buf;
-        buf.set_forwards(0);
+        buf.reset();
         if buf.owner() == self.cache.number() {
             self.homes.keep(buf);
             return Freed::Home;
@@ -236,14 +237,15 @@ impl<'r> Desk<'r> {
         requires { buf.owner ≢ self.old.number → IsPassed self.old.digits self.old.number buf }
         ensures { MatchBool result (GoesHome self.old buf.entry self.new) (GoesOn self.old buf.entry self.new) }
     {
+        let mut buf = buf;
         let number = self.cache.number();
         if buf.owner() == number {
+            buf.clear();
             self.homes.keep(buf);
             return true;
         }
         let _most = self.cache.digits().count();
         shared_at_most_all();
-        let mut buf = buf;
         let forwards = buf.forwards();
         buf.set_forwards(forwards + 1);
         self.cache.put(buf);
@@ -260,10 +262,22 @@ impl<'r> Desk<'r> {
     {
         let mut magazine = batch.into_magazine();
         let mut counts = Counts { home: 0, on: 0 };
-        while let Some(array) = magazine.pop_array() {
-            counts = self.handle_array(array, counts);
+        while let Some(portion) = magazine.pop_portion() {
+            counts = self.handle_portion(portion, counts);
         }
-        self.handle_each(magazine, counts)
+        counts
+    }
+
+    // Handles the buffers of a portion, and counts them on.
+    fn handle_portion(&mut self, portion: Portion<'r>, counts: Counts) -> Counts
+        requires { All (IsPassed self.old.digits self.old.number) (items_of portion) }
+        ensures parts { Handles self.old (items_of portion.entry) self.new }
+        ensures counts { Adds self.old.number (items_of portion.entry) counts result }
+    {
+        match portion {
+            Portion::Linked(chain) => self.handle_chain(chain, counts),
+            Portion::Array(array) => self.handle_array(array, counts),
+        }
     }
 
     // Handles the buffers of an array, and counts them on.
@@ -273,24 +287,26 @@ impl<'r> Desk<'r> {
         ensures counts { Adds self.old.number array.entry.items counts result }
     {
         let mut array = array;
-        let mut counts = counts;
+        let all = array.len();
+        let mut on = 0;
         while let Some(buf) = array.pop() {
-            let is_home = self.handle_one(buf);
-            counts.count(is_home);
+            if !self.handle_one(buf) {
+                on += 1;
+            }
         }
         self.spares.keep(array);
-        counts
+        counts.plus(all - on, on)
     }
 
-    // Handles the buffers of a magazine one by one, and counts them on.
-    fn handle_each(&mut self, magazine: Magazine<'r>, counts: Counts) -> Counts
-        requires { All (IsPassed self.old.digits self.old.number) magazine }
-        ensures parts { Handles self.old magazine.entry self.new }
-        ensures counts { Adds self.old.number magazine.entry counts result }
+    // Handles the buffers of a chain, and counts them on.
+    fn handle_chain(&mut self, chain: Chain<'r>, counts: Counts) -> Counts
+        requires { All (IsPassed self.old.digits self.old.number) chain }
+        ensures parts { Handles self.old chain.entry self.new }
+        ensures counts { Adds self.old.number chain.entry counts result }
     {
-        let mut magazine = magazine;
+        let mut chain = chain;
         let mut counts = counts;
-        while let Some(buf) = magazine.pop() {
+        while let Some(buf) = chain.pop() {
             let is_home = self.handle_one(buf);
             counts.count(is_home);
         }

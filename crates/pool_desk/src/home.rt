@@ -2,7 +2,7 @@
 ghost use Rattle.std.specs.Prelude.{◌≡◌, ◌≢◌, ℕ, ◌<◌, ◌≤◌, ◌↔◌, [], ◌∷◌, ◌++◌, All, IsTrue, IsPermutation};
 ghost use Rattle.std.specs.Prelude.{MatchResult, OnOk, OnErr, length, min, ◌^◌, ◌-◌, map};
 ghost use Rattle.slot_chain.specs.Buffer.{Buffer, ended_of, owner_limit};
-ghost use Rattle.pool_desk.specs.Homes.{AtHome, IsAtHome, GivesOne, IsRefused, Draws, kept_in, slot_at, unused_from};
+ghost use Rattle.pool_desk.specs.Homes.{AtHome, LiesIn, GivesOne, IsRefused, Draws, kept_in, slot_at, unused_from};
 ghost use Rattle.pool_desk.specs.NextSlots.{GivesNext, GivesNextSlot};
 ghost use Rattle.pool_desk.specs.Homes.AtHome.{Kept};
 ghost use Rattle.region_cut.specs.Classes.{slots_of};
@@ -35,7 +35,7 @@ impl<'r> Model for Home<'r> {
     ghost use Rattle.std.specs.Prelude.{◌≡◌, ◌++◌, ◌<◌, map, All, IfSome};
     ghost use Rattle.slot_chain.specs.Buffer.{Buffer, owner_limit};
     ghost use Rattle.region_cut.specs.declared.part.Bump.{Bump};
-    ghost use Rattle.pool_desk.specs.Homes.{HomeState, AtHome, IsAtHome, unused, open_chunk};
+    ghost use Rattle.pool_desk.specs.Homes.{HomeState, AtHome, LiesIn, unused, open_chunk};
     ghost use Rattle.pool_desk.specs.Homes.AtHome.{Kept};
 
     ghost Value = { HomeState };
@@ -48,7 +48,7 @@ impl<'r> Model for Home<'r> {
     } };
 
     ghost invariant = { λ h. (h.owner < owner_limit)
-        × All (λ (b : Buffer). (b.owner ≡ h.owner) × (b.class ≡ h.class)) h.list
+        × All (LiesIn h.owner h.class) h.list
         × IfSome h.bump (λ (b : Bump). b.class ≡ h.class) };
 }
 
@@ -114,8 +114,7 @@ impl<'r> Home<'r> {
             (λ b. GivesOne self.old.owner self.old.class self.old.slots b self.new.slots self.old.drawn self.new.drawn)
             (λ e. IsRefused self.old.class self.old.slots e × (self.new ≡ self.old)) }
     {
-        if let Some(mut buf) = self.list.pop() {
-            buf.clear();
+        if let Some(buf) = self.list.pop() {
             return Ok(buf);
         }
         let Some(bump) = &mut self.bump else {
@@ -124,9 +123,9 @@ impl<'r> Home<'r> {
         next_slot(bump, alloc, self.class, self.owner)
     }
 
-    /// Takes an own buffer home.
+    /// Takes an own buffer home, of which nothing is filled.
     pub(crate) fn keep(&mut self, buf: Buf<'r>)
-        requires { IsAtHome self.old.owner self.old.class (Kept buf) }
+        requires { LiesIn self.old.owner self.old.class buf }
         ensures same { self.new ≡ record self.old { slots = self.new.slots } }
         ensures slots { IsPermutation (Kept buf.entry ∷ self.old.slots) self.new.slots }
     {

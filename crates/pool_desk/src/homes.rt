@@ -4,7 +4,7 @@ ghost use Rattle.std.specs.Prelude.{OnErr, All, length, map};
 ghost use Rattle.region_cut.specs.Classes.{slots_of};
 ghost use Rattle.slot_chain.specs.Buffer.{Buffer, ended_of, owner_limit};
 ghost use Rattle.slot_chain.specs.Counts.{capped};
-ghost use Rattle.pool_desk.specs.Homes.{Draws, GivesOne, IsOwn, kept_in, slot_at, unused_from};
+ghost use Rattle.pool_desk.specs.Homes.{Draws, GivesOne, IsOwn, comes_home, kept_in, slot_at, unused_from};
 ghost use Rattle.pool_desk.specs.Homes.AtHome.{Kept};
 ghost use Rattle.slot_chain.specs.Slots.{AddsSlots};
 ghost use Rattle.pool_desk.specs.HomesState.{HasClass, LacksClass, IsWanting};
@@ -99,9 +99,10 @@ impl<'r> Homes<'r> {
         self.by_class[class.number() as usize].alloc(alloc)
     }
 
-    /// Takes an own buffer home.
+    /// Takes an own buffer home, of which nothing is filled.
     pub(crate) fn keep(&mut self, buf: Buf<'r>)
-        requires { buf.owner ≡ self.old.owner }
+        requires owner { buf.owner ≡ self.old.owner }
+        requires empty { buf.filled ≡ 0 }
         ensures same { self.new ≡ record self.old { slots = self.new.slots } }
         ensures slots { IsPermutation (Kept buf.entry ∷ self.old.slots) self.new.slots }
     {
@@ -109,15 +110,16 @@ impl<'r> Homes<'r> {
         self.by_class[class.number() as usize].keep(buf);
     }
 
-    /// Takes own buffers home, and leaves their array empty.
+    /// Takes own buffers home, each emptied, and leaves their array empty.
     pub(crate) fn keep_all(&mut self, array: &mut Vec<Buf<'r>>)
         requires { All (λ (b : Buffer). b.owner ≡ self.old.owner) array.old.items }
         ensures same { self.new ≡ record self.old { slots = self.new.slots } }
         ensures slots { IsPermutation
-            (map (λ (b : Buffer). Kept b) array.old.items ++ self.old.slots) self.new.slots }
+            (map comes_home array.old.items ++ self.old.slots) self.new.slots }
         ensures emptied { array.new.items ≡ [] }
     {
-        while let Some(buf) = array.pop() {
+        while let Some(mut buf) = array.pop() {
+            buf.clear();
             self.keep(buf);
         }
     }

@@ -12,7 +12,7 @@ use Rattle.slot_chain.specs.Buffer.{Buffer}
 use Rattle.digit_route.specs.States.{BatchState}
 use Rattle.digit_route.specs.Route.{GivesBucket}
 use Rattle.pool_desk.specs.Homes as homes
-use Rattle.pool_desk.specs.Homes.{AtHome, slot_at, unused_from, Draws, GivesOne, Names}
+use Rattle.pool_desk.specs.Homes.{AtHome, comes_home, slot_at, unused_from, Draws, GivesOne, Names}
 use Rattle.pool_desk.specs.Homes.AtHome.{Kept, Fresh}
 use Rattle.pool_desk.specs.Slots.{places}
 use Rattle.pool_desk.specs.Desks.{DeskState}
@@ -105,9 +105,9 @@ cached_all h old p new c =
 
 pub got_all_back : (h : Slot → ℕ) (old : DeskState) (p : ParcelState) (r : Freed) (new : DeskState) → FreesAll old p r new → held h new ≡ held h old + weigh (of_buffer h) p.items
 got_all_back h old p Home new c =
-    let w = weigh-permutation (of_home h) (map (λ (b : Buffer). Kept b) p.items ++ old.home) new.home c.2 in
-    let q = weigh-append (of_home h) (map (λ (b : Buffer). Kept b) p.items) old.home in
-    let m = weigh-map (of_home h) (λ (b : Buffer). Kept b) p.items in
+    let w = weigh-permutation (of_home h) (map comes_home p.items ++ old.home) new.home c.2 in
+    let q = weigh-append (of_home h) (map comes_home p.items) old.home in
+    let m = weigh-map (of_home h) comes_home p.items in
     let s = ap (λ (d : DeskState). weigh (of_buffer h) d.cached) c.1 in
     omega arith
 got_all_back h old p Cached new c = cached_all h old p new c.0
@@ -121,8 +121,8 @@ got_all_back_drawn old p Due new c = (ap (λ (d : DeskState). d.drawn) c.0.1, ap
 pub handled : (h : Slot → ℕ) (old : DeskState) (batch : List Buffer) (new : DeskState) → Handles old batch new → held h new ≡ held h old + weigh (of_buffer h) batch
 handled h old batch new c =
     let p = weigh-permutation (of_home h) _ new.home c.home in
-    let q = weigh-append (of_home h) (map (λ (b : Buffer). Kept b) (own old.number batch)) old.home in
-    let r = weigh-map (of_home h) (λ (b : Buffer). Kept b) (own old.number batch) in
+    let q = weigh-append (of_home h) (map comes_home (own old.number batch)) old.home in
+    let r = weigh-map (of_home h) comes_home (own old.number batch) in
     let p' = weigh-permutation (of_buffer h) _ new.cached c.cached in
     let q' = weigh-append (of_buffer h) (map passed_on (others old.number batch)) old.cached in
     let r' = weigh-map (of_buffer h) passed_on (others old.number batch) in

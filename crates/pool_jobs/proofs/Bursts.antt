@@ -6,8 +6,7 @@ use Rattle.std.proofs.lemmas.List.{length-append, length-map, map-append}
 use Rattle.std.proofs.lemmas.List.Elements.{All-append, All-cons, All-head, All-nil, All-tail}
 use Rattle.slot_chain.specs.Buffer.{Buffer}
 use Rattle.slot_chain.specs.Filling.{data_of}
-use Rattle.slot_chain.specs.Parcels.{ParcelState, Packs}
-use Rattle.pool_desk.specs.Steps.{freed}
+use Rattle.slot_chain.specs.Parcels.{ParcelState, Packs, unforwarded}
 use Rattle.pool_fabric.specs.Names.{Names}
 use Rattle.pool_fabric.specs.Stations.{StationState}
 use Rattle.pool_jobs.specs.Bursts.{Fills, HasNoMore, LendsInto, TakesNone, WantsNoSlot, packed}
@@ -72,7 +71,7 @@ into_then names n a c count old mid new p q r k j le h g =
       most = le;
       into =
           g.into ∙ (ap (λ (z : ParcelState). packed z ys) h.into
-          ∙ ap (λ bs. record p { items = bs }) (append_assoc p.items (map freed xs) (map freed ys) ∙ ap (λ bs. p.items ++ bs) (sym (map-append freed xs ys))));
+          ∙ ap (λ bs. record p { items = bs }) (append_assoc p.items (map unforwarded xs) (map unforwarded ys) ∙ ap (λ bs. p.items ++ bs) (sym (map-append unforwarded xs ys))));
     }
 
 -- nothing was lent after some were
@@ -109,21 +108,21 @@ into_since names n count old mid p q k z h =
         lent = h.lends.lent ∙ (ap (λ bs. old.lent ++ bs) none ∙ append-nil old.lent);
         freed = h.lends.freed;
       },
-      h.into ∙ ap (λ bs. record p { items = bs }) (ap (λ bs. p.items ++ map freed bs) none ∙ append-nil p.items),
+      h.into ∙ ap (λ bs. record p { items = bs }) (ap (λ bs. p.items ++ map unforwarded bs) none ∙ append-nil p.items),
     )
 
 into_length : (names : Names) (n count : ℕ) (old mid : StationState) (p q : ParcelState) (k : ℕ) → LendsInto names n count old p k mid q
     → length q.items ≡ length p.items + k
 into_length names n count old mid p q k h =
     ap (λ (z : ParcelState). length z.items) h.into
-    ∙ (length-append p.items (map freed h.buffers) ∙ ap (λ z. length p.items + z) (length-map h.buffers freed ∙ h.number))
+    ∙ (length-append p.items (map unforwarded h.buffers) ∙ ap (λ z. length p.items + z) (length-map h.buffers unforwarded ∙ h.number))
 
 -- there is a place more
 pub into_room : (names : Names) (n count : ℕ) (old mid : StationState) (p q : ParcelState) (k : ℕ) → LendsInto names n count old p k mid q
     → length p.items + count ≤ p.places → k < count → length q.items < q.places
 into_room names n count old mid p q k h room lt =
-    let len = length-append p.items (map freed h.buffers) in
-    let more = length-map h.buffers freed in
+    let len = length-append p.items (map unforwarded h.buffers) in
+    let more = length-map h.buffers unforwarded in
     let number = h.number in
     rw h.into (omega (arith, len, more, number))
 
@@ -209,10 +208,10 @@ filled names n c most count old p (Ok k) new p' h ends le whole is = (
 filled names n c most count old p (Err e) new p' h ends le whole is = (served_size names n c old e new is h.0, h.1)
 
 -- of what was lent nothing is filled
-new_filling : (b : Buffer) → b.filled ≡ 0 → data_of (freed b) ≡ []
+new_filling : (b : Buffer) → b.filled ≡ 0 → data_of (unforwarded b) ≡ []
 new_filling b e = ap (λ z. take z b.bytes.now) e
 
-new_fillings : (bs : List Buffer) → All (λ (b : Buffer). b.filled ≡ 0) bs → map data_of (map freed bs) ≡ replicate (length bs) []
+new_fillings : (bs : List Buffer) → All (λ (b : Buffer). b.filled ≡ 0) bs → map data_of (map unforwarded bs) ≡ replicate (length bs) []
 new_fillings [] h = refl
 new_fillings (b ∷ bs) h =
     let one = new_filling b (All-head (λ (x : Buffer). x.filled ≡ 0) b bs h) in
@@ -223,7 +222,7 @@ into_fillings : (names : Names) (n count : ℕ) (old new : StationState) (p p' :
     → map data_of p'.items ≡ map data_of p.items ++ replicate k []
 into_fillings names n count old new p p' k h =
     ap (λ (z : ParcelState). map data_of z.items) h.into
-    ∙ (map-append data_of p.items (map freed h.buffers)
+    ∙ (map-append data_of p.items (map unforwarded h.buffers)
     ∙ ap (λ l. map data_of p.items ++ l) (new_fillings h.buffers h.lends.empty ∙ ap (λ z. replicate z []) h.number))
 
 pub filled_fillings : (names : Names) (n count : ℕ) (old : StationState) (p : ParcelState) (r : Result ℕ PoolError) (new : StationState) (p' : ParcelState)

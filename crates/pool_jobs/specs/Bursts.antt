@@ -1,9 +1,8 @@
 -- What the filling of a parcel does.
 use Rattle.std.specs.Prelude.{◌≡◌, ◌≢◌, ℕ, ◌-◌, ◌≤◌, ◌⊎◌, List, [], ◌∷◌, ◌++◌, All, Result, Ok, Err, length, map}
 use Rattle.slot_chain.specs.Buffer.{Buffer}
-use Rattle.slot_chain.specs.Parcels.{ParcelState}
+use Rattle.slot_chain.specs.Parcels.{ParcelState, unforwarded}
 use Rattle.pool_desk.specs.HomesState.{LacksClass}
-use Rattle.pool_desk.specs.Steps.{freed}
 use Rattle.pool_fabric.specs.Names.{Names}
 use Rattle.pool_fabric.specs.Stations.{StationState}
 use Rattle.pool_jobs.specs.Serving.{HasOnlyUnused, IsClassFor, SameDesk, Serves}
@@ -21,7 +20,7 @@ pub record LendsEach (names : Names) (n : ℕ) (old : StationState) (bs : List B
 
 -- the parcel with these buffers at its end, none of which was passed on
 abbrev pub packed : ParcelState → List Buffer → ParcelState
-packed p bs = record p { items = p.items ++ map freed bs }
+packed p bs = record p { items = p.items ++ map unforwarded bs }
 
 -- k buffers, and no more than count, were lent into the parcel
 pub record LendsInto (names : Names) (n count : ℕ) (old : StationState) (p : ParcelState) (k : ℕ) (new : StationState)

@@ -3,11 +3,18 @@ use Rattle.std.specs.Prelude.{◌≡◌, ◌≢◌, ◌<◌, All, List, [], Opti
 use Rattle.std.specs.List.{flat_map}
 use Rattle.std.specs.declared.alloc.Global.{Global}
 use Rattle.slot_chain.specs.Buffer.{Buffer}
+use Rattle.slot_chain.specs.declared.portion.Portion.{Portion}
+use Rattle.slot_chain.specs.declared.portion.Portion.TheVariants.{Linked, Array}
 
 -- those that an array names, none where there is no array
 abbrev pub named_in : Option (Vec Buffer Global) → List Buffer
 named_in None = []
 named_in (Some array) = array.items
+
+-- the buffers of a portion
+abbrev pub items_of : Portion → List Buffer
+items_of (Linked chain) = chain
+items_of (Array array) = array.items
 
 -- there is an array, and a place in it
 abbrev pub HasPlace : Option (Vec Buffer Global) → Type 0

@@ -12,11 +12,15 @@ pub record ParcelState : Type 0 where
 abbrev pub IsPacked : ℕ → Buffer → Type 0
 IsPacked owner b = (b.owner ≡ owner) × (b.forwards ≡ 0)
 
--- the buffer comes to the end, and its count of forwards is 0
+-- the buffer as it lies in a parcel: it was not passed on, and all else is the same
+abbrev pub unforwarded : Buffer → Buffer
+unforwarded b = record b { forwards = 0 }
+
+-- the buffer comes to the end
 abbrev pub Packs : ParcelState → Buffer → ParcelState → Type 0
 Packs old b new =
     (b.owner ≡ old.owner) × (length old.items < old.places)
-    × (new ≡ record old { items = old.items ++ record b { forwards = 0 } ∷ [] })
+    × (new ≡ record old { items = old.items ++ unforwarded b ∷ [] })
 
 -- why a buffer doesn't come into it: it is another allocator's, or there is no place
 abbrev pub KeepsOut : ParcelState → Buffer → Type 0

@@ -89,6 +89,19 @@ impl<'r> Buf<'r> {
         }
     }
 
+    /// Nothing counts as filled any more, and the count of [`Buf::forwards`] is 0: how a buffer is freed.
+    /// Where both hold already, the buffer's box is not written to.
+    #[inline]
+    pub fn reset(&mut self)
+        ensures { self.new ≡ record self.old { forwards = 0; filled = 0 } }
+    {
+        let marks = self.node.forwards as u64 * 4_294_967_296 + self.node.filled as u64;
+        if marks != 0 {
+            self.node.filled = 0;
+            self.node.forwards = 0;
+        }
+    }
+
     /// The bytes of the slot, as many as its class has.
     pub fn bytes(&self) -> &[u8]
         ensures value { result.now ≡ self.now.bytes.now }

@@ -23,6 +23,7 @@ mod link;
 mod magazine;
 mod node;
 mod parcel;
+mod portion;
 mod room;
 mod walk;
 
@@ -32,5 +33,6 @@ pub use error::{Full, NoMemory};
 pub use into_iter::IntoIter;
 pub use magazine::Magazine;
 pub use parcel::BufParcel;
+pub use portion::Portion;
 pub use room::Room;
 pub use walk::{Tag, Walk};

@@ -4,12 +4,13 @@ ghost use Rattle.std.specs.Prelude.{None, MatchOption, OnOk, OnErr};
 ghost use Rattle.slot_chain.specs.Buffer.{ended_of};
 ghost use Rattle.slot_chain.specs.Counts.{capped, sizes};
 ghost use Rattle.slot_chain.specs.Slots.{AddsSlots, slot_of};
-ghost use Rattle.slot_chain.specs.Magazines.{named_in, HasPlace};
+ghost use Rattle.slot_chain.specs.Magazines.{named_in, items_of, HasPlace};
 
 use crate::arrays::Arrays;
 use crate::buf::Buf;
 use crate::chain::Chain;
 use crate::error::NoMemory;
+use crate::portion::Portion;
 use crate::walk::{Walk, add_slots, bytes_in};
 use region_cut::Slot;
 use region_cut::endings::Endings;
@@ -154,19 +155,17 @@ impl<'r> Magazine<'r> {
         pop_whole(&mut self.whole, &mut self.array)
     }
 
-    /// Takes out the buffers that came last as the array in which they stand, or `None` where the last
-    /// one is linked, or there is none. Takes constant time.
-    pub fn pop_array(&mut self) -> Option<Vec<Buf<'r>>>
-        ensures { MatchOption result (self.new ≡ self.old)
-            (λ a. (a.items ≢ []) × (self.old ≡ self.new ++ a.items)) }
+    /// Takes out the buffers that came last, as they lie: those that are linked, or else those of the last
+    /// array. It is `None` where there is no buffer. Takes constant time.
+    pub fn pop_portion(&mut self) -> Option<Portion<'r>>
+        ensures { MatchOption result ((self.old ≡ []) × (self.new ≡ []))
+            (λ p. (items_of p ≢ []) × (self.old ≡ self.new ++ items_of p)) }
     {
         if !self.linked.is_empty() {
-            return None;
+            return Some(Portion::Linked(mem::take(&mut self.linked)));
         }
-        match take_named(&mut self.array) {
-            Some(array) => Some(array),
-            None => self.whole.take(),
-        }
+        let array = take_array(&mut self.whole, &mut self.array)?;
+        Some(Portion::Array(array))
     }
 
     // For how many buffers the array should be made of a list that becomes as long as this one.
@@ -350,6 +349,18 @@ fn take_named<'r>(array: &mut Option<Vec<Buf<'r>>>) -> Option<Vec<Buf<'r>>>
         return None;
     }
     array.take()
+}
+
+// Takes out the array whose buffers came last.
+fn take_array<'r>(whole: &mut Arrays<'r>, array: &mut Option<Vec<Buf<'r>>>) -> Option<Vec<Buf<'r>>>
+    ensures { MatchOption result
+        ((whole.old ++ named_in array.old ≡ []) × (whole.new ++ named_in array.new ≡ []))
+        (λ a. (a.items ≢ []) × (whole.old ++ named_in array.old ≡ (whole.new ++ named_in array.new) ++ a.items)) }
+{
+    match take_named(array) {
+        Some(array) => Some(array),
+        None => whole.take(),
+    }
 }
 
 // Takes the last buffer of the array that came last as a whole, where the other array names none, and

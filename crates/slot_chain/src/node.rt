@@ -12,22 +12,22 @@ use std::alloc::Global;
 // nothing is below.
 #[cycle(chain)]
 pub(crate) struct Node<'r> {
+    // How many bytes its user has filled, and how often the buffer was passed on. Both are 0 where a buffer
+    // is at home. They lie in one word, so that one look finds both to be 0.
+    pub(crate) filled: u32,
+    pub(crate) forwards: u32,
     pub(crate) slot: Slot,
     pub(crate) class: Class,
     pub(crate) owner: u16,
-    pub(crate) forwards: u32,
     pub(crate) lease: Lease<'r>,
     // Nothing reads it. `below` changes from list to list, and what stands before is read by each thread
     // that has the buffer. `below` stands 128 bytes behind the beginning, so that a cache line of 64 lies
     // between the two lines, wherever a box lies: a core that reads a line fetches the next one as well.
     pub(crate) apart: [u64; 12],
     pub(crate) below: Below<'r>,
-    // How many bytes its user has filled. It lies beside the link, in the line that its owner writes, and
-    // not in the one that each thread reads.
-    pub(crate) filled: u32,
     // Nothing reads it. With it a box takes 192 bytes from the C library, whole lines, so that no box
     // begins where the link of another lies.
-    pub(crate) behind: [u32; 9],
+    pub(crate) behind: [u64; 5],
     // by which the box goes back. It takes no bytes
     pub(crate) alloc: Global,
 }
@@ -53,14 +53,14 @@ impl<'r> Node<'r> {
         ensures below { result.1 ≡ self.entry.below }
     {
         let Node {
+            filled: _,
+            forwards: _,
             slot: _,
             class: _,
             owner: _,
-            forwards: _,
             lease,
             apart: _,
             below,
-            filled: _,
             behind: _,
             alloc: _,
         } = self;

@@ -37,15 +37,15 @@ impl<'r> Room<'r> {
     /// refused it.
     pub fn new(alloc: Global) -> Result<Room<'r>, NoMemory> {
         let node = Node {
+            filled: 0,
+            forwards: 0,
             slot: Slot { chunk: 0, index: 0 },
             class: Class::FIRST,
             owner: 0,
-            forwards: 0,
             lease: Lease::new(Default::default()),
             apart: [0; 12],
             below: Below::new(),
-            filled: 0,
-            behind: [0; 9],
+            behind: [0; 5],
             alloc,
         };
         Ok(Room {

@@ -42,6 +42,19 @@ fn read(rt: &impl Abort, buf: &mut Buf<'_>) {
     holds(rt, buf, b"packet and more ");
 }
 
+// Whether it was filled, passed on or both, it is then neither, and has its bytes.
+fn reset(rt: &impl Abort, buf: &mut Buf<'_>) {
+    for (filled, forwards) in [(4, 0), (0, 2), (16, u32::MAX), (0, 0)] {
+        assert!(rt; filled <= buf.capacity());
+        buf.set_len(filled);
+        buf.set_forwards(forwards);
+        buf.reset();
+        holds(rt, buf, b"");
+        assert!(rt; buf.forwards() == 0);
+        assert_eq!(rt; buf.bytes(), b"packet and more ".as_slice());
+    }
+}
+
 // Bytes are written in place, and then as many count as are said.
 fn edit(rt: &impl Abort, buf: &mut Buf<'_>) {
     buf.clear();
@@ -70,6 +83,7 @@ fn hand_over(rt: &impl Abort, alloc: Global) -> Result<(), NoMemory> {
     let mut buf = chain.pop().expect(rt, "a buffer");
     append(rt, &mut buf);
     read(rt, &mut buf);
+    reset(rt, &mut buf);
     edit(rt, &mut buf);
     chain.push(buf);
     let buf = chain.pop().expect(rt, "the same");

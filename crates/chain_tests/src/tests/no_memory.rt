@@ -112,7 +112,7 @@ fn fill_lists<'r>(rt: &impl Abort, chain: Chain<'r>, mut roomy: Magazine<'r>) {
     pour(&mut linked, &mut roomy);
     let taken = roomy.take();
     same(rt, "the slots", taken.len(), 8);
-    assert!(rt; roomy.is_empty() && roomy.pop_array().is_none());
+    assert!(rt; roomy.is_empty() && roomy.pop_portion().is_none());
 }
 
 fn magazine(rt: &impl Abort, alloc: Global) -> Result<(), NoMemory> {

@@ -4,7 +4,7 @@ use crate::tests::{filled, same};
 use chain_uses::mark;
 use region_cut::endings::Endings;
 use region_cut::{CHUNK, Slot, class_for};
-use slot_chain::{Buf, Chain, Magazine, NoMemory};
+use slot_chain::{Buf, Chain, Magazine, NoMemory, Portion};
 use std::alloc::Global;
 use std::process::Abort;
 
@@ -79,10 +79,31 @@ fn gives(rt: &impl Abort, list: &mut Magazine<'_>, first: u16, end: u16) {
     }
 }
 
+// The array that came last, where no buffer that came behind it is linked.
+fn array_in<'r>(list: &mut Magazine<'r>) -> Option<Vec<Buf<'r>>> {
+    match list.pop_portion()? {
+        Portion::Array(array) => Some(array),
+        Portion::Linked(_) => None,
+    }
+}
+
+// All buffers are linked, and their slots come from the one index up to below the other.
+fn gives_linked(rt: &impl Abort, list: &mut Magazine<'_>, first: u16, end: u16) {
+    let Some(Portion::Linked(mut chain)) = list.pop_portion() else {
+        assert!(rt; false, "linked buffers");
+        return;
+    };
+    for index in first..end {
+        let buf = chain.pop().expect(rt, "a buffer");
+        assert_eq!(rt; buf.slot(), Slot { chunk: 0, index });
+    }
+    assert!(rt; chain.is_empty());
+}
+
 // The array that came last is one that `array_of` made, of buffers with these indices. Where none comes, or one that
 // was made for buffers that come one by one, memory for room was refused.
 fn gives_array(rt: &impl Abort, list: &mut Magazine<'_>, want: &[u16]) -> Result<(), NoMemory> {
-    let array = list.pop_array().ok_or(NoMemory)?;
+    let array = array_in(list).ok_or(NoMemory)?;
     if array.capacity() < PLACES {
         return Err(NoMemory);
     }
@@ -96,7 +117,7 @@ fn gives_array(rt: &impl Abort, list: &mut Magazine<'_>, want: &[u16]) -> Result
 
 fn gives_none(rt: &impl Abort, list: &mut Magazine<'_>) {
     assert!(rt; list.is_empty());
-    assert!(rt; list.pop_array().is_none());
+    assert!(rt; list.pop_portion().is_none());
     assert!(rt; list.pop().is_none());
     same(rt, "no buffers", list.len(), 0);
 }
@@ -108,8 +129,7 @@ fn append_without_room(rt: &impl Abort, alloc: Global) -> Result<(), NoMemory> {
     list.append(array_of(alloc, &mut chain, 3)?);
     list.append(array_of(alloc, &mut chain, 2)?);
     has_each(rt, alloc, &list, 251, 256)?;
-    assert!(rt; list.pop_array().is_none());
-    gives(rt, &mut list, 251, 256);
+    gives_linked(rt, &mut list, 251, 256);
     gives_none(rt, &mut list);
     Ok(())
 }
@@ -252,7 +272,7 @@ fn append_many<'r>(
 // Seventeen arrays come out, and no more. Where none comes, memory for room was refused.
 fn gives_many(rt: &impl Abort, list: &mut Magazine<'_>) -> Result<(), NoMemory> {
     for _ in 0..17 {
-        let array = list.pop_array().ok_or(NoMemory)?;
+        let array = array_in(list).ok_or(NoMemory)?;
         same(rt, "the buffers of an array", array.len() as u64, 2);
     }
     gives_none(rt, list);

@@ -8,7 +8,7 @@ use Rattle.region_cut.specs.Carved.{Carved}
 use Rattle.region_cut.specs.Classes.{slots_of}
 use Rattle.slot_chain.specs.Buffer.{Buffer}
 use Rattle.slot_chain.specs.Filling.{emptied}
-use Rattle.pool_desk.specs.Homes.{AtHome, Unused, Names, TakesNext, taken_next, unused_from, kept_in}
+use Rattle.pool_desk.specs.Homes.{AtHome, Unused, Names, TakesNext, comes_home, taken_next, unused_from, kept_in}
 use Rattle.pool_desk.specs.Homes.{GivenAs}
 use Rattle.pool_desk.specs.Homes.AtHome.{Kept, Fresh}
 use Rattle.pool_desk.specs.Desks.{IdleState, DeskState}
@@ -159,7 +159,10 @@ module _ (K : Buffer → Type 0) (U : Unused → Type 0) (R : Carved → Type 0)
         e.queued)
         w (ap (λ (f : FloorState). f.desks) s.same) (ap (λ (f : FloorState). f.lent) s.same) (ap (λ (f : FloorState). f.inboxes) s.same)
 
-    module _ (as_freed : (b : Buffer) → K b → K (freed b)) (as_passed : (b : Buffer) → K b → K (passed_on b)) where
+    module _ (changed_to : (b : Buffer) (n : ℕ) → K b → K (record b { forwards = n })) (as_emptied : (b : Buffer) → K b → K (emptied b)) where
+      as_freed : (b : Buffer) → K b → K (freed b)
+      as_freed b p = as_emptied (record b { forwards = 0 }) (changed_to b 0 p)
+
       freed_cache : (d d' : DeskState) (b : Buffer) → OfDesk K U R (Held d) → K b → Caches d b d' → OfDesk K U R (Held d')
       freed_cache d d' b k p f = record {
         home = subst (λ hs. All (IsHome K U) hs) (sym (ap (λ (x : DeskState). x.home) f.1)) k.home;
@@ -194,11 +197,11 @@ module _ (K : Buffer → Type 0) (U : Unused → Type 0) (R : Carved → Type 0)
           changed b (Held s.after) v.lent (set v.inboxes b s.rest) s.held.0
           (record {
             home = All-permutation (IsHome K U) _ _ s.handles.home
-                (All-append (IsHome K U) (map (λ (x : Buffer). Kept x) (own number s.front.buffers)) s.before.home
-                (All-map-to K (IsHome K U) (λ (x : Buffer). Kept x) (own number s.front.buffers) (λ x p. p) (All-filtered K (λ (x : Buffer). x.owner == number) s.front.buffers all)) k.home);
+                (All-append (IsHome K U) (map comes_home (own number s.front.buffers)) s.before.home
+                (All-map-to K (IsHome K U) comes_home (own number s.front.buffers) as_emptied (All-filtered K (λ (x : Buffer). x.owner == number) s.front.buffers all)) k.home);
             cached = All-permutation K _ _ s.handles.cached
                 (All-append K (map passed_on (others number s.front.buffers)) s.before.cached
-                (All-map-to K K passed_on (others number s.front.buffers) as_passed (All-filtered K (λ (x : Buffer). not (x.owner == number)) s.front.buffers all)) k.cached);
+                (All-map-to K K passed_on (others number s.front.buffers) (λ b p. changed_to b _ p) (All-filtered K (λ (x : Buffer). not (x.owner == number)) s.front.buffers all)) k.cached);
             chunks = subst (λ cs. All R cs) (sym (ap (λ (x : DeskState). x.drawn) s.handles.same)) k.chunks;
           })
           e.lent

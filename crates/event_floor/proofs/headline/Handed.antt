@@ -31,7 +31,7 @@ use Rattle.event_floor.specs.headline.Listing.{listing_of}
 use Rattle.event_floor.specs.headline.Names.{HasName, HasNoName, IsNamedHome, IsNamedChunk, IsNamedDesk, chunks_of, drew}
 use Rattle.event_floor.proofs.headline.ByPlace.{NamesByPlace, is_drawn_for}
 use Rattle.pool_machine.proofs.Enumerate.{count_cons}
-use Rattle.event_floor.proofs.headline.Named.{held_named, changed_named, desk_named, each_place}
+use Rattle.event_floor.proofs.headline.Named.{held_named, changed_named, desk_named, each_place, emptied_named}
 use Rattle.event_floor.proofs.headline.Stands.{stands_behind}
 use Rattle.event_floor.proofs.headline.Taken.{get_pushed, get_last, get_set_same, get_set_other, some_is, count_zero, All-to, some_to, same_eqb, other_eqb, eqb_is, eqb_same, chunk_count, chunk_permuted}
 use Rattle.event_floor.proofs.headline.Apart.{rest_apart, others_apart, more_than_none}
@@ -54,13 +54,10 @@ module _ (names : List Carved) (v w : FloorState) (a n : ℕ) (slot : Slot) (f :
 
   -- ---- a buffer that came home is lent as it was, but for what was filled
 
-  emptied_named : (c : Buffer) → HasName names c → HasName names (emptied c)
-  emptied_named c h = record { chunk = h.chunk; is_chunk = h.is_chunk; class = h.class; name = h.name; size = h.size }
-
   kept_lent : (c : Buffer) → buffer ≡ emptied c → IsPermutation s.before.home (Kept c ∷ s.after.home) → s.after.drawn ≡ s.before.drawn → NamesByPlace names w
   kept_lent c e p same =
       let all = All-permutation (IsNamedHome names) _ _ p lender_named.home in
-      let named : HasName names buffer = subst (HasName names) (sym e) (emptied_named c (All-head (IsNamedHome names) (Kept c) s.after.home all)) in
+      let named : HasName names buffer = subst (HasName names) (sym e) (emptied_named names c (All-head (IsNamedHome names) (Kept c) s.after.home all)) in
       subst (NamesByPlace names) (sym s.same)
       (changed_named names v f a (Held s.after) (set v.lent (index_of slot) (Some buffer)) v.inboxes v.next s.held.0
       (desk_named names v f a s.before s.after lender_named same (All-tail (IsNamedHome names) (Kept c) s.after.home all)

@@ -62,15 +62,15 @@ module _ (K : Buffer → Type 0) (U : Unused → Type 0) (R : Carved → Type 0)
   does_everywhere names v w (Claim a c) _ n e f h = elim h [ ]
   does_everywhere names v w (Alloc a m) (Lent slot) n e f h = alloc_everywhere K U R v e as_emptied give w a m slot h (next names v w a m slot n h)
   does_everywhere names v w (Alloc a m) _ n e f h = elim h [ ]
-  does_everywhere names v w (Free a pair) Home n e f h = free_everywhere K U R v e (λ b p. changed b 0 p) (λ b p. changed b _ p) w a pair.0 pair.1 _ h
-  does_everywhere names v w (Free a pair) Cached n e f h = free_everywhere K U R v e (λ b p. changed b 0 p) (λ b p. changed b _ p) w a pair.0 pair.1 _ h
-  does_everywhere names v w (Free a pair) Due n e f h = free_everywhere K U R v e (λ b p. changed b 0 p) (λ b p. changed b _ p) w a pair.0 pair.1 _ h
+  does_everywhere names v w (Free a pair) Home n e f h = free_everywhere K U R v e changed as_emptied w a pair.0 pair.1 _ h
+  does_everywhere names v w (Free a pair) Cached n e f h = free_everywhere K U R v e changed as_emptied w a pair.0 pair.1 _ h
+  does_everywhere names v w (Free a pair) Due n e f h = free_everywhere K U R v e changed as_emptied w a pair.0 pair.1 _ h
   does_everywhere names v w (Free a pair) _ n e f h = elim h [ ]
   does_everywhere names v w (Send a t) (Batch number count) n e f h = send_everywhere K U R v e w a t number count h
   does_everywhere names v w (Send a t) _ n e f h = elim h [ ]
   does_everywhere names v w (Link number) Done n e f h = link_everywhere K U R v e w number h
   does_everywhere names v w (Link number) _ n e f h = elim h [ ]
-  does_everywhere names v w (Take b) (Counts home on) n e f h = take_everywhere K U R v e (λ b p. changed b 0 p) (λ b p. changed b _ p) w b home on h
+  does_everywhere names v w (Take b) (Counts home on) n e f h = take_everywhere K U R v e changed as_emptied w b home on h
   does_everywhere names v w (Take b) _ n e f h = elim h [ ]
 
 -- ---- which chunks are drawn

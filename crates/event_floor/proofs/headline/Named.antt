@@ -8,6 +8,8 @@ use Rattle.std.proofs.lemmas.List.Elements.{All-nil, All-cons, All-head, All-tai
 use Rattle.std.proofs.lemmas.List.Sorted.{All-permutation}
 use Rattle.region_cut.specs.Carved.{Carved}
 use Rattle.slot_chain.specs.Buffer.{Buffer}
+use Rattle.slot_chain.specs.Filling.{emptied}
+use Rattle.pool_desk.specs.Homes.{comes_home}
 use Rattle.pool_desk.specs.Homes.AtHome.{Kept}
 use Rattle.pool_desk.specs.Desks.{IdleState, DeskState}
 use Rattle.pool_desk.specs.Steps.{freed, passed_on, own, others, Caches, Frees}
@@ -64,6 +66,9 @@ All-filtered P p (x ∷ xs) h = go (p x) (All-filtered P p xs (All-tail P x xs h
 
 pub freed_named : (names : List Carved) (b : Buffer) → HasName names b → HasName names (freed b)
 freed_named names b h = record { chunk = h.chunk; is_chunk = h.is_chunk; class = h.class; name = h.name; size = h.size }
+
+pub emptied_named : (names : List Carved) (b : Buffer) → HasName names b → HasName names (emptied b)
+emptied_named names b h = record { chunk = h.chunk; is_chunk = h.is_chunk; class = h.class; name = h.name; size = h.size }
 
 pub passed_named : (names : List Carved) (b : Buffer) → HasName names b → HasName names (passed_on b)
 passed_named names b h = record { chunk = h.chunk; is_chunk = h.is_chunk; class = h.class; name = h.name; size = h.size }
@@ -169,8 +174,8 @@ module _ (names : List Carved) (v : FloorState) (n : NamesByPlace names v) where
       (changed_named b (Held s.after) v.lent (set v.inboxes b s.rest) v.next s.held.0
       (desk_named b s.before s.after k (ap (λ (x : DeskState). x.drawn) s.handles.same)
       (All-permutation (IsNamedHome names) _ _ s.handles.home
-      (All-append (IsNamedHome names) (map (λ (x : Buffer). Kept x) (own number s.front.buffers)) s.before.home
-      (All-map-to (HasName names) (IsNamedHome names) (λ (x : Buffer). Kept x) (own number s.front.buffers) (λ x p. p) (All-filtered (HasName names) (λ (x : Buffer). x.owner == number) s.front.buffers all)) k.home))
+      (All-append (IsNamedHome names) (map comes_home (own number s.front.buffers)) s.before.home
+      (All-map-to (HasName names) (IsNamedHome names) comes_home (own number s.front.buffers) (emptied_named names) (All-filtered (HasName names) (λ (x : Buffer). x.owner == number) s.front.buffers all)) k.home))
       (All-permutation (HasName names) _ _ s.handles.cached
       (All-append (HasName names) (map passed_on (others number s.front.buffers)) s.before.cached
       (All-map-to (HasName names) (HasName names) passed_on (others number s.front.buffers) (passed_named names) (All-filtered (HasName names) (λ (x : Buffer). not (x.owner == number)) s.front.buffers all)) k.cached)))

@@ -6,7 +6,7 @@ use Rattle.region_cut.specs.declared.slot.Slot.{Slot}
 use Rattle.slot_chain.specs.Buffer.{Buffer}
 use Rattle.slot_chain.specs.Counts.{capped}
 use Rattle.digit_route.specs.Route.{TakesBucket}
-use Rattle.pool_desk.specs.Homes.AtHome.{Kept}
+use Rattle.pool_desk.specs.Homes.{comes_home}
 use Rattle.pool_desk.specs.Desks.{DeskState}
 use Rattle.pool_desk.specs.Steps.{passed_on as buffer_passed_on, own, others}
 use Rattle.event_floor.specs.Desks.AnyDeskState.{Held as HeldDesk}
@@ -145,7 +145,7 @@ link_done v w n s =
 
 -- ---- Take
 
-kept_seen : (n : ℕ) (bs : List Buffer) → map (entry_at n) (map (λ (b : Buffer). Kept b) bs) ≡ map entry_of bs
+kept_seen : (n : ℕ) (bs : List Buffer) → map (entry_at n) (map comes_home bs) ≡ map entry_of bs
 kept_seen n [] = refl
 kept_seen n (b ∷ bs) = ap (λ l. entry_of b ∷ l) (kept_seen n bs)
 
@@ -185,7 +185,7 @@ module _ (v w : FloorState) (b home on : ℕ) (f : IsWhole v) (s : TakesFront v 
         home = subst (λ (z : DeskListing). IsPermutation (filter is_own taken_batch.buffers ++ z.home) (map (entry_at s.after.number) s.after.home)) (sym seen)
             (subst (λ m. IsPermutation (filter is_own taken_batch.buffers ++ map (entry_at n) s.before.home) (map (entry_at m) s.after.home)) (ap (λ (x : DeskState). x.number) (sym keeps))
             (subst (λ xs. IsPermutation xs (map (entry_at n) s.after.home))
-            (map-append (entry_at n) (map (λ (x : Buffer). Kept x) (own n s.front.buffers)) s.before.home
+            (map-append (entry_at n) (map comes_home (own n s.front.buffers)) s.before.home
             ∙ ap (λ xs. xs ++ map (entry_at n) s.before.home) (kept_seen n (own n s.front.buffers) ∙ own_seen))
             (IsPermutation-map (entry_at n) _ _ s.handles.home)));
         cache = subst (λ (z : DeskListing). IsPermutation (map passed_on (filter is_other taken_batch.buffers) ++ z.cache) (map entry_of s.after.cached)) (sym seen)

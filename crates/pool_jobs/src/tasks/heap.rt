@@ -122,7 +122,7 @@ pub trait Heap: Drop {
         ensures largest { largest self.new ≡ largest self.old };
 
     /// Takes all buffers of a parcel back, whichever allocator of the pool made it, as [`Heap::free`] does
-    /// one. Another's parcel takes constant time.
+    /// one. Of another's parcel no buffer is looked at, but for the first few that a task frees.
     fn free_all<R: Wait>(&mut self, rt: &R, parcel: Self::Parcel);
 
     /// Posts all of others' buffers that are cached here, so that they come home, and says whether all

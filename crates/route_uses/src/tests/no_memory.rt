@@ -5,7 +5,7 @@ use crate::tests::rounds::{Want, check_all, check_left, put_third_back, set_firs
 use crate::tests::samples::{filled_in, next_of_1, put_each, same, take, turned};
 use digit_route::{Batch, Cache, RouteError};
 use memory_marks::{Mark, set};
-use slot_chain::{BufParcel, NoMemory};
+use slot_chain::{BufParcel, NoMemory, Portion};
 use std::alloc::Global;
 use std::process::Abort;
 
@@ -122,8 +122,10 @@ fn parcel(rt: &impl Abort, alloc: Global) -> Result<(), NoMemory> {
     put_parcel(rt, &mut cache, second);
     set(alloc, Mark::MayTake);
     let mut magazine = next_of_1(rt, &mut cache, 40).into_magazine();
-    let array = magazine.pop_array().expect(rt, "the parcel's array");
-    same(rt, "the array's buffers", array.len() as u64, 40);
+    match magazine.pop_portion() {
+        Some(Portion::Array(array)) => same(rt, "the array's buffers", array.len() as u64, 40),
+        _ => assert!(rt; false, "the parcel's array"),
+    }
     Ok(())
 }
 

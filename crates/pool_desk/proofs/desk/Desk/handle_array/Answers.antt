@@ -1,10 +1,16 @@
-use Rattle.pool_desk.proofs.HandleLaws.{Handled-none, Handled-one}
-use Rattle.std.proofs.Common.{arith}
+use Rattle.std.proofs.Common.{sym, ◌∙◌}
+use Rattle.pool_desk.proofs.HandleLaws.{Adds-array, HandledOf-none, HandledOf-home, HandledOf-on}
 use Rattle.pool_desk.proofs.desk.Desk.handle_array.Goals as goal
 
 pub loop-buf-init : goal.loop-buf-init
-loop-buf-init c = Handled-none _ _ _ (omega arith) (omega arith) c.requires
+loop-buf-init c = HandledOf-none _ _ c.requires
+
+pub loop-buf-preserved-then-not-handle_one : goal.loop-buf-preserved-then-not-handle_one
+loop-buf-preserved-then-not-handle_one c = HandledOf-on _ _ _ _ _ _ c.in-Some.buf _ c.loop-buf.invariant c.in-Some.ensures.items c.if-not-handle_one.ensures
 
 pub loop-buf-preserved : goal.loop-buf-preserved
-loop-buf-preserved c =
-    Handled-one c.handle_one-is_home.result _ _ _ _ _ _ _ _ _ _ c.loop-buf.invariant c.in-Some.ensures.items c.handle_one-is_home.ensures c.count.ensures
+loop-buf-preserved c = HandledOf-home _ _ _ _ _ _ c.in-Some.buf _ c.loop-buf.invariant c.in-Some.ensures.items c.if-not-handle_one.ensures
+
+pub returns-clause-counts : goal.returns-clause-counts
+returns-clause-counts c =
+    (Adds-array _ _ _ _ _ c.args.counts c.plus.result c.loop-buf.invariant (sym c.loop-buf.array.ok.0 ∙ c.in_default.ensures.cases.0) (rw (c.len-all.ensures, c.args.array.ok.0) at c.plus.ensures.home) c.plus.ensures.on).1

@@ -5,7 +5,7 @@ use Rattle.pool_desk.proofs.home.Home.alloc.Goals as goal
 
 pub returns-in-Some-clause-value : goal.returns-in-Some-clause-value
 returns-in-Some-clause-value c =
-    rw (← c.self.view_is) (gives_kept c.self.inside.owner c.self.inside.class c.self.inside.list c.pop.new.self c.in-Some.buf c.clear.new.self (unused c.self.inside.bump) _ c.self.invariant.1 c.in-Some.ensures c.clear.ensures)
+    rw (← c.self.view_is) (gives_kept c.self.inside.owner c.self.inside.class c.self.inside.list c.pop.new.self c.in-Some.buf (unused c.self.inside.bump) _ c.self.invariant.1 c.in-Some.ensures)
 
 pub invariant_of-self : goal.invariant_of-self
 invariant_of-self c = (c.self.invariant.0, rest_own _ _ c.self.inside.list c.pop.new.self c.in-Some.buf c.self.invariant.1 c.in-Some.ensures, c.self.invariant.2)

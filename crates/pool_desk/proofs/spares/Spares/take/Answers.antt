@@ -1,4 +1,4 @@
-use Rattle.std.proofs.Common.{◌≡◌, ℕ, [], ◌+◌, suc, List, All, take, drop, Option, Vec}
+use Rattle.std.proofs.Common.{◌≡◌, ℕ, [], suc, List, All, take, drop, Option, Vec}
 use Rattle.std.specs.List.{remove}
 use Rattle.std.proofs.lemmas.List.Elements.{All-append, All-take, All-drop}
 use Rattle.std.specs.declared.alloc.Global.{Global}

@@ -1,6 +1,6 @@
 use Rattle.pool_desk.proofs.HandleLaws.{Handled-none, Handled-one, last_passed}
 use Rattle.std.proofs.Common.{arith}
-use Rattle.pool_desk.proofs.desk.Desk.handle_each.Goals as goal
+use Rattle.pool_desk.proofs.desk.Desk.handle_chain.Goals as goal
 
 pub loop-buf-init : goal.loop-buf-init
 loop-buf-init c = Handled-none _ _ _ (omega arith) (omega arith) c.requires
