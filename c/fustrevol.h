@@ -209,8 +209,8 @@ void fv_burst_init(fv_burst *burst) FV_NOEXCEPT;
 /* Opens a pool over the `len` bytes at `region`. It has `allocators` allocators, 1 to 64, none of them
  * attached.
  *
- * `limit`: how many bytes an allocator caches for others before it posts them, at most 1,048,576. 65,536 is
- * a good one.
+ * `limit`: how many bytes an allocator caches for others before it posts them, at most 1,048,576. A good one
+ * is the allocator's part of a quarter of the region, and no more than 262,144.
  *
  * `bits`: how an allocator's number is read on a buffer's way home, in digits of 1 to 6 bits. With 6, every
  * buffer goes home directly. With fewer, allocators pass batches on for others, so that each sends fewer
