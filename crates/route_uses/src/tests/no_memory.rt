@@ -5,7 +5,7 @@ use crate::tests::rounds::{Want, check_all, check_left, put_third_back, set_firs
 use crate::tests::samples::{filled_in, next_of_1, put_each, same, take, turned};
 use digit_route::{Batch, Cache, RouteError};
 use memory_marks::{Mark, set};
-use slot_chain::{BufParcel, NoMemory, Portion};
+use slot_chain::{Buf, BufParcel, Magazine, NoMemory, Portion};
 use std::alloc::Global;
 use std::process::Abort;
 
@@ -107,6 +107,14 @@ fn put_parcel<'r>(rt: &impl Abort, cache: &mut Cache<'r>, parcel: BufParcel<'r>)
     same(rt, "the buffers", cache.len(), 40);
 }
 
+// The array that came last, where no buffer that came behind it is linked.
+fn array_in<'r>(magazine: &mut Magazine<'r>) -> Option<Vec<Buf<'r>>> {
+    match magazine.pop_portion()? {
+        Portion::Array(array) => Some(array),
+        Portion::Linked(_) => None,
+    }
+}
+
 // A parcel that finds no room is linked. Behind `make_room` the next one is kept as it is.
 fn parcel(rt: &impl Abort, alloc: Global) -> Result<(), NoMemory> {
     let mut region = Vec::from_elem(alloc, 0u8, 4096)?;
@@ -122,10 +130,8 @@ fn parcel(rt: &impl Abort, alloc: Global) -> Result<(), NoMemory> {
     put_parcel(rt, &mut cache, second);
     set(alloc, Mark::MayTake);
     let mut magazine = next_of_1(rt, &mut cache, 40).into_magazine();
-    match magazine.pop_portion() {
-        Some(Portion::Array(array)) => same(rt, "the array's buffers", array.len() as u64, 40),
-        _ => assert!(rt; false, "the parcel's array"),
-    }
+    let array = array_in(&mut magazine).expect(rt, "the parcel's array");
+    same(rt, "the array's buffers", array.len() as u64, 40);
     Ok(())
 }
 
