@@ -5,6 +5,7 @@ use Rattle.std.proofs.Crossing.{crosses}
 use Rattle.slot_chain.proofs.below.Below.TheLaws.TheKnot.{send-Below, send-Node}
 use Rattle.slot_chain.proofs.lease.Lease.TheSendSync.{the_send as lease_send}
 use Rattle.slot_chain.proofs.link.Link.TheSendSync.{the_send as link_send}
+use Rattle.slot_chain.specs.contracts.arrays.Arrays as Arrays
 use Rattle.slot_chain.specs.contracts.chain.Chain as Chain
 use Rattle.slot_chain.specs.contracts.magazine.Magazine as Magazine
 use Rattle.slot_chain.specs.contracts.buf.Buf as Buf
@@ -17,6 +18,9 @@ chain_send a = search (sendable, crosses, send-Node, send-Below, link_send, leas
 
 pub buf_send : (a : NamedLft) → IsSend (Buf.the_row a)
 buf_send a = search (sendable, crosses, send-Node, send-Below, link_send, lease_send) depth 40 fits 6000
+
+pub arrays_send : (a : NamedLft) → IsSend (Arrays.the_row a)
+arrays_send a = search (sendable, crosses, buf_send) depth 40 fits 6000
 
 pub magazine_send : (a : NamedLft) → IsSend (Magazine.the_row a)
 magazine_send a = search (sendable, crosses, chain_send, buf_send) depth 40 fits 6000

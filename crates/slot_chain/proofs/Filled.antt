@@ -1,6 +1,6 @@
 -- Arrays of buffers, none of them empty.
 use Rattle.std.proofs.Common.{◌≡◌, ◌≢◌, ◌∙◌, List, [], ◌∷◌, ◌++◌, length, Option, Some, None, refl, sym, ap, append-nil, append_assoc, arith, IsPermutation}
-use Rattle.std.specs.Prelude.{Vec, Contains, MatchOption}
+use Rattle.std.specs.Prelude.{ℕ, ◌≤◌, Vec, Contains, MatchOption, vec_capacity}
 use Rattle.std.specs.declared.alloc.Global.{Global}
 use Rattle.std.proofs.lemmas.Grind.{flat_map-append}
 use Rattle.std.proofs.lemmas.List.Elements.{All-weaker, All-contains, All-contains_itself, Contains-append_left, Contains-push}
@@ -37,6 +37,14 @@ last_filled xs ys a e h =
 pub taken_last : (old new : List (Vec Buffer Global)) (o : Option (Vec Buffer Global)) → MatchOption o ((old ≡ []) × (new ≡ [])) (λ a. old ≡ new ++ a ∷ []) → AreFilled old → MatchOption o ((named_in_all old ≡ []) × (named_in_all new ≡ [])) (λ a. (named_in_all old ≡ named_in_all new ++ a.items) × (a.items ≢ []))
 taken_last old new None h f = (ap named_in_all h.0, ap named_in_all h.1)
 taken_last old new (Some a) h f = (last_named old new a h, last_filled old new a h f)
+
+-- the last array is taken out, where it fits
+pub taken_fitting : (old new : List (Vec Buffer Global)) (o : Option (Vec Buffer Global)) (most places : ℕ)
+    → MatchOption o (new ≡ old) (λ a. (old ≡ new ++ a ∷ []) × (length a.items ≤ most) × (vec_capacity a ≡ places)) → AreFilled old
+    → MatchOption o (named_in_all new ≡ named_in_all old)
+    (λ a. (named_in_all old ≡ named_in_all new ++ a.items) × (a.items ≢ []) × (length a.items ≤ most) × (vec_capacity a ≡ places))
+taken_fitting old new None most places h f = ap named_in_all h
+taken_fitting old new (Some a) most places h f = (last_named old new a h.0, last_filled old new a h.0 f, h.1, h.2)
 
 -- the last buffer of the last array
 pub walked : (whole rest : List (Vec Buffer Global)) (a : Vec Buffer Global) (named : List Buffer) (b : Buffer) → whole ≡ rest ++ a ∷ [] → a.items ≡ named ++ b ∷ [] → named_in_all whole ≡ (named_in_all rest ++ named) ++ b ∷ []

@@ -1,5 +1,5 @@
 -- What a buffer is filled with.
-use Rattle.std.specs.Prelude.{◌≡◌, ℕ, ◌+◌, ◌≤◌, List, ◌++◌, length, take, drop}
+use Rattle.std.specs.Prelude.{◌≡◌, ℕ, ◌+◌, List, ◌++◌, length, take, drop}
 use Rattle.slot_chain.specs.Buffer.{Buffer}
 
 -- the bytes that are filled

@@ -16,6 +16,11 @@ abbrev pub items_of : Portion → List Buffer
 items_of (Linked chain) = chain
 items_of (Array array) = array.items
 
+-- the array of a portion, where it has one
+abbrev pub array_of : Portion → Option (Vec Buffer Global)
+array_of (Linked chain) = None
+array_of (Array array) = Some array
+
 -- there is an array, and a place in it
 abbrev pub HasPlace : Option (Vec Buffer Global) → Type 0
 HasPlace None = ⊥

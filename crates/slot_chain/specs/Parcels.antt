@@ -12,6 +12,10 @@ pub record ParcelState : Type 0 where
 abbrev pub IsPacked : ℕ → Buffer → Type 0
 IsPacked owner b = (b.owner ≡ owner) × (b.forwards ≡ 0)
 
+-- the same, and of this class
+abbrev pub IsPackedOf : ℕ → ℕ → Buffer → Type 0
+IsPackedOf owner class b = IsPacked owner b × (b.class ≡ class)
+
 -- the buffer as it lies in a parcel: it was not passed on, and all else is the same
 abbrev pub unforwarded : Buffer → Buffer
 unforwarded b = record b { forwards = 0 }

@@ -1,17 +1,23 @@
 //! Arrays of buffers that are kept as they came.
-ghost use Rattle.std.specs.Prelude.{◌≡◌, ◌≢◌, ◌↔◌, [], ◌∷◌, ◌++◌, length, IsTrue, MatchOption};
+ghost use Rattle.std.specs.Prelude.{◌≡◌, ◌≢◌, ◌≤◌, ◌↔◌, [], ◌∷◌, ◌++◌, length, map, IsTrue, MatchOption, vec_capacity};
+ghost use Rattle.slot_chain.specs.Buffer.{ended_of};
 ghost use Rattle.slot_chain.specs.Counts.{capped};
 ghost use Rattle.slot_chain.specs.Magazines.{AreFilled, arrays_in, named_in_all};
 
 use crate::buf::Buf;
+use crate::parcel::end_each;
+use region_cut::endings::Endings;
 use std::alloc::Global;
+use std::fmt;
 use std::marker::Model;
 
-/// Arrays of buffers that came as a whole and are kept so, none of them empty. In contracts they are
-/// one list.
+/// Arrays of buffers that came as a whole and are kept so, none of them empty: a depot of magazines, as
+/// Bonwick and Adams have it (USENIX 2001). In contracts they are one list.
 ///
 /// They lie in a box, so that a list takes two words for them, where it has any and where it has none.
-pub(crate) struct Arrays<'r> {
+/// Only [`Arrays::make_room`] takes memory. They may be dropped, with all their buffers.
+#[must_use]
+pub struct Arrays<'r> {
     arrays: Option<Box<Vec<Vec<Buf<'r>>>>>,
 }
 
@@ -37,14 +43,14 @@ impl Drop for Arrays<'_> {
 
 impl<'r> Arrays<'r> {
     /// None, and room for none.
-    pub(crate) fn new() -> Arrays<'r>
+    pub fn new() -> Arrays<'r>
         ensures { result ≡ [] }
     {
         Arrays { arrays: None }
     }
 
-    /// For how many there is room.
-    pub(crate) fn places(&self) -> usize {
+    /// For how many there is room, those that are there counted too.
+    pub fn places(&self) -> usize {
         match &self.arrays {
             None => 0,
             Some(arrays) => arrays.capacity(),
@@ -53,7 +59,7 @@ impl<'r> Arrays<'r> {
 
     /// Makes room for so many, where there is none of them. Says whether there was memory for it: where
     /// it is refused, all stays as it is.
-    pub(crate) fn make_room(&mut self, alloc: Global, places: usize) -> bool
+    pub fn make_room(&mut self, alloc: Global, places: usize) -> bool
         requires { self.old ≡ [] }
         ensures { self.new ≡ [] }
     {
@@ -69,8 +75,14 @@ impl<'r> Arrays<'r> {
         }
     }
 
-    /// Puts an array to the end, where there is a place for it; else hands it back.
-    pub(crate) fn put(&mut self, array: Vec<Buf<'r>>) -> Option<Vec<Buf<'r>>>
+    /// Whether there is a place for one more.
+    pub fn has_room(&self) -> bool {
+        self.as_slice().len() < self.places()
+    }
+
+    /// Puts an array to the end, where there is a place for it; else hands it back. None of its buffers is
+    /// looked at.
+    pub fn put(&mut self, array: Vec<Buf<'r>>) -> Option<Vec<Buf<'r>>>
         requires { array.items ≢ [] }
         ensures { MatchOption result (self.new ≡ self.old ++ array.entry.items)
             (λ a. (a ≡ array.entry) × (self.new ≡ self.old)) }
@@ -78,24 +90,43 @@ impl<'r> Arrays<'r> {
         offer(&mut self.arrays, array)
     }
 
-    /// Takes out the array that came last.
-    pub(crate) fn take(&mut self) -> Option<Vec<Buf<'r>>>
+    /// Takes out the array that came last. None of its buffers is looked at.
+    pub fn take(&mut self) -> Option<Vec<Buf<'r>>>
         ensures { MatchOption result ((self.old ≡ []) × (self.new ≡ []))
             (λ a. (self.old ≡ self.new ++ a.items) × (a.items ≢ [])) }
     {
         take_last(&mut self.arrays)
     }
 
+    /// Takes out the array that came last, where it has so many places and names at most `most` buffers.
+    pub fn take_fitting(&mut self, most: usize, places: usize) -> Option<Vec<Buf<'r>>>
+        ensures { MatchOption result (self.new ≡ self.old)
+            (λ a. (self.old ≡ self.new ++ a.items) × (a.items ≢ []) × (length a.items ≤ most)
+            × (vec_capacity a ≡ places)) }
+    {
+        take_last_fitting(&mut self.arrays, most, places)
+    }
+
+    /// Lets go all buffers: it is then known what each ends as. Takes a walk over them.
+    pub fn end(self, endings: &mut Endings<'r>)
+        ensures { endings.new ≡ record endings.old { known = map ended_of self.entry ++ endings.old.known } }
+    {
+        let mut arrays = self;
+        while let Some(array) = arrays.take() {
+            end_each(array, endings);
+        }
+    }
+
     /// Whether there is none.
     #[tactic(auto, using(crate::proofs::Filled::names_none, crate::proofs::Filled::none_named))]
-    pub(crate) fn is_empty(&self) -> bool
+    pub fn is_empty(&self) -> bool
         ensures { IsTrue result ↔ (self.now ≡ []) }
     {
         self.as_slice().is_empty()
     }
 
     /// How many buffers they name, or the greatest `u64` where that is less.
-    pub(crate) fn len(&self) -> u64
+    pub fn len(&self) -> u64
         ensures { result ≡ capped (length self.now) }
     {
         let mut total = 0u64;
@@ -146,5 +177,35 @@ fn take_last<'r>(arrays: &mut Option<Box<Vec<Vec<Buf<'r>>>>>) -> Option<Vec<Buf<
     match arrays {
         None => None,
         Some(arrays) => arrays.pop(),
+    }
+}
+
+// Takes out the array that came last, where it has so many places and names at most `most` buffers.
+fn take_last_fitting<'r>(
+    arrays: &mut Option<Box<Vec<Vec<Buf<'r>>>>>,
+    most: usize,
+    places: usize,
+) -> Option<Vec<Buf<'r>>>
+    ensures { MatchOption result (arrays_in arrays.new ≡ arrays_in arrays.old)
+        (λ a. (arrays_in arrays.old ≡ arrays_in arrays.new ++ a ∷ []) × (length a.items ≤ most)
+        × (vec_capacity a ≡ places)) }
+{
+    match arrays {
+        None => None,
+        Some(arrays) => {
+            let array = arrays.pop()?;
+            if array.len() <= most && array.capacity() == places {
+                return Some(array);
+            }
+            arrays.push_reserved(array);
+            None
+        }
+    }
+}
+
+// The buffers are counted, and not printed.
+impl fmt::Debug for Arrays<'_> {
+    fn fmt<W: fmt::Write>(&self, f: &mut fmt::Formatter<W>) -> fmt::Result {
+        write!(f, "Arrays({} buffers)", self.len())
     }
 }

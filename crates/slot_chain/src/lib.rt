@@ -27,6 +27,7 @@ mod portion;
 mod room;
 mod walk;
 
+pub use arrays::Arrays;
 pub use buf::Buf;
 pub use chain::Chain;
 pub use error::{Full, NoMemory};

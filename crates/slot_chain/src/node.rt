@@ -12,8 +12,8 @@ use std::alloc::Global;
 // nothing is below.
 #[cycle(chain)]
 pub(crate) struct Node<'r> {
-    // How many bytes its user has filled, and how often the buffer was passed on. Both are 0 where a buffer
-    // is at home. They lie in one word, so that one look finds both to be 0.
+    // How many bytes its user has filled, and how often the buffer was passed on. They lie in one word, so
+    // that one look finds both to be 0, as they are where a buffer comes back to who lent it.
     pub(crate) filled: u32,
     pub(crate) forwards: u32,
     pub(crate) slot: Slot,

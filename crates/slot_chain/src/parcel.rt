@@ -6,7 +6,7 @@ ghost use Rattle.region_cut.specs.Classes.{size_of};
 ghost use Rattle.slot_chain.specs.Buffer.{ended_of};
 ghost use Rattle.slot_chain.specs.Counts.{capped, sizes};
 ghost use Rattle.slot_chain.specs.Filling.{holding};
-ghost use Rattle.slot_chain.specs.Parcels.{EditsAt, IsPacked, KeepsOut, Packs};
+ghost use Rattle.slot_chain.specs.Parcels.{EditsAt, IsPacked, IsPackedOf, KeepsOut, Packs};
 ghost use Rattle.std.specs.Fn.{FnOnceReturnsAtMut};
 
 use crate::buf::Buf;
@@ -14,8 +14,8 @@ use crate::error::NoMemory;
 use region_cut::Class;
 use region_cut::endings::Endings;
 use std::alloc::Global;
-use std::fmt;
 use std::marker::Model;
+use std::{fmt, mem};
 
 /// Buffers of one allocator, which go from thread to thread and are freed as a whole.
 ///
@@ -185,14 +185,24 @@ impl<'r> BufParcel<'r> {
         self.buffers[at].set_len(len);
     }
 
+    /// Takes an array in place of its own, where it has no buffer, and hands its own back. The array has as
+    /// many places, and its buffers are all of one class. None of them is looked at. Takes constant time.
+    pub fn exchange(&mut self, class: Class, array: Vec<Buf<'r>>) -> Vec<Buf<'r>>
+        requires none { self.old.items ≡ [] }
+        requires places { vec_capacity array ≡ self.old.places }
+        requires packed { All (IsPackedOf self.old.owner class) array.items }
+        ensures value { self.new ≡ record self.old { items = array.entry.items } }
+        ensures none { result.items ≡ [] }
+    {
+        self.bytes = (array.len() as u64).saturating_mul(class.size() as u64);
+        mem::replace(&mut self.buffers, array)
+    }
+
     /// Lets all buffers go: it is then known what each ends as. Takes a walk over them.
     pub fn end(self, endings: &mut Endings<'r>)
         ensures { endings.new ≡ record endings.old { known = map ended_of self.entry.items ++ endings.old.known } }
     {
-        let mut buffers = self.into_buffers();
-        while let Some(buf) = buffers.pop() {
-            endings.close(buf.into_front());
-        }
+        end_each(self.into_buffers(), endings);
     }
 
     /// All of its buffers, in the order in which they came.
@@ -206,6 +216,16 @@ impl<'r> BufParcel<'r> {
             buffers,
         } = self;
         buffers
+    }
+}
+
+/// Lets go the buffers that an array names: it is then known what each ends as.
+pub(crate) fn end_each<'r>(buffers: Vec<Buf<'r>>, endings: &mut Endings<'r>)
+    ensures { endings.new ≡ record endings.old { known = map ended_of buffers.entry.items ++ endings.old.known } }
+{
+    let mut buffers = buffers;
+    while let Some(buf) = buffers.pop() {
+        endings.close(buf.into_front());
     }
 }
 

@@ -1,6 +1,10 @@
 //! What comes out of a magazine at once.
+ghost use Rattle.std.specs.Prelude.{◌≡◌};
+ghost use Rattle.slot_chain.specs.Magazines.{array_of};
+
 use crate::buf::Buf;
 use crate::chain::Chain;
+use std::fmt;
 
 /// Buffers of a [`Magazine`](crate::Magazine), one behind the other, as they lie in it.
 #[derive(Drop)]
@@ -9,4 +13,26 @@ pub enum Portion<'r> {
     Linked(Chain<'r>),
     /// Those that an array names.
     Array(Vec<Buf<'r>>),
+}
+
+impl<'r> Portion<'r> {
+    /// The array, or `None` where the buffers are linked: they are let go then.
+    pub fn into_array(self) -> Option<Vec<Buf<'r>>>
+        ensures { result ≡ array_of self.entry }
+    {
+        match self {
+            Portion::Linked(_) => None,
+            Portion::Array(array) => Some(array),
+        }
+    }
+}
+
+// The buffers are not printed.
+impl fmt::Debug for Portion<'_> {
+    fn fmt<W: fmt::Write>(&self, f: &mut fmt::Formatter<W>) -> fmt::Result {
+        match self {
+            Portion::Linked(chain) => write!(f, "Linked({} buffers)", chain.len()),
+            Portion::Array(array) => write!(f, "Array({} buffers)", array.len()),
+        }
+    }
 }

@@ -4,7 +4,7 @@ use crate::tests::{filled, same};
 use chain_uses::mark;
 use region_cut::endings::Endings;
 use region_cut::{CHUNK, Slot, class_for};
-use slot_chain::{Buf, Chain, Magazine, NoMemory, Portion};
+use slot_chain::{Arrays, Buf, Chain, Magazine, NoMemory, Portion};
 use std::alloc::Global;
 use std::process::Abort;
 
@@ -79,14 +79,6 @@ fn gives(rt: &impl Abort, list: &mut Magazine<'_>, first: u16, end: u16) {
     }
 }
 
-// The array that came last, where no buffer that came behind it is linked.
-fn array_in<'r>(list: &mut Magazine<'r>) -> Option<Vec<Buf<'r>>> {
-    match list.pop_portion()? {
-        Portion::Array(array) => Some(array),
-        Portion::Linked(_) => None,
-    }
-}
-
 // All buffers are linked, and their slots come from the one index up to below the other.
 fn gives_linked(rt: &impl Abort, list: &mut Magazine<'_>, first: u16, end: u16) {
     let Some(Portion::Linked(mut chain)) = list.pop_portion() else {
@@ -103,7 +95,10 @@ fn gives_linked(rt: &impl Abort, list: &mut Magazine<'_>, first: u16, end: u16) 
 // The array that came last is one that `array_of` made, of buffers with these indices. Where none comes, or one that
 // was made for buffers that come one by one, memory for room was refused.
 fn gives_array(rt: &impl Abort, list: &mut Magazine<'_>, want: &[u16]) -> Result<(), NoMemory> {
-    let array = array_in(list).ok_or(NoMemory)?;
+    let array = list
+        .pop_portion()
+        .and_then(Portion::into_array)
+        .ok_or(NoMemory)?;
     if array.capacity() < PLACES {
         return Err(NoMemory);
     }
@@ -272,7 +267,10 @@ fn append_many<'r>(
 // Seventeen arrays come out, and no more. Where none comes, memory for room was refused.
 fn gives_many(rt: &impl Abort, list: &mut Magazine<'_>) -> Result<(), NoMemory> {
     for _ in 0..17 {
-        let array = array_in(list).ok_or(NoMemory)?;
+        let array = list
+            .pop_portion()
+            .and_then(Portion::into_array)
+            .ok_or(NoMemory)?;
         same(rt, "the buffers of an array", array.len() as u64, 2);
     }
     gives_none(rt, list);
@@ -362,5 +360,58 @@ fn end_and_look(rt: &impl Abort, alloc: Global) -> Result<(), NoMemory> {
 fn a_list_is_ended_with_its_arrays(rt: HostRuntime) {
     if end_and_look(&rt, rt.alloc()).is_err() {
         assert!(rt; end_and_look(&rt, rt.alloc()).is_ok());
+    }
+}
+
+// Puts so many buffers of the chain as an array, or hands it back.
+fn put_whole<'r>(
+    rt: &impl Abort,
+    alloc: Global,
+    arrays: &mut Arrays<'r>,
+    chain: &mut Chain<'r>,
+    count: u32,
+) -> Result<Option<Vec<Buf<'r>>>, NoMemory> {
+    let array = array_of(alloc, chain, count)?;
+    assert!(rt; !array.is_empty());
+    Ok(arrays.put(array))
+}
+
+// Two arrays find a place where there is room for two, and a third comes back. The last comes out for so many places
+// and buffers alone.
+fn depot(rt: &impl Abort, alloc: Global) -> Result<(), NoMemory> {
+    let mut region = Vec::from_elem(alloc, 0u8, CHUNK)?;
+    let mut chain = chunk(rt, alloc, &mut region)?;
+    let mut arrays = Arrays::new();
+    let back = put_whole(rt, alloc, &mut arrays, &mut chain, 1)?;
+    same(
+        rt,
+        "the one without room",
+        back.ok_or(NoMemory)?.len() as u64,
+        1,
+    );
+    assert!(rt; arrays.is_empty());
+    if !arrays.make_room(alloc, 2) {
+        same(rt, "the room that was refused", arrays.places() as u64, 0);
+        return Err(NoMemory);
+    }
+    assert!(rt; put_whole(rt, alloc, &mut arrays, &mut chain, 3)?.is_none());
+    assert!(rt; put_whole(rt, alloc, &mut arrays, &mut chain, 2)?.is_none());
+    assert!(rt; !arrays.has_room() && arrays.len() == 5 && arrays.places() == 2);
+    assert!(rt; arrays.take_fitting(1, PLACES).is_none());
+    assert!(rt; arrays.take_fitting(2, PLACES + 1).is_none());
+    let last = arrays.take_fitting(2, PLACES).expect(rt, "the last one");
+    same(rt, "its buffers", last.len() as u64, 2);
+    let mut slots = Vec::new(alloc);
+    chain.list_slots_with(&arrays, &mut slots)?;
+    same(rt, "those left", slots.len() as u64, 253);
+    let mut endings = Endings::new();
+    arrays.end(&mut endings);
+    Ok(())
+}
+
+#[test]
+fn a_depot_has_so_many_places(rt: HostRuntime) {
+    if depot(&rt, rt.alloc()).is_err() {
+        assert!(rt; depot(&rt, rt.alloc()).is_ok());
     }
 }
