@@ -18,6 +18,7 @@ mod refusal;
 mod room;
 mod route;
 mod spares;
+mod whole;
 
 use digit_route::{Batch, Digits};
 use pool_desk::{Counts, Desk, DeskError, Freed, IdleDesk};
@@ -203,6 +204,9 @@ enum Play {
     BurstsLinked,
     KeepsArrays,
     PassesOver,
+    LendsAgain,
+    LendsAnothersAgain,
+    TakesApart,
 }
 
 // Each plays on desks, chunks and a list of buffers that `hold` has.
@@ -232,6 +236,9 @@ fn run<'r>(
         Play::BurstsLinked => bursts::bursts_linked(rt, alloc, desk, other, parts, lent),
         Play::KeepsArrays => spares::keeps_arrays(rt, alloc, desk, other, parts),
         Play::PassesOver => spares::passes_over(rt, alloc, desk, parts),
+        Play::LendsAgain => whole::lends_again(rt, alloc, desk, parts),
+        Play::LendsAnothersAgain => whole::lends_anothers_again(rt, alloc, desk, other, parts),
+        Play::TakesApart => whole::takes_apart(rt, alloc, desk, parts, lent),
     }
 }
 

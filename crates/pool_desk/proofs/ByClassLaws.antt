@@ -1,11 +1,12 @@
 -- The homes of all classes, joined.
 use Rattle.std.proofs.Common.{◌≡◌, ◌≢◌, ℕ, zero, suc, ◌<◌, List, [], ◌∷◌, ◌++◌, length, get_or, set, refl, sym, ap, ◌∙◌, subst, arith, append_assoc, append-nil, All, IsPermutation, ◌⊎◌, inl, inr, ⊎_elim}
-use Rattle.std.specs.Prelude.{Any, Result, Ok, Err, MatchResult}
+use Rattle.std.specs.Prelude.{Any, Contains, Option, Some, None, MatchOption, Result, Ok, Err, MatchResult, Vec, map}
+use Rattle.std.specs.declared.alloc.Global.{Global}
 use Rattle.std.specs.List.{flat_map}
 use Rattle.std.proofs.lemmas.List.{get_or-set_same, get_or-set_other, length-append, length-set, get_or_append_left}
 use Rattle.std.proofs.Math.Seq.{get_or-append_seam}
 use Rattle.std.proofs.lemmas.Grind.{flat_map-append}
-use Rattle.std.proofs.lemmas.List.Elements.{All-append, All-cons, All-nil, All-weaker}
+use Rattle.std.proofs.lemmas.List.Elements.{All-append, All-contains, All-contains_itself, All-nil, All-weaker, Contains-append_right}
 use Rattle.std.proofs.lemmas.List.Sorted.{IsPermutation-refl, IsPermutation-sym, IsPermutation-trans, IsPermutation-append_left, IsPermutation-append_right, IsPermutation-append_comm, Contains-permutation, All-permutation}
 use Rattle.region_cut.specs.Carved.{Carved}
 use Rattle.region_cut.specs.Classes.{class_count, slots_of}
@@ -13,9 +14,10 @@ use Rattle.region_cut.specs.declared.part.Part.{Part}
 use Rattle.slot_chain.specs.Buffer.{Buffer}
 use Rattle.pool_desk.specs.declared.error.DeskError.{DeskError}
 use Rattle.pool_desk.specs.declared.error.DeskError.TheVariants.{TooLarge, NeedChunk, NotNeeded, Unsettled, NoMemory}
-use Rattle.pool_desk.specs.Homes.{AtHome, HomeState, IsAtHome, LiesIn, IsOwn, GivesOne, Names, Draws, IsUncut, class_at, IsUnused, IsRefused, unused_from}
+use Rattle.pool_desk.specs.Homes.{AtHome, HomeState, IsAtHome, IsReady, LiesIn, IsOwn, GivesOne, Names, Draws, IsUncut, class_at, IsUnused, IsRefused, unused_from}
 use Rattle.pool_desk.specs.Homes.AtHome.{Kept, Fresh}
 use Rattle.pool_desk.specs.HomesState.{HomesState, slots_of_home, drawn_at, no_home, home_at, empties, IsHome, AreHomes, HasClass, LacksClass, IsWanting}
+use Rattle.pool_desk.specs.Spares.{IsFitting}
 use Rattle.pool_desk.proofs.HomeLaws.{unused_class}
 
 pub split_at : {A B C : Type 0} → A ⊎ B → (A → C) → (B → C) → C
@@ -269,21 +271,21 @@ pub own_kept : (owner k : ℕ) (hs : List HomeState) (b : Buffer) → AreHomes o
     → LiesIn (home_at hs k).owner (home_at hs k).class b
 own_kept owner k hs b are l o c f = (o ∙ sym (are.each k l).owner_is, c ∙ sym (are.each k l).class_is, f)
 
-pub keep_keeps : (owner k : ℕ) (hs hs' : List HomeState) (b : Buffer) → AreHomes owner hs → k < class_count → IsAtHome owner k (Kept b)
+pub keep_keeps : (owner k : ℕ) (hs hs' : List HomeState) (come : List AtHome) → AreHomes owner hs → k < class_count → All (IsAtHome owner k) come
     → hs' ≡ set hs k (with_slots (home_at hs k) (home_at hs' k).slots (home_at hs k).drawn)
-    → IsPermutation (Kept b ∷ (home_at hs k).slots) (home_at hs' k).slots → AreHomes owner hs'
-keep_keeps owner k hs hs' b are l own same p =
+    → IsPermutation (come ++ (home_at hs k).slots) (home_at hs' k).slots → AreHomes owner hs'
+keep_keeps owner k hs hs' come are l own same p =
     subst (AreHomes owner) (sym same)
     (are_with owner k hs (home_at hs' k).slots (home_at hs k).drawn are l
-    (All-permutation (IsAtHome owner k) (Kept b ∷ (home_at hs k).slots) (home_at hs' k).slots p (All-cons (IsAtHome owner k) (Kept b) (home_at hs k).slots own (are.each k l).each)))
+    (All-permutation (IsAtHome owner k) (come ++ (home_at hs k).slots) (home_at hs' k).slots p (All-append (IsAtHome owner k) come _ own (are.each k l).each)))
 
-pub keep_slots : (owner k : ℕ) (hs hs' : List HomeState) (b : Buffer) → AreHomes owner hs → k < class_count
+pub keep_slots : (owner k : ℕ) (hs hs' : List HomeState) (come : List AtHome) → AreHomes owner hs → k < class_count
     → hs' ≡ set hs k (with_slots (home_at hs k) (home_at hs' k).slots (home_at hs k).drawn)
-    → IsPermutation (Kept b ∷ (home_at hs k).slots) (home_at hs' k).slots
-    → IsPermutation (Kept b ∷ flat_map slots_of_home hs) (flat_map slots_of_home hs')
-keep_slots owner k hs hs' b are l same p =
-    subst (λ z. IsPermutation (Kept b ∷ flat_map slots_of_home hs) (flat_map slots_of_home z)) (sym same)
-    (coming slots_of_home hs k (with_slots (home_at hs k) (home_at hs' k).slots (home_at hs k).drawn) (Kept b ∷ []) (rw are.count l) p)
+    → IsPermutation (come ++ (home_at hs k).slots) (home_at hs' k).slots
+    → IsPermutation (come ++ flat_map slots_of_home hs) (flat_map slots_of_home hs')
+keep_slots owner k hs hs' come are l same p =
+    subst (λ z. IsPermutation (come ++ flat_map slots_of_home hs) (flat_map slots_of_home z)) (sym same)
+    (coming slots_of_home hs k (with_slots (home_at hs k) (home_at hs' k).slots (home_at hs k).drawn) come (rw are.count l) p)
 
 pub keep_shown : (owner k : ℕ) (hs hs' : List HomeState)
     → hs' ≡ set hs k (with_slots (home_at hs k) (home_at hs' k).slots (home_at hs k).drawn)
@@ -291,6 +293,39 @@ pub keep_shown : (owner k : ℕ) (hs hs' : List HomeState)
 keep_shown owner k hs hs' same =
     let drawn : flat_map drawn_at hs' ≡ flat_map drawn_at hs = ap (flat_map drawn_at) same ∙ staying drawn_at hs k _ refl in
     ap (λ (d : List Carved). record { owner = owner; slots = flat_map slots_of_home hs'; drawn = d }) drawn
+
+-- what the home k gives of its arrays
+abbrev pub TakesAt : (most places k : ℕ) → List HomeState → Option (Vec Buffer Global) → List HomeState → Type 0
+TakesAt most places k hs o hs' = let h = home_at hs k in let h' = home_at hs' k in
+    MatchOption o (hs' ≡ hs) (λ a. IsFitting most places a × All (IsReady h.owner h.class) a.items
+    × IsPermutation h.slots (map {A = Buffer} {B = AtHome} (λ x. Kept x) a.items ++ h'.slots))
+
+All-behind : {X : Type 0} (P : X → Type 0) (xs ys : List X) → All P (xs ++ ys) → All P ys
+All-behind P xs ys h =
+    All-weaker (Contains ys) P (λ x c. All-contains P (xs ++ ys) x h (Contains-append_right xs ys x c)) ys (All-contains_itself ys)
+
+pub take_keeps : (owner most places k : ℕ) (hs hs' : List HomeState) (o : Option (Vec Buffer Global)) → AreHomes owner hs → k < class_count
+    → hs' ≡ set hs k (with_slots (home_at hs k) (home_at hs' k).slots (home_at hs k).drawn) → TakesAt most places k hs o hs' → AreHomes owner hs'
+take_keeps owner most places k hs hs' None are l same t = subst (AreHomes owner) (sym t) are
+take_keeps owner most places k hs hs' (Some a) are l same t =
+    subst (AreHomes owner) (sym same)
+    (are_with owner k hs (home_at hs' k).slots (home_at hs k).drawn are l
+    (All-behind (IsAtHome owner k) (map {A = Buffer} {B = AtHome} (λ x. Kept x) a.items) (home_at hs' k).slots
+    (All-permutation (IsAtHome owner k) (home_at hs k).slots _ t.2 (are.each k l).each)))
+
+pub take_shown : (owner most places k : ℕ) (hs hs' : List HomeState) (o : Option (Vec Buffer Global)) → AreHomes owner hs → k < class_count
+    → hs' ≡ set hs k (with_slots (home_at hs k) (home_at hs' k).slots (home_at hs k).drawn) → TakesAt most places k hs o hs'
+    → MatchOption o (shown owner hs' ≡ shown owner hs) (λ a. IsFitting most places a × All (IsReady owner k) a.items
+    × IsPermutation (flat_map slots_of_home hs) (map {A = Buffer} {B = AtHome} (λ x. Kept x) a.items ++ flat_map slots_of_home hs'))
+take_shown owner most places k hs hs' None are l same t = ap (shown owner) t
+take_shown owner most places k hs hs' (Some a) are l same t =
+    let gone : List AtHome = map {A = Buffer} {B = AtHome} (λ x. Kept x) a.items in
+    let each : All (IsReady owner k) a.items = rw ((are.each k l).owner_is, (are.each k l).class_is) at t.1 in (
+      t.0,
+      each,
+      subst (λ z. IsPermutation (flat_map slots_of_home hs) (gone ++ flat_map slots_of_home z)) (sym same)
+          (leaving slots_of_home hs k (with_slots (home_at hs k) (home_at hs' k).slots (home_at hs k).drawn) gone (rw are.count l) t.2),
+    )
 
 -- the homes of a new desk
 empties_at : (owner n k : ℕ) → k < n → home_at (empties owner n) k ≡ record { owner = owner; class = k; slots = []; drawn = [] }

@@ -6,6 +6,7 @@ use Rattle.slot_chain.specs.Counts.{sizes}
 use Rattle.digit_route.specs.States.{CacheState}
 use Rattle.pool_desk.specs.declared.freed.Freed.TheVariants.{Cached, Due}
 use Rattle.pool_desk.specs.Desks.{DeskState}
+use Rattle.pool_desk.specs.HomesState.{HomesState}
 use Rattle.slot_chain.specs.Parcels.{ParcelState}
 use Rattle.pool_desk.specs.Steps.{freed, passed_on, CachesAll, Frees, FreesAll}
 use Rattle.pool_desk.specs.Handling.{GoesOn}
@@ -13,6 +14,14 @@ use Rattle.pool_desk.specs.Handling.{GoesOn}
 -- the desk with another cache
 abbrev pub with_cache : DeskState → CacheState → DeskState
 with_cache d c = record { number = c.number; digits = c.digits; limit = c.limit; worker = d.worker; home = d.home; drawn = d.drawn; cached = c.items }
+
+-- the desk with other homes
+abbrev pub with_homes : DeskState → HomesState → DeskState
+with_homes d h = record d { home = h.slots; drawn = h.drawn }
+
+-- other slots are at home
+pub homes_same : (d : DeskState) (owner : ℕ) (n : HomesState) → n ≡ record { owner = owner; slots = n.slots; drawn = d.drawn } → with_homes d n ≡ record d { home = n.slots }
+homes_same d owner n same = ap (with_homes d) same
 
 -- the cache of a desk
 abbrev pub cache_of : DeskState → CacheState

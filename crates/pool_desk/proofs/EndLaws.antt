@@ -48,6 +48,13 @@ home_ends bs m ties old s t e f =
     ∙ (ap (λ zs. record { known = map ended_of zs ++ old.known; chunks = open_chunk m ++ (ties ++ old.chunks) }) (sym (kept_slots bs m))
     ∙ ap (λ cs. record { known = map ended_of (kept_in (map {A = Buffer} {B = AtHome} (λ x. Kept x) bs ++ unused m)) ++ old.known; chunks = cs }) (sym (append_assoc (open_chunk m) ties old.chunks)))
 
+-- one list, and then another
+pub both_end : (ws ls : List Buffer) (old s t : EndingsState) → s ≡ record old { known = map ended_of ls ++ old.known }
+    → t ≡ record s { known = map ended_of ws ++ s.known } → t ≡ record old { known = map ended_of (ws ++ ls) ++ old.known }
+both_end ws ls old s t e f =
+    f ∙ (ap (λ (z : EndingsState). record z { known = map ended_of ws ++ z.known }) e
+    ∙ ap (λ zs. record old { known = zs }) (sym (ap (λ zs. zs ++ old.known) (map-append ended_of ws ls) ∙ append_assoc (map ended_of ws) (map ended_of ls) old.known)))
+
 abbrev pub all_let_go : List HomeState → EndingsState → EndingsState
 all_let_go hs s = let_go (flat_map slots_of_home hs) (flat_map drawn_at hs) s
 

@@ -1,5 +1,5 @@
 -- The steps of handling a batch.
-use Rattle.std.proofs.Common.{◌≡◌, ℕ, ◌+◌, ◌-◌, ◌^◌, true, false, eqb, List, [], ◌∷◌, ◌++◌, refl, sym, ap, subst, ◌∙◌, arith, append_assoc, append-nil, All, IsPermutation}
+use Rattle.std.proofs.Common.{◌≡◌, ℕ, suc, ◌+◌, ◌-◌, ◌^◌, true, false, eqb, List, [], ◌∷◌, ◌++◌, refl, sym, ap, subst, ◌∙◌, arith, append_assoc, append-nil, All, IsPermutation, map}
 use Rattle.std.specs.Prelude.{Bool, Contains, MatchBool, ◌<◌, ◌≤◌, length}
 use Rattle.std.proofs.lemmas.Bool.{eq-eqb, ne_eqb}
 use Rattle.std.proofs.lemmas.List.{length-append, map-append}
@@ -158,10 +158,6 @@ HandledOf-on old mid new array left rest b on h is g =
       passed = All-append_left (IsPassed old.digits old.number) rest (b ∷ []) (rw is at h.passed);
     }
 
--- another may be passed on, and its number is no greater than that of the array
-pub one_more_on : (old mid : DeskState) (array left rest : List Buffer) (b : Buffer) (on : ℕ) → HandledOf old array left mid on → left ≡ rest ++ b ∷ [] → on + 1 ≤ length array
-one_more_on old mid array left rest b on h is = let len = length-append rest (b ∷ []) in let most = rw is at h.most in omega (arith, len, most)
-
 -- each buffer is a's own, or it isn't
 own_or_not_one : (a : ℕ) (b : Buffer) (bs : List Buffer) (r : Bool) → eqb b.owner a ≡ r → length (own a bs) + length (others a bs) ≡ length bs
     → length (own a (b ∷ bs)) + length (others a (b ∷ bs)) ≡ length (b ∷ bs)
@@ -184,6 +180,28 @@ Adds-array old new array left on c e g none home passed =
     let all = own_or_not old.number h.done in
     let most = h.on_is in
     rw h.parts (h.handled, record { home = rw h.parts at home ∙ ap (λ n. capped (c.home + n)) (omega (arith, all, most)); on = passed ∙ ap (λ n. capped (c.on + n)) h.on_is })
+
+all_own : (a : ℕ) (bs : List Buffer) → All (λ (b : Buffer). b.owner ≡ a) bs → (own a bs ≡ bs) × (others a bs ≡ [])
+all_own a [] h = (refl, refl)
+all_own a (b ∷ bs) h =
+    let test : eqb b.owner a ≡ true = eq-eqb _ _ (h 0 b (omega arith)) in
+    let rest = all_own a bs (λ k d l. h (suc k) d (omega (arith, l))) in
+    (rw test (ap (λ xs. b ∷ xs) rest.0), rw test rest.1)
+
+-- own buffers alone come home
+pub Handles-all_own : (old new : DeskState) (bs : List Buffer) → All (λ (b : Buffer). b.owner ≡ old.number) bs → new ≡ record old { home = new.home }
+    → IsPermutation (map comes_home bs ++ old.home) new.home → Handles old bs new
+Handles-all_own old new bs h same p =
+    let parts = all_own old.number bs h in
+    let cached : new.cached ≡ old.cached = ap (λ (d : DeskState). d.cached) same in
+    record {
+      same = same ∙ ap (λ c. record old { home = new.home; cached = c }) (sym cached);
+      home = rw parts.0 p;
+      cached = rw (parts.1, cached) (IsPermutation-refl old.cached);
+    }
+
+pub Adds-own : (a : ℕ) (bs : List Buffer) (c e : Counts) → All (λ (b : Buffer). b.owner ≡ a) bs → e.home ≡ capped (c.home + length bs) → e.on ≡ capped (c.on + 0) → Adds a bs c e
+Adds-own a bs c e h home on = let parts = all_own a bs h in record { home = rw parts.0 home; on = rw parts.1 on }
 
 -- what is left may still be handled by the desk as it is now
 pub still_passed : (old mid : DeskState) (batch rest : List Buffer) (c d : Counts) → Handled old c batch rest mid d → All (IsPassed mid.digits mid.number) rest

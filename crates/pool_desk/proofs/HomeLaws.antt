@@ -1,9 +1,10 @@
 -- Lemmas on homes.
 use Rattle.std.proofs.Common.{◌≡◌, ◌≢◌, ℕ, zero, suc, ◌+◌, ◌-◌, List, [], ◌∷◌, ◌++◌, length, refl, sym, ap, ◌∙◌, subst, arith, All, IsPermutation, append_assoc, map, take, drop, ltb, rules, tests}
 use Rattle.std.proofs.lemmas.List.{map-append}
-use Rattle.std.proofs.lemmas.List.Elements.{All-cons, All-nil, All-contains, All-contains_itself, All-weaker, Contains-append_left, Contains-push}
-use Rattle.std.specs.Prelude.{◌↔◌, IsTrue, Contains, Result, Ok, Err, MatchResult}
-use Rattle.std.proofs.lemmas.List.Sorted.{IsPermutation-refl, IsPermutation-sym, IsPermutation-trans, IsPermutation-append_left, IsPermutation-append_right, IsPermutation-append_comm}
+use Rattle.std.proofs.lemmas.List.Elements.{All-append, All-cons, All-nil, All-contains, All-contains_itself, All-weaker, Contains-append_left, Contains-append_right, Contains-push}
+use Rattle.std.specs.Prelude.{◌≤◌, ◌↔◌, IsTrue, Contains, Option, Some, None, MatchOption, Result, Ok, Err, MatchResult, Vec, vec_capacity}
+use Rattle.std.specs.declared.alloc.Global.{Global}
+use Rattle.std.proofs.lemmas.List.Sorted.{IsPermutation-refl, IsPermutation-sym, IsPermutation-trans, IsPermutation-append_left, IsPermutation-append_right, IsPermutation-append_comm, IsPermutation-cons, IsPermutation-map, All-permutation}
 use Rattle.std.specs.Borrow.{GName, MutBor}
 use Rattle.region_cut.specs.declared.slot.Slot.{Slot}
 use Rattle.std.proofs.Math.Nat.{zero-add}
@@ -13,11 +14,13 @@ use Rattle.region_cut.specs.declared.part.Bump.{Bump}
 use Rattle.region_cut.specs.Bumps.{left_of, part_of, HoldsPart, GivesNext}
 use Rattle.region_cut.specs.Classes.{slots_of, size_of}
 use Rattle.slot_chain.specs.Buffer.{Buffer}
+use Rattle.slot_chain.specs.Filling.{emptied}
 use Rattle.pool_desk.specs.declared.error.DeskError.{DeskError}
 use Rattle.pool_desk.specs.NextSlots.{GivesNextSlot}
-use Rattle.pool_desk.specs.Homes.{HomeState, IsRefused, AtHome, IsAtHome, LiesIn, comes_home, unused_from, unused_of, IsUnused, GivesOne, Draws, taken_next}
+use Rattle.pool_desk.specs.Homes.{HomeState, IsRefused, AtHome, IsAlike, IsAtHome, IsReady, LiesIn, comes_home, unused_from, unused_of, IsUnused, GivesOne, Draws, taken_next}
 use Rattle.region_cut.specs.Carved.{Carved, carved_of}
 use Rattle.pool_desk.specs.Homes.AtHome.{Kept, Fresh}
+use Rattle.pool_desk.specs.Spares.{IsFitting}
 
 pub unused_length : (chunk class : ℕ) (part : GName) (n i : ℕ) (bs : List ℕ) → length (unused_from chunk class part n i bs) ≡ n
 unused_length chunk class part zero i bs = refl
@@ -80,6 +83,14 @@ pub none_kept : (bs : List Buffer) (us : List AtHome) → map {A = Buffer} {B = 
 none_kept [] us e = refl
 none_kept (b ∷ bs) us e = absurd (cc)
 
+pub front_none : (xs ys : List Buffer) → xs ++ ys ≡ [] → xs ≡ []
+front_none [] ys e = refl
+front_none (x ∷ xs) ys e = absurd (cc)
+
+pub behind_none : (xs ys : List Buffer) → xs ++ ys ≡ [] → ys ≡ []
+behind_none [] ys e = e
+behind_none (x ∷ xs) ys e = absurd (cc)
+
 pub kept_push : (bs : List Buffer) (b : Buffer) (us : List AtHome)
     → IsPermutation (Kept b ∷ (map {A = Buffer} {B = AtHome} (λ x. Kept x) bs ++ us)) (map {A = Buffer} {B = AtHome} (λ x. Kept x) (bs ++ b ∷ []) ++ us)
 kept_push [] b us = IsPermutation-refl _
@@ -102,20 +113,137 @@ kept_pop bs b us = IsPermutation-sym _ _ (kept_push bs b us)
 pub All-end : {X : Type 0} (P : X → Type 0) (xs : List X) (x : X) → All P (xs ++ x ∷ []) → P x
 All-end P xs x h = All-contains P (xs ++ x ∷ []) x h (Contains-push xs x)
 
+-- buffers in another order, and then other slots
+pub kept_moved : (xs old new : List Buffer) (us : List AtHome) → IsPermutation (xs ++ old) new
+    → IsPermutation (map {A = Buffer} {B = AtHome} (λ x. Kept x) xs ++ (map {A = Buffer} {B = AtHome} (λ x. Kept x) old ++ us)) (map {A = Buffer} {B = AtHome} (λ x. Kept x) new ++ us)
+kept_moved xs old new us p =
+    let f : Buffer → AtHome = λ x. Kept x in
+    subst (λ l. IsPermutation l (map f new ++ us)) (ap (λ l. l ++ us) (map-append f xs old) ∙ append_assoc (map f xs) (map f old) us)
+    (IsPermutation-append_left us (map f (xs ++ old)) (map f new) (IsPermutation-map f (xs ++ old) new p))
+
+-- what comes to the end of the first of two lists comes to both
+pub first_more : (ws xs ls : List Buffer) → IsPermutation (xs ++ (ws ++ ls)) ((ws ++ xs) ++ ls)
+first_more ws xs ls =
+    subst (λ l. IsPermutation l ((ws ++ xs) ++ ls)) (append_assoc xs ws ls) (IsPermutation-append_left ls (xs ++ ws) (ws ++ xs) (IsPermutation-append_comm xs ws))
+
+-- what comes to the second of two lists comes to both
+pub second_more : (ws xs ls ls' : List Buffer) → IsPermutation (ls ++ xs) ls' → IsPermutation (xs ++ (ws ++ ls)) (ws ++ ls')
+second_more ws xs ls ls' p =
+    IsPermutation-trans _ _ _ (IsPermutation-append_comm xs (ws ++ ls))
+    (rw append_assoc (IsPermutation-append_right ws (ls ++ xs) ls' p))
+
 -- a buffer that came home is given out
-pub gives_kept : (owner class : ℕ) (list rest : List Buffer) (b : Buffer) (us : List AtHome) (drawn : List Carved)
+pub gives_one : (owner class : ℕ) (old new : List Buffer) (b : Buffer) (us : List AtHome) (drawn : List Carved)
+    → LiesIn owner class b → IsPermutation (b ∷ new) old
+    → GivesOne owner class (map {A = Buffer} {B = AtHome} (λ x. Kept x) old ++ us) b (map {A = Buffer} {B = AtHome} (λ x. Kept x) new ++ us) drawn drawn
+gives_one owner class old new b us drawn one p = record {
+  owner_is = one.0;
+  class_is = one.1;
+  from = Kept b;
+  gives = ap (λ n. record b { filled = n }) one.2;
+  others = IsPermutation-sym _ _ (kept_moved (b ∷ []) new old us p);
+  names = refl;
+}
+
+-- the last of a list is given out
+pub gives_kept : (owner class : ℕ) (whole list rest : List Buffer) (b : Buffer) (us : List AtHome) (drawn : List Carved)
     → All (LiesIn owner class) list → list ≡ rest ++ b ∷ []
-    → GivesOne owner class (map {A = Buffer} {B = AtHome} (λ x. Kept x) list ++ us) b (map {A = Buffer} {B = AtHome} (λ x. Kept x) rest ++ us) drawn drawn
-gives_kept owner class list rest b us drawn all is =
-    let one = All-end (LiesIn owner class) rest b (rw is at all) in
-    record {
-      owner_is = one.0;
-      class_is = one.1;
-      from = Kept b;
-      gives = ap (λ n. record b { filled = n }) one.2;
-      others = rw is (kept_pop rest b us);
-      names = refl;
-    }
+    → GivesOne owner class (map {A = Buffer} {B = AtHome} (λ x. Kept x) (whole ++ list) ++ us) b (map {A = Buffer} {B = AtHome} (λ x. Kept x) (whole ++ rest) ++ us) drawn drawn
+gives_kept owner class whole list rest b us drawn all is =
+    gives_one owner class (whole ++ list) (whole ++ rest) b us drawn (All-end (LiesIn owner class) rest b (rw is at all))
+    (second_more whole (b ∷ []) rest list (rw is (IsPermutation-refl _)))
+
+-- what a list is where an array was taken apart: the last is given out, and the others are put into it
+pub record TakesApart (whole list : List Buffer) (b : Buffer) (whole' list' : List Buffer) : Type 0 where
+  pub rest : List Buffer
+  pub array : whole ≡ whole' ++ (rest ++ b ∷ [])
+  pub listed : IsPermutation (list ++ rest) list'
+
+all_append : {X : Type 0} (P : X → Type 0) (xs ys : List X) → All P (xs ++ ys) → All P xs × All P ys
+all_append P xs ys h = (
+  All-weaker (Contains xs) P (λ x c. All-contains P (xs ++ ys) x h (Contains-append_left xs ys x c)) xs (All-contains_itself xs),
+  All-weaker (Contains ys) P (λ x c. All-contains P (xs ++ ys) x h (Contains-append_right xs ys x c)) ys (All-contains_itself ys),
+)
+
+pub ready_lies : (owner class : ℕ) (bs : List Buffer) → All (IsReady owner class) bs → All (LiesIn owner class) bs
+ready_lies owner class bs h = All-weaker (IsReady owner class) (LiesIn owner class) (λ x r. r.0) bs h
+
+-- the buffers of the array that was taken apart
+apart_parts : (owner class : ℕ) (whole list : List Buffer) (b : Buffer) (whole' list' : List Buffer) → TakesApart whole list b whole' list'
+    → All (IsReady owner class) whole → All (LiesIn owner class) list
+    → All (LiesIn owner class) list' × All (IsReady owner class) whole' × LiesIn owner class b
+apart_parts owner class whole list b whole' list' t h g =
+    let both = all_append (IsReady owner class) whole' (t.rest ++ b ∷ []) (rw t.array at h) in
+    let rest = all_append (IsReady owner class) t.rest (b ∷ []) both.1 in (
+      All-permutation (LiesIn owner class) (list ++ t.rest) list' t.listed (All-append (LiesIn owner class) list t.rest g (ready_lies owner class t.rest rest.0)),
+      both.0,
+      (All-end (IsReady owner class) t.rest b both.1).0,
+    )
+
+pub apart_keeps : (owner class : ℕ) (whole list : List Buffer) (b : Buffer) (whole' list' : List Buffer) → TakesApart whole list b whole' list'
+    → All (IsReady owner class) whole → All (LiesIn owner class) list → All (LiesIn owner class) list' × All (IsReady owner class) whole'
+apart_keeps owner class whole list b whole' list' t h g = let p = apart_parts owner class whole list b whole' list' t h g in (p.0, p.1)
+
+pub gives_apart : (owner class : ℕ) (whole list : List Buffer) (b : Buffer) (whole' list' : List Buffer) (us : List AtHome) (drawn : List Carved)
+    → TakesApart whole list b whole' list' → All (IsReady owner class) whole → All (LiesIn owner class) list
+    → GivesOne owner class (map {A = Buffer} {B = AtHome} (λ x. Kept x) (whole ++ list) ++ us) b (map {A = Buffer} {B = AtHome} (λ x. Kept x) (whole' ++ list') ++ us) drawn drawn
+gives_apart owner class whole list b whole' list' us drawn t h g =
+    let came : IsPermutation (t.rest ++ (whole' ++ list)) (whole' ++ list') = second_more whole' t.rest list list' t.listed in
+    let taken : IsPermutation ((t.rest ++ b ∷ []) ++ (whole' ++ list)) ((whole' ++ (t.rest ++ b ∷ [])) ++ list) = first_more whole' (t.rest ++ b ∷ []) list in
+    let front : IsPermutation (b ∷ (t.rest ++ (whole' ++ list))) ((t.rest ++ b ∷ []) ++ (whole' ++ list)) =
+    IsPermutation-append_left (whole' ++ list) (b ∷ t.rest) (t.rest ++ b ∷ []) (IsPermutation-append_comm (b ∷ []) t.rest) in
+    gives_one owner class (whole ++ list) (whole' ++ list') b us drawn (apart_parts owner class whole list b whole' list' t h g).2
+    (IsPermutation-trans _ _ _ (IsPermutation-cons b _ _ (IsPermutation-sym _ _ came))
+    (rw t.array (IsPermutation-trans _ _ _ front taken)))
+
+-- buffers that may be lent as they lie are slots at home
+pub ready_home : (owner class : ℕ) (bs : List Buffer) → All (IsReady owner class) bs → All (IsAtHome owner class) (map {A = Buffer} {B = AtHome} (λ x. Kept x) bs)
+ready_home owner class [] h = All-nil _
+ready_home owner class (b ∷ bs) h =
+    All-cons (IsAtHome owner class) (Kept b) _ (h 0 b (omega arith)).0 (ready_home owner class bs (λ k d l. h (suc k) d (omega (arith, l))))
+
+-- own buffers of a class are emptied, and may then be lent as they lie
+pub alike_ready : (owner class : ℕ) (bs : List Buffer) → All (IsAlike owner class) bs → All (IsReady owner class) (map emptied bs)
+alike_ready owner class [] h = All-nil _
+alike_ready owner class (b ∷ bs) h =
+    let one = h 0 b (omega arith) in
+    All-cons (IsReady owner class) (emptied b) _ ((one.0, one.1, refl), one.2) (alike_ready owner class bs (λ k d l. h (suc k) d (omega (arith, l))))
+
+pub alike_own : (owner class : ℕ) (bs : List Buffer) → All (IsAlike owner class) bs → All (λ (b : Buffer). b.owner ≡ owner) bs
+alike_own owner class bs h = All-weaker (IsAlike owner class) (λ (b : Buffer). b.owner ≡ owner) (λ x r. r.0) bs h
+
+pub emptied_home : (bs : List Buffer) → map {A = Buffer} {B = AtHome} (λ x. Kept x) (map emptied bs) ≡ map comes_home bs
+emptied_home [] = refl
+emptied_home (b ∷ bs) = ap (λ hs. comes_home b ∷ hs) (emptied_home bs)
+
+-- the last of an array comes to the end of a list
+pub moved_last : (all list rest : List Buffer) (b : Buffer) → IsPermutation all (list ++ (rest ++ b ∷ [])) → IsPermutation all ((list ++ b ∷ []) ++ rest)
+moved_last all list rest b p =
+    IsPermutation-trans _ _ _ p (rw append_assoc (IsPermutation-append_right list (rest ++ b ∷ []) (b ∷ rest) (IsPermutation-append_comm rest (b ∷ []))))
+
+-- a home with these buffers
+abbrev pub home_with : (owner class : ℕ) → List Buffer → List AtHome → List Carved → HomeState
+home_with owner class bs us drawn = record { owner = owner; class = class; slots = map {A = Buffer} {B = AtHome} (λ x. Kept x) bs ++ us; drawn = drawn }
+
+-- a home whose arrays gave one, or none
+pub taken_home : (owner class most places : ℕ) (whole whole' list : List Buffer) (us : List AtHome) (drawn : List Carved) (o : Option (Vec Buffer Global))
+    → MatchOption o (whole' ≡ whole) (λ a. (whole ≡ whole' ++ a.items) × (a.items ≢ []) × (length a.items ≤ most) × (vec_capacity a ≡ places))
+    → All (IsReady owner class) whole
+    → MatchOption o (home_with owner class (whole' ++ list) us drawn ≡ home_with owner class (whole ++ list) us drawn) (λ a. IsFitting most places a × All (IsReady owner class) a.items
+    × IsPermutation (map {A = Buffer} {B = AtHome} (λ x. Kept x) (whole ++ list) ++ us)
+    (map {A = Buffer} {B = AtHome} (λ x. Kept x) a.items ++ (map {A = Buffer} {B = AtHome} (λ x. Kept x) (whole' ++ list) ++ us)))
+taken_home owner class most places whole whole' list us drawn None h all = ap (λ w. home_with owner class (w ++ list) us drawn) h
+taken_home owner class most places whole whole' list us drawn (Some a) h all = (
+  record { some = h.1; most = h.2; places_are = h.3 },
+  (all_append (IsReady owner class) whole' a.items (rw h.0 at all)).1,
+  IsPermutation-sym _ _ (kept_moved a.items (whole' ++ list) (whole ++ list) us (rw h.0 (first_more whole' a.items list))),
+)
+
+pub taken_ready : (owner class most places : ℕ) (whole whole' : List Buffer) (o : Option (Vec Buffer Global))
+    → MatchOption o (whole' ≡ whole) (λ a. (whole ≡ whole' ++ a.items) × (a.items ≢ []) × (length a.items ≤ most) × (vec_capacity a ≡ places))
+    → All (IsReady owner class) whole → All (IsReady owner class) whole'
+taken_ready owner class most places whole whole' None h all = rw h all
+taken_ready owner class most places whole whole' (Some a) h all = (all_append (IsReady owner class) whole' a.items (rw h.0 at all)).0
 
 -- the chunk of a cursor that gave a slot
 pub carved_next : (b b' : Bump) (p : Piece) → GivesNext b b' p → carved_of b' ≡ taken_next (carved_of b) p.bytes.ghost_name b'.front.rest.now

@@ -1,16 +1,18 @@
 -- One home among the homes of the classes is taken up and put back.
-use Rattle.std.proofs.Common.{◌≡◌, ℕ, ◌<◌, List, ◌∷◌, ◌++◌, IsPermutation, length, get_or, set, take, drop, sym, ap, ◌∙◌, subst}
-use Rattle.std.specs.Prelude.{Result, Ok, Err, MatchResult}
+use Rattle.std.proofs.Common.{◌≡◌, ℕ, ◌<◌, List, ◌++◌, IsPermutation, length, get_or, set, take, drop, sym, ap, ◌∙◌, subst}
+use Rattle.std.specs.Prelude.{All, Option, Some, None, MatchOption, Result, Ok, Err, MatchResult, Vec, map}
+use Rattle.std.specs.declared.alloc.Global.{Global}
 use Rattle.std.specs.List.{refill}
 use Rattle.std.proofs.lemmas.List.{get_or-set_same, get_or_default, length-set, set-get_or}
 use Rattle.std.proofs.Math.Seq.{take-append_seam}
 use Rattle.slot_chain.specs.Buffer.{Buffer}
 use Rattle.pool_desk.specs.declared.error.DeskError.{DeskError}
 use Rattle.region_cut.specs.declared.part.Part.{Part}
-use Rattle.pool_desk.specs.Homes.{HomeState, Draws, GivesOne, IsRefused}
+use Rattle.pool_desk.specs.Homes.{AtHome, HomeState, Draws, GivesOne, IsReady, IsRefused}
 use Rattle.pool_desk.specs.Homes.AtHome.{Kept}
 use Rattle.pool_desk.specs.HomesState.{home_at, no_home}
-use Rattle.pool_desk.proofs.ByClassLaws.{claimed}
+use Rattle.pool_desk.specs.Spares.{IsFitting}
+use Rattle.pool_desk.proofs.ByClassLaws.{claimed, TakesAt}
 
 -- the homes after n took the place of the home k
 abbrev pub put_back : List HomeState → List HomeState → ℕ → HomeState → List HomeState
@@ -47,11 +49,28 @@ put_kept hs ds k g n e l is same =
     put_same hs ds k n _ e (same ∙ (ap (λ (z : HomeState). record z { slots = n.slots }) is
     ∙ ap (λ (z : HomeState). record (home_at hs k) { slots = z.slots }) (sym (put_at hs ds k n e l))))
 
-pub put_keeps : (hs ds : List HomeState) (k : ℕ) (g n : HomeState) (b : Buffer) → ds ≡ hs → k < length hs → g ≡ home_at hs k
-    → IsPermutation (Kept b ∷ g.slots) n.slots → IsPermutation (Kept b ∷ (home_at hs k).slots) (home_at (put_back hs ds k n) k).slots
-put_keeps hs ds k g n b e l is p =
-    subst (λ (z : HomeState). IsPermutation (Kept b ∷ (home_at hs k).slots) z.slots) (sym (put_at hs ds k n e l))
-    (subst (λ (z : HomeState). IsPermutation (Kept b ∷ z.slots) n.slots) is p)
+pub put_keeps : (hs ds : List HomeState) (k : ℕ) (g n : HomeState) (come : List AtHome) → ds ≡ hs → k < length hs → g ≡ home_at hs k
+    → IsPermutation (come ++ g.slots) n.slots → IsPermutation (come ++ (home_at hs k).slots) (home_at (put_back hs ds k n) k).slots
+put_keeps hs ds k g n come e l is p =
+    subst (λ (z : HomeState). IsPermutation (come ++ (home_at hs k).slots) z.slots) (sym (put_at hs ds k n e l))
+    (subst (λ (z : HomeState). IsPermutation (come ++ z.slots) n.slots) is p)
+
+-- a home that gave an array
+pub put_takes : (hs ds : List HomeState) (k most places : ℕ) (g n : HomeState) (o : Option (Vec Buffer Global)) → ds ≡ hs → k < length hs → g ≡ home_at hs k
+    → MatchOption o (n ≡ g) (λ a. IsFitting most places a × All (IsReady g.owner g.class) a.items
+    × IsPermutation g.slots (map {A = Buffer} {B = AtHome} (λ x. Kept x) a.items ++ n.slots))
+    → TakesAt most places k hs o (put_back hs ds k n)
+put_takes hs ds k most places g n None e l is h = put_same hs ds k n (home_at hs k) e (h ∙ is) ∙ set-get_or hs k no_home
+put_takes hs ds k most places g n (Some a) e l is h = (
+  h.0,
+  subst (λ (z : HomeState). All (IsReady z.owner z.class) a.items) is h.1,
+  subst (λ (z : HomeState). IsPermutation (home_at hs k).slots (map {A = Buffer} {B = AtHome} (λ x. Kept x) a.items ++ z.slots)) (sym (put_at hs ds k n e l))
+      (subst (λ (z : HomeState). IsPermutation z.slots (map {A = Buffer} {B = AtHome} (λ x. Kept x) a.items ++ n.slots)) is h.2),
+)
+
+-- a home that stays as it is
+pub put_none : (hs ds : List HomeState) (k : ℕ) (g n : HomeState) → ds ≡ hs → g ≡ home_at hs k → n ≡ g → put_back hs ds k n ≡ hs
+put_none hs ds k g n e is same = put_same hs ds k n (home_at hs k) e (same ∙ is) ∙ set-get_or hs k no_home
 
 -- a home that took a part
 pub put_claimed : (hs ds : List HomeState) (k : ℕ) (g n : HomeState) (part : Part) → ds ≡ hs → k < length hs → g ≡ home_at hs k

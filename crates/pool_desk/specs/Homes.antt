@@ -84,6 +84,14 @@ pub record HomeState : Type 0 where
 abbrev pub LiesIn : ℕ → ℕ → Buffer → Type 0
 LiesIn owner class b = (b.owner ≡ owner) × (b.class ≡ class) × (b.filled ≡ 0)
 
+-- the same, and it was not passed on: it may be lent as it lies, with others in an array
+abbrev pub IsReady : ℕ → ℕ → Buffer → Type 0
+IsReady owner class b = LiesIn owner class b × (b.forwards ≡ 0)
+
+-- the owner's buffer of this class, which was not passed on
+abbrev pub IsAlike : ℕ → ℕ → Buffer → Type 0
+IsAlike owner class b = (b.owner ≡ owner) × (b.class ≡ class) × (b.forwards ≡ 0)
+
 -- a slot at home of this owner and class
 abbrev pub IsAtHome : ℕ → ℕ → AtHome → Type 0
 IsAtHome owner class (Kept b) = LiesIn owner class b

@@ -1,5 +1,5 @@
 -- What a desk's calls do to it.
-use Rattle.std.specs.Prelude.{◌≡◌, ◌≢◌, ℕ, ◌+◌, ◌<◌, ◌≤◌, ◌==◌, not, List, ◌∷◌, ◌++◌, All, IsPermutation, filter, map}
+use Rattle.std.specs.Prelude.{◌≡◌, ◌≢◌, ℕ, ◌+◌, ◌<◌, ◌≤◌, ◌==◌, not, List, [], ◌∷◌, ◌++◌, All, IsPermutation, filter, map}
 use Rattle.std.specs.Prelude.{length, Result, Ok, Err}
 use Rattle.region_cut.specs.declared.part.Part.{Part}
 use Rattle.region_cut.specs.Classes.{slots_of, largest_of, IsLeastFor, NoClassFor}
@@ -11,7 +11,7 @@ use Rattle.pool_desk.specs.declared.error.DeskError.TheVariants.{TooLarge, NeedC
 use Rattle.pool_desk.specs.declared.freed.Freed.{Freed}
 use Rattle.pool_desk.specs.declared.freed.Freed.TheVariants.{Home, Cached, Due}
 use Rattle.pool_desk.specs.declared.counts.Counts.{Counts}
-use Rattle.pool_desk.specs.Homes.{AtHome, class_at, comes_home, unused_from, Draws, GivesOne, IsUnused}
+use Rattle.pool_desk.specs.Homes.{AtHome, class_at, comes_home, unused_from, Draws, GivesOne, IsReady, IsUnused}
 use Rattle.pool_desk.specs.Homes.AtHome.{Kept}
 use Rattle.pool_desk.specs.HomesState.{HasClass, LacksClass, IsWanting}
 use Rattle.pool_desk.specs.Desks.{DeskState, profile_at}
@@ -53,6 +53,19 @@ AllocsClass old c (Ok b) new =
     × (new ≡ record old { home = new.home; drawn = new.drawn })
 AllocsClass old c (Err e) new = IsWanting c old.home e × (new ≡ old)
 
+-- These buffers of a class were at home, and are lent together, as n loans would lend them: nothing of them is filled.
+pub record LendsWhole (old : DeskState) (class : ℕ) (bs : List Buffer) (new : DeskState) : Type 0 where
+  pub each : All (IsReady old.number class) bs
+  pub same : new ≡ record old { home = new.home }
+  pub home : IsPermutation old.home (map {A = Buffer} {B = AtHome} (λ b. Kept b) bs ++ new.home)
+
+-- a parcel that had no buffer has some, and no more than n
+pub record IsFilledUp (n : ℕ) (old new : ParcelState) : Type 0 where
+  pub none : old.items ≡ []
+  pub some : new.items ≢ []
+  pub most : length new.items ≤ n
+  pub same : new ≡ record old { items = new.items }
+
 -- the buffer as it is freed: its count of forwards is 0, nothing of it is filled, and all else is the same
 abbrev pub freed : Buffer → Buffer
 freed b = record b { forwards = 0; filled = 0 }
@@ -77,8 +90,8 @@ CachesAll old p new =
     (p.owner ≢ old.number) × (new ≡ record old { cached = new.cached })
     × IsPermutation (p.items ++ old.cached) new.cached
 
--- an own parcel's buffers go home, another's into the cache, which is due exactly where its bytes are then more than
--- the limit: as where each of them is freed
+-- An own parcel's buffers go home, another's into the cache, which is due exactly where its bytes are then more than
+-- the limit: as where each of them is freed, but that what is filled of another's is emptied where it comes home.
 abbrev pub FreesAll : DeskState → ParcelState → Freed → DeskState → Type 0
 FreesAll old p Home new =
     (p.owner ≡ old.number) × (new ≡ record old { home = new.home })

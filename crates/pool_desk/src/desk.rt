@@ -12,9 +12,10 @@ ghost use Rattle.slot_chain.specs.Slots.{AddsSlots, slot_of};
 ghost use Rattle.digit_route.specs.Route.{GivesBucket};
 ghost use Rattle.pool_desk.specs.HomesState.{HasClass};
 ghost use Rattle.pool_desk.specs.Desks.{profile_at};
-ghost use Rattle.pool_desk.specs.Homes.{IsOwn, kept_in};
+ghost use Rattle.pool_desk.specs.Homes.{IsOwn, comes_home, kept_in};
 ghost use Rattle.pool_desk.specs.Slots.{slots_in};
 ghost use Rattle.pool_desk.specs.Steps.{Claims, NotNeededFor, Allocs, AllocsClass, Frees, FreesAll, Handles, CountsOf};
+ghost use Rattle.pool_desk.specs.Steps.{IsFilledUp, LendsWhole};
 ghost use Rattle.pool_desk.specs.Handling.{Adds, IsPassed, GoesHome, GoesOn};
 
 use crate::homes::Homes;
@@ -33,8 +34,8 @@ use std::marker::Model;
 /// freed here.
 ///
 /// Nothing of it is shared, so no call waits. Only [`Desk::alloc`] of a slot that was never handed
-/// out takes memory, [`Desk::parcel`] where no array is kept for it, [`Desk::make_room`], and the
-/// listings.
+/// out takes memory, [`Desk::parcel`] where no array is kept for it, [`Desk::lend_whole`],
+/// [`Desk::make_room`], and the listings.
 #[must_use]
 #[derive(Drop)]
 pub struct Desk<'r> {
@@ -150,10 +151,10 @@ impl<'r> Desk<'r> {
         self.homes.claim(part, class);
     }
 
-    /// Gives out a slot at home of the least class that holds `size` bytes: the one that came
-    /// home last, else the next that was never handed out. Only the latter takes memory, for the
-    /// box of the buffer, which is made first; so a refusal changes nothing. Nothing of the buffer is
-    /// filled, and no byte of a slot is written. Takes constant time.
+    /// Gives out a slot at home of the least class that holds `size` bytes: one that came home, else the
+    /// next that was never handed out. Only the latter takes memory, for the box of the buffer, which is
+    /// made first; so a refusal changes nothing. Nothing of the buffer is filled, and no byte of a slot is
+    /// written. Takes constant time, unless an array of [`Desk::lend_whole`] is taken apart.
     #[inline(always)]
     pub fn alloc(&mut self, alloc: Global, size: usize) -> Result<Buf<'r>, DeskError>
         ensures { Allocs self.old size result self.new }
@@ -171,7 +172,7 @@ impl<'r> Desk<'r> {
         requires { class < classes_of (profile_at self.old) }
         ensures { AllocsClass self.old class result self.new }
     {
-        self.homes.alloc(alloc, class)
+        self.homes.alloc(alloc, class, &mut self.spares)
     }
 
     /// Takes an own buffer home, and another into the cache. Always succeeds. Takes constant time
@@ -199,7 +200,8 @@ impl<'r> Desk<'r> {
 
     /// Takes the buffers of an own parcel home, and another's parcel into the cache, as it is. Always
     /// succeeds, takes no memory, and for another's parcel constant time: none of its buffers is looked
-    /// at, where the cache has room for its array ([`Desk::make_room`]).
+    /// at, where the cache has room for its array ([`Desk::make_room`]). Each of an own parcel is emptied;
+    /// where all are of one class, and [`Desk::lend_whole`] was called for it, they stay in their array.
     ///
     /// The owner's number is one of the desk's profile.
     pub fn free_all(&mut self, parcel: BufParcel<'r>) -> Freed
@@ -207,9 +209,7 @@ impl<'r> Desk<'r> {
         ensures { FreesAll self.old parcel.entry result self.new }
     {
         if parcel.owner() == self.cache.number() {
-            let mut array = parcel.into_buffers();
-            self.homes.keep_all(&mut array);
-            self.spares.keep(array);
+            self.keep_array(parcel.into_buffers());
             return Freed::Home;
         }
         self.cache.put_all(parcel);
@@ -220,8 +220,52 @@ impl<'r> Desk<'r> {
         }
     }
 
+    // Takes own buffers home, as they lie in their array where it may be kept so.
+    fn keep_array(&mut self, array: Vec<Buf<'r>>)
+        requires { All (λ (b : Buffer). b.owner ≡ self.old.number) array.items }
+        ensures same { self.new ≡ record self.old { home = self.new.home } }
+        ensures home { IsPermutation (map comes_home array.entry.items ++ self.old.home) self.new.home }
+    {
+        if let Some(mut array) = self.homes.keep_whole(array) {
+            self.homes.keep_all(&mut array);
+            self.spares.keep(array);
+        }
+    }
+
+    /// Lends own buffers of this class into an empty parcel, as they came home together in an array: at most
+    /// `most`, and none is looked at. The array takes the place of the parcel's own, so it has as many places.
+    /// Says whether it lent any: where it didn't, no such array is there, or the parcel isn't empty, and both
+    /// are as before.
+    ///
+    /// A desk keeps arrays so once this was called: it takes memory for their places, at most 1,024 of each
+    /// class, and keeps fewer where memory is refused. [`Desk::alloc`] takes one apart where it finds no other
+    /// buffer that came home. Takes constant time.
+    pub fn lend_whole(
+        &mut self,
+        alloc: Global,
+        class: Class,
+        parcel: &mut BufParcel<'r>,
+        most: usize,
+    ) -> bool
+        requires { parcel.old.owner ≡ self.old.number }
+        ensures { MatchBool result
+            (LendsWhole self.old class parcel.new.items self.new × IsFilledUp most parcel.old parcel.new)
+            ((self.new ≡ self.old) × (parcel.new ≡ parcel.old)) }
+    {
+        if !parcel.is_empty() {
+            return false;
+        }
+        let Some(array) = self.homes.take_whole(class, most, parcel.places()) else {
+            self.homes.make_room(alloc, class);
+            return false;
+        };
+        let spare = parcel.exchange(class, array);
+        self.spares.keep(spare);
+        true
+    }
+
     /// An empty parcel for own buffers, with room for at least so many. It lies over an array in which
-    /// own buffers came home, where one is kept that is large enough: the one that was kept last of
+    /// own buffers came home, where an empty one is kept that is large enough: the one that was kept last of
     /// those. A desk keeps at most 16 arrays, each for 1 to 256 buffers; one that comes beyond that is
     /// let go. Only else memory is taken. [`NoMemory`] is answered only where there is none for it.
     pub fn parcel(&mut self, alloc: Global, places: usize) -> Result<BufParcel<'r>, NoMemory>
@@ -280,8 +324,21 @@ impl<'r> Desk<'r> {
         }
     }
 
-    // Handles the buffers of an array, and counts them on.
+    // Handles the buffers of an array, as it lies where it may be kept so, and counts them on.
     fn handle_array(&mut self, array: Vec<Buf<'r>>, counts: Counts) -> Counts
+        requires { All (IsPassed self.old.digits self.old.number) array.items }
+        ensures parts { Handles self.old array.entry.items self.new }
+        ensures counts { Adds self.old.number array.entry.items counts result }
+    {
+        let all = array.len();
+        match self.homes.keep_whole(array) {
+            None => counts.plus(all, 0),
+            Some(array) => self.handle_each(array, counts),
+        }
+    }
+
+    // Handles the buffers of an array one by one, and counts them on.
+    fn handle_each(&mut self, array: Vec<Buf<'r>>, counts: Counts) -> Counts
         requires { All (IsPassed self.old.digits self.old.number) array.items }
         ensures parts { Handles self.old array.entry.items self.new }
         ensures counts { Adds self.old.number array.entry.items counts result }

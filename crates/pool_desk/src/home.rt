@@ -1,8 +1,9 @@
 //! The slots at home of one class.
 ghost use Rattle.std.specs.Prelude.{◌≡◌, ◌≢◌, ℕ, ◌<◌, ◌≤◌, ◌↔◌, [], ◌∷◌, ◌++◌, All, IsTrue, IsPermutation};
-ghost use Rattle.std.specs.Prelude.{MatchResult, OnOk, OnErr, length, min, ◌^◌, ◌-◌, map};
+ghost use Rattle.std.specs.Prelude.{List, MatchOption, MatchResult, OnOk, OnErr, length, min, ◌^◌, ◌-◌, map};
 ghost use Rattle.slot_chain.specs.Buffer.{Buffer, ended_of, owner_limit};
-ghost use Rattle.pool_desk.specs.Homes.{AtHome, LiesIn, GivesOne, IsRefused, Draws, kept_in, slot_at, unused_from};
+ghost use Rattle.pool_desk.specs.Homes.{AtHome, IsReady, LiesIn, GivesOne, IsRefused, Draws, kept_in, slot_at, unused_from};
+ghost use Rattle.pool_desk.specs.Spares.{IsFitting};
 ghost use Rattle.pool_desk.specs.NextSlots.{GivesNext, GivesNextSlot};
 ghost use Rattle.pool_desk.specs.Homes.AtHome.{Kept};
 ghost use Rattle.region_cut.specs.Classes.{slots_of};
@@ -11,31 +12,40 @@ ghost use Rattle.pool_desk.specs.Slots.{AddsOn};
 
 use crate::DeskError;
 use crate::listing::add_unused;
+use crate::spares::Spares;
 use region_cut::endings::{Endings, Ties};
 use region_cut::{Bump, Class, Part, Slot};
-use slot_chain::{Buf, Chain, NoMemory, Room};
+use slot_chain::{Arrays, Buf, Chain, NoMemory, Room};
 use std::alloc::Global;
 use std::marker::Model;
 
+// For how many arrays there is room, at least and at most, where one is to be kept.
+const LEAST: usize = 16;
+
+const MOST: usize = 1024;
+
 /// The buffers of one class that came home, and the slots of the chunk drawn last that were never
 /// handed out.
+// It takes 64 bytes, so that its place in a row is a shift away: with 56 a buffer that is lent and freed
+// takes a sixth longer.
 #[derive(Drop)]
 pub(crate) struct Home<'r> {
     owner: u16,
     class: Class,
+    // Whether an array found no place among the whole ones.
+    wants_room: bool,
     list: Chain<'r>,
+    // Arrays in which buffers came home, to be lent as they lie.
+    whole: Arrays<'r>,
     bump: Option<Bump<'r>>,
     ties: Ties,
-    // Nothing reads it. With it a home takes 64 bytes, so that its place in a row is a shift away: with 56
-    // a buffer that is lent and freed takes a sixth longer.
-    apart: [u64; 2],
 }
 
 impl<'r> Model for Home<'r> {
     ghost use Rattle.std.specs.Prelude.{◌≡◌, ◌++◌, ◌<◌, map, All, IfSome};
     ghost use Rattle.slot_chain.specs.Buffer.{Buffer, owner_limit};
     ghost use Rattle.region_cut.specs.declared.part.Bump.{Bump};
-    ghost use Rattle.pool_desk.specs.Homes.{HomeState, AtHome, LiesIn, unused, open_chunk};
+    ghost use Rattle.pool_desk.specs.Homes.{HomeState, AtHome, IsReady, LiesIn, unused, open_chunk};
     ghost use Rattle.pool_desk.specs.Homes.AtHome.{Kept};
 
     ghost Value = { HomeState };
@@ -43,12 +53,13 @@ impl<'r> Model for Home<'r> {
     ghost view = { λ h. record {
       owner = h.owner;
       class = h.class;
-      slots = map Kept h.list ++ unused h.bump;
+      slots = map Kept (h.whole ++ h.list) ++ unused h.bump;
       drawn = open_chunk h.bump ++ h.ties.all;
     } };
 
     ghost invariant = { λ h. (h.owner < owner_limit)
         × All (LiesIn h.owner h.class) h.list
+        × All (IsReady h.owner h.class) h.whole
         × IfSome h.bump (λ (b : Bump). b.class ≡ h.class) };
 }
 
@@ -71,10 +82,11 @@ impl<'r> Home<'r> {
         Home {
             owner,
             class,
+            wants_room: false,
             list: Chain::new(),
+            whole: Arrays::new(),
             bump: None,
             ties: Ties::new(),
-            apart: [0; 2],
         }
     }
 
@@ -83,6 +95,9 @@ impl<'r> Home<'r> {
         ensures { IsTrue result ↔ (self.now.slots ≢ []) }
     {
         if !self.list.is_empty() {
+            return true;
+        }
+        if !self.whole.is_empty() {
             return true;
         }
         match &self.bump {
@@ -107,14 +122,22 @@ impl<'r> Home<'r> {
         }
     }
 
-    /// Gives out a slot, of which nothing is filled.
-    pub(crate) fn alloc(&mut self, alloc: Global) -> Result<Buf<'r>, DeskError>
+    /// Gives out a slot, of which nothing is filled: one of the list, else one of the array that came last,
+    /// which is then taken apart, else one that was never handed out.
+    pub(crate) fn alloc(
+        &mut self,
+        alloc: Global,
+        spares: &mut Spares<'r>,
+    ) -> Result<Buf<'r>, DeskError>
         ensures same { self.new ≡ record self.old { slots = self.new.slots; drawn = self.new.drawn } }
         ensures value { MatchResult result
             (λ b. GivesOne self.old.owner self.old.class self.old.slots b self.new.slots self.old.drawn self.new.drawn)
             (λ e. IsRefused self.old.class self.old.slots e × (self.new ≡ self.old)) }
     {
         if let Some(buf) = self.list.pop() {
+            return Ok(buf);
+        }
+        if let Some(buf) = take_apart(&mut self.whole, &mut self.list, spares) {
             return Ok(buf);
         }
         let Some(bump) = &mut self.bump else {
@@ -132,6 +155,53 @@ impl<'r> Home<'r> {
         self.list.push(buf);
     }
 
+    /// Whether there is a place for an array of buffers. Where there is none, [`Home::make_room`] makes some
+    /// when it is called next.
+    pub(crate) fn has_room(&mut self) -> bool
+        ensures { self.new ≡ self.old }
+    {
+        let has_room = self.whole.has_room();
+        if !has_room {
+            self.wants_room = true;
+        }
+        has_room
+    }
+
+    /// Takes own buffers home as they lie in an array, of which nothing is filled.
+    pub(crate) fn keep_whole(&mut self, array: Vec<Buf<'r>>)
+        requires some { array.items ≢ [] }
+        requires each { All (IsReady self.old.owner self.old.class) array.items }
+        ensures same { self.new ≡ record self.old { slots = self.new.slots } }
+        ensures slots { IsPermutation (map Kept array.entry.items ++ self.old.slots) self.new.slots }
+    {
+        if let Some(array) = self.whole.put(array) {
+            link_each(&mut self.list, array);
+        }
+    }
+
+    /// Takes out the array that came home last, where it has so many places and names at most `most`
+    /// buffers.
+    pub(crate) fn take_whole(&mut self, most: usize, places: usize) -> Option<Vec<Buf<'r>>>
+        ensures same { self.new ≡ record self.old { slots = self.new.slots } }
+        ensures value { MatchOption result (self.new ≡ self.old)
+            (λ a. IsFitting most places a × All (IsReady self.old.owner self.old.class) a.items
+            × IsPermutation self.old.slots (map Kept a.items ++ self.new.slots)) }
+    {
+        self.whole.take_fitting(most, places)
+    }
+
+    /// Makes room for arrays where one found no place and none is there: twice as much as before, from 16
+    /// to 1,024. Where memory is refused, all stays as it is.
+    pub(crate) fn make_room(&mut self, alloc: Global)
+        ensures { self.new ≡ self.old }
+    {
+        if !self.wants_room || !self.whole.is_empty() {
+            return;
+        }
+        let places = self.whole.places().saturating_mul(2).max(LEAST).min(MOST);
+        self.wants_room = !self.whole.make_room(alloc, places);
+    }
+
     /// The number of slots.
     pub(crate) fn count(&self) -> u64
         ensures { result ≡ min (length self.now.slots) (2 ^ 64 - 1) }
@@ -140,14 +210,15 @@ impl<'r> Home<'r> {
             None => 0,
             Some(bump) => bump.left() as u64,
         };
-        self.list.len().saturating_add(left)
+        let kept = self.whole.len().saturating_add(self.list.len());
+        kept.saturating_add(left)
     }
 
     /// Adds the slots. Where memory is refused some of them are added.
     pub(crate) fn add_slots(&self, slots: &mut Vec<Slot>) -> Result<(), NoMemory>
         ensures { AddsOn result (map slot_at self.now.slots) slots.old.items slots.new.items }
     {
-        self.list.list_slots(slots)?;
+        self.list.list_slots_with(&self.whole, slots)?;
         match &self.bump {
             None => Ok(()),
             Some(bump) => add_unused(bump, slots),
@@ -164,16 +235,55 @@ impl<'r> Home<'r> {
         let Home {
             owner: _,
             class: _,
+            wants_room: _,
             list,
+            whole,
             bump,
             ties,
-            apart: _,
         } = self;
         list.end(endings);
+        whole.end(endings);
         endings.keep(ties);
         if let Some(bump) = bump {
             endings.carve(bump);
         }
+    }
+}
+
+// Takes the array that came last apart: gives out its last buffer, and puts the others into the list.
+#[cold]
+#[inline(never)]
+fn take_apart<'r>(
+    whole: &mut Arrays<'r>,
+    list: &mut Chain<'r>,
+    spares: &mut Spares<'r>,
+) -> Option<Buf<'r>>
+    ensures { MatchOption result ((whole.old ≡ []) × (whole.new ≡ []) × (list.new ≡ list.old))
+        (λ b. (rest : List Buffer) × (whole.old ≡ whole.new ++ (rest ++ b ∷ []))
+        × IsPermutation (list.old ++ rest) list.new) }
+{
+    let mut array = whole.take()?;
+    let buf = array.take_last();
+    link_all(list, &mut array);
+    spares.keep(array);
+    Some(buf)
+}
+
+// Puts the buffers that an array names into the list.
+fn link_each<'r>(list: &mut Chain<'r>, array: Vec<Buf<'r>>)
+    ensures { IsPermutation (list.old ++ array.entry.items) list.new }
+{
+    let mut array = array;
+    link_all(list, &mut array);
+}
+
+// Puts the buffers that an array names into the list, and leaves it empty.
+fn link_all<'r>(list: &mut Chain<'r>, array: &mut Vec<Buf<'r>>)
+    ensures list { IsPermutation (list.old ++ array.old.items) list.new }
+    ensures emptied { array.new.items ≡ [] }
+{
+    while let Some(buf) = array.pop() {
+        list.push(buf);
     }
 }
 

@@ -1,16 +1,19 @@
 //! All slots at home of one owner.
-ghost use Rattle.std.specs.Prelude.{◌≡◌, ◌≢◌, ◌<◌, ◌↔◌, [], ◌∷◌, ◌++◌, IsTrue, IsPermutation, MatchResult, OnOk};
+ghost use Rattle.std.specs.Prelude.{◌≡◌, ◌≢◌, ◌<◌, ◌↔◌, [], ◌∷◌, ◌++◌, IsTrue, IsPermutation, MatchOption, MatchResult, OnOk};
 ghost use Rattle.std.specs.Prelude.{OnErr, All, length, map};
 ghost use Rattle.region_cut.specs.Classes.{slots_of};
 ghost use Rattle.slot_chain.specs.Buffer.{Buffer, ended_of, owner_limit};
 ghost use Rattle.slot_chain.specs.Counts.{capped};
-ghost use Rattle.pool_desk.specs.Homes.{Draws, GivesOne, IsOwn, comes_home, kept_in, slot_at, unused_from};
+ghost use Rattle.slot_chain.specs.Filling.{emptied};
+ghost use Rattle.pool_desk.specs.Homes.{Draws, GivesOne, IsAlike, IsOwn, IsReady, comes_home, kept_in, slot_at, unused_from};
+ghost use Rattle.pool_desk.specs.Spares.{IsFitting};
 ghost use Rattle.pool_desk.specs.Homes.AtHome.{Kept};
 ghost use Rattle.slot_chain.specs.Slots.{AddsSlots};
 ghost use Rattle.pool_desk.specs.HomesState.{HasClass, LacksClass, IsWanting};
 
 use crate::DeskError;
 use crate::by_class::{ByClass, add_all, count_all, empty_homes, end_all};
+use crate::spares::Spares;
 use region_cut::endings::Endings;
 use region_cut::{Class, Part, Slot};
 use slot_chain::{Buf, NoMemory};
@@ -88,15 +91,19 @@ impl<'r> Homes<'r> {
         self.by_class[class.number() as usize].claim(part);
     }
 
-    /// Gives out a slot of the class: the one that came last, else the next that was never handed
-    /// out.
-    pub(crate) fn alloc(&mut self, alloc: Global, class: Class) -> Result<Buf<'r>, DeskError>
+    /// Gives out a slot of the class: one that came home, else the next that was never handed out.
+    pub(crate) fn alloc(
+        &mut self,
+        alloc: Global,
+        class: Class,
+        spares: &mut Spares<'r>,
+    ) -> Result<Buf<'r>, DeskError>
         ensures same { self.new ≡ record self.old { slots = self.new.slots; drawn = self.new.drawn } }
         ensures value { MatchResult result
             (λ b. GivesOne self.old.owner class self.old.slots b self.new.slots self.old.drawn self.new.drawn)
             (λ e. IsWanting class self.old.slots e × (self.new ≡ self.old)) }
     {
-        self.by_class[class.number() as usize].alloc(alloc)
+        self.by_class[class.number() as usize].alloc(alloc, spares)
     }
 
     /// Takes an own buffer home, of which nothing is filled.
@@ -122,6 +129,68 @@ impl<'r> Homes<'r> {
             buf.clear();
             self.keep(buf);
         }
+    }
+
+    /// Takes the buffers of an array home as they lie, each emptied, where all are own, of one class, and
+    /// not passed on, and where there is a place for it. Else it hands the array back.
+    pub(crate) fn keep_whole(&mut self, array: Vec<Buf<'r>>) -> Option<Vec<Buf<'r>>>
+        ensures same { self.new ≡ record self.old { slots = self.new.slots } }
+        ensures value { MatchOption result
+            (All (λ (b : Buffer). b.owner ≡ self.old.owner) array.entry.items
+            × IsPermutation (map comes_home array.entry.items ++ self.old.slots) self.new.slots)
+            (λ a. (a ≡ array.entry) × (self.new ≡ self.old)) }
+    {
+        let Some(first) = array.first() else {
+            return Some(array);
+        };
+        let class = first.class();
+        if !self.has_room(class) || !are_alike(array.as_slice(), self.owner, class) {
+            return Some(array);
+        }
+        let mut array = array;
+        empty_each(&mut array);
+        self.keep_ready(array, class);
+        None
+    }
+
+    // Whether there is a place for an array of the class.
+    fn has_room(&mut self, class: Class) -> bool
+        ensures { self.new ≡ self.old }
+    {
+        self.by_class[class.number() as usize].has_room()
+    }
+
+    // Takes own buffers of the class home as they lie in an array.
+    fn keep_ready(&mut self, array: Vec<Buf<'r>>, class: Class)
+        requires some { array.items ≢ [] }
+        requires each { All (IsReady self.old.owner class) array.items }
+        ensures same { self.new ≡ record self.old { slots = self.new.slots } }
+        ensures slots { IsPermutation (map Kept array.entry.items ++ self.old.slots) self.new.slots }
+    {
+        self.by_class[class.number() as usize].keep_whole(array);
+    }
+
+    /// Takes out the array of the class that came home last, where it has so many places and names at most
+    /// `most` buffers.
+    pub(crate) fn take_whole(
+        &mut self,
+        class: Class,
+        most: usize,
+        places: usize,
+    ) -> Option<Vec<Buf<'r>>>
+        ensures same { self.new ≡ record self.old { slots = self.new.slots } }
+        ensures value { MatchOption result (self.new ≡ self.old)
+            (λ a. IsFitting most places a × All (IsReady self.old.owner class) a.items
+            × IsPermutation self.old.slots (map Kept a.items ++ self.new.slots)) }
+    {
+        self.by_class[class.number() as usize].take_whole(most, places)
+    }
+
+    /// Makes room for arrays of the class, where one found no place.
+    pub(crate) fn make_room(&mut self, alloc: Global, class: Class)
+        ensures { self.new ≡ self.old }
+    {
+        self.by_class[class.number() as usize].make_room(alloc);
     }
 
     /// The number of slots, or the greatest `u64` where that is less.
@@ -153,5 +222,26 @@ impl<'r> Homes<'r> {
     {
         let Homes { owner: _, by_class } = self;
         end_all(by_class, endings);
+    }
+}
+
+// Whether all buffers are of this owner and class, and none was passed on.
+fn are_alike(buffers: &[Buf<'_>], owner: u16, class: Class) -> bool
+    ensures { IsTrue result → All (IsAlike owner class) buffers.now }
+{
+    for buf in buffers {
+        if buf.owner() != owner || buf.class() != class || buf.forwards() != 0 {
+            return false;
+        }
+    }
+    true
+}
+
+// Nothing of the buffers counts as filled any more.
+fn empty_each(array: &mut Vec<Buf<'_>>)
+    ensures { array.new.items ≡ map emptied array.old.items }
+{
+    for buf in array.iter_mut() {
+        buf.clear();
     }
 }

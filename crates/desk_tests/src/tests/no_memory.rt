@@ -1,9 +1,10 @@
 //! The calls that take no memory, between two marks behind which `.ci/no_memory.py` refuses each
 //! allocation. No clause says that a call takes none. Class 15 has 8 slots of 512 bytes in a chunk.
-use super::parcels::{all_go_home, free_all_is, packed};
+use super::parcels::{all_go_home, empty, free_all_is, packed};
 use super::passing::{leave_three, post};
 use super::posting::{comes_back, goes_to_another_worker, rounds, takes_back};
 use super::route::send;
+use super::whole::make_room;
 use super::{
     alloc_from, claim, claim_or_not, class, counts_are, desk, free_is, lend_some, parts, region,
     retired,
@@ -161,6 +162,29 @@ fn an_own_parcel_takes_none(rt: HostRuntime) {
     let alloc = rt.alloc();
     let mut region = region(&rt, alloc, 1);
     own_parcel(&rt, alloc, parts(&rt, alloc, &mut region));
+}
+
+// A parcel that comes home as a whole is lent again as a whole.
+fn whole_parcel<'r>(rt: &impl Abort, alloc: Global, mut parts: Vec<Part<'r>>) {
+    let mut owner = desk(rt, 5);
+    claim(rt, &mut owner, &mut parts, class(15));
+    make_room(rt, alloc, &mut owner);
+    let parcel = packed(rt, alloc, &mut owner, 512, 3);
+    let mut next = empty(rt, alloc, &mut owner, 3);
+    assert!(rt; next.owner() == owner.number());
+    set(alloc, Mark::TakesNone);
+    free_all_is(rt, &mut owner, parcel, Freed::Home);
+    assert!(rt; owner.lend_whole(alloc, class(15), &mut next, 3));
+    free_all_is(rt, &mut owner, next, Freed::Home);
+    set(alloc, Mark::MayTake);
+    counts_are(rt, &owner, 8, 0);
+}
+
+#[test]
+fn a_whole_parcel_takes_none(rt: HostRuntime) {
+    let alloc = rt.alloc();
+    let mut region = region(&rt, alloc, 1);
+    whole_parcel(&rt, alloc, parts(&rt, alloc, &mut region));
 }
 
 // A parcel of the owner is freed at another desk, and comes home.

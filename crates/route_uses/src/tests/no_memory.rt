@@ -107,14 +107,6 @@ fn put_parcel<'r>(rt: &impl Abort, cache: &mut Cache<'r>, parcel: BufParcel<'r>)
     same(rt, "the buffers", cache.len(), 40);
 }
 
-// The array that came last, where no buffer that came behind it is linked.
-fn array_in<'r>(magazine: &mut Magazine<'r>) -> Option<Vec<Buf<'r>>> {
-    match magazine.pop_portion()? {
-        Portion::Array(array) => Some(array),
-        Portion::Linked(_) => None,
-    }
-}
-
 // A parcel that finds no room is linked. Behind `make_room` the next one is kept as it is.
 fn parcel(rt: &impl Abort, alloc: Global) -> Result<(), NoMemory> {
     let mut region = Vec::from_elem(alloc, 0u8, 4096)?;
@@ -130,7 +122,10 @@ fn parcel(rt: &impl Abort, alloc: Global) -> Result<(), NoMemory> {
     put_parcel(rt, &mut cache, second);
     set(alloc, Mark::MayTake);
     let mut magazine = next_of_1(rt, &mut cache, 40).into_magazine();
-    let array = array_in(&mut magazine).expect(rt, "the parcel's array");
+    let array = magazine
+        .pop_portion()
+        .and_then(Portion::into_array)
+        .expect(rt, "the parcel's array");
     same(rt, "the array's buffers", array.len() as u64, 40);
     Ok(())
 }

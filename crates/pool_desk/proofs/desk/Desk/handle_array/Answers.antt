@@ -1,16 +1,28 @@
-use Rattle.std.proofs.Common.{sym, ◌∙◌}
-use Rattle.pool_desk.proofs.HandleLaws.{Adds-array, HandledOf-none, HandledOf-home, HandledOf-on}
+use Rattle.std.proofs.Common.{◌≡◌, All}
+use Rattle.slot_chain.specs.Buffer.{Buffer}
+use Rattle.pool_desk.specs.Desks.{DeskState}
+use Rattle.pool_desk.proofs.DeskLaws.{homes_same, with_homes}
+use Rattle.pool_desk.proofs.HandleLaws.{Adds-own, Handles-all_own}
 use Rattle.pool_desk.proofs.desk.Desk.handle_array.Goals as goal
 
-pub loop-buf-init : goal.loop-buf-init
-loop-buf-init c = HandledOf-none _ _ c.requires
+pub returns-in-None-clause-parts : goal.returns-in-None-clause-parts
+returns-in-None-clause-parts c =
+    let kept = c.in-None.ensures in
+    let own : All (λ (b : Buffer). b.owner ≡ c.self.inside.cache.number) c.args.array.items = rw c.self.invariant at kept.value.0 in
+    let i = c.self.inside in
+    let d : DeskState = record {
+      number = i.cache.number;
+      digits = i.cache.digits;
+      limit = i.cache.limit;
+      worker = i.worker;
+      home = i.homes.slots;
+      drawn = i.homes.drawn;
+      cached = i.cache.items;
+    } in
+    rw (← c.self.view_is) (Handles-all_own d (with_homes d c.keep_whole.new.self) c.args.array.items own (homes_same d _ c.keep_whole.new.self kept.same) kept.value.1)
 
-pub loop-buf-preserved-then-not-handle_one : goal.loop-buf-preserved-then-not-handle_one
-loop-buf-preserved-then-not-handle_one c = HandledOf-on _ _ _ _ _ _ c.in-Some.buf _ c.loop-buf.invariant c.in-Some.ensures.items c.if-not-handle_one.ensures
-
-pub loop-buf-preserved : goal.loop-buf-preserved
-loop-buf-preserved c = HandledOf-home _ _ _ _ _ _ c.in-Some.buf _ c.loop-buf.invariant c.in-Some.ensures.items c.if-not-handle_one.ensures
-
-pub returns-clause-counts : goal.returns-clause-counts
-returns-clause-counts c =
-    (Adds-array _ _ _ _ _ c.args.counts c.plus.result c.loop-buf.invariant (sym c.loop-buf.array.ok.0 ∙ c.in_default.ensures.cases.0) (rw (c.len-all.ensures, c.args.array.ok.0) at c.plus.ensures.home) c.plus.ensures.on).1
+pub returns-in-None-clause-counts : goal.returns-in-None-clause-counts
+returns-in-None-clause-counts c =
+    let kept = c.in-None.ensures in
+    let own : All (λ (b : Buffer). b.owner ≡ c.self.inside.cache.number) c.args.array.items = rw c.self.invariant at kept.value.0 in
+    rw (← c.self.view_is) (Adds-own _ c.args.array.items c.args.counts c.plus.result own (rw (c.len-all.ensures, c.args.array.ok.0) at c.plus.ensures.home) c.plus.ensures.on)

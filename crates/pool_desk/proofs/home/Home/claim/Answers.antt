@@ -1,4 +1,4 @@
-use Rattle.std.proofs.Common.{◌≡◌, ap, List, [], ◌∷◌}
+use Rattle.std.proofs.Common.{◌≡◌, ap, List, [], ◌∷◌, ◌++◌}
 use Rattle.region_cut.specs.Bumps.{HoldsPart}
 use Rattle.region_cut.specs.Carved.{carved_of}
 use Rattle.pool_desk.specs.Homes.{AtHome, unused}
@@ -7,8 +7,8 @@ use Rattle.pool_desk.proofs.home.Home.claim.Goals as goal
 
 pub returns-in-Some-clause-same : goal.returns-in-Some-clause-same
 returns-in-Some-clause-same c =
-    let none : c.self.inside.list ≡ [] = none_kept c.self.inside.list (unused c.self.inside.bump) (rw (← c.self.view_is) at c.requires) in
-    let class : c.in-Some.bump.class ≡ c.self.inside.class = rw c.in-Some.is at c.self.invariant.2 in
+    let none : c.self.inside.whole ++ c.self.inside.list ≡ [] = none_kept (c.self.inside.whole ++ c.self.inside.list) (unused c.self.inside.bump) (rw (← c.self.view_is) at c.requires) in
+    let class : c.in-Some.bump.class ≡ c.self.inside.class = rw c.in-Some.is at c.self.invariant.3 in
     let holds : HoldsPart c.args.part c.self.inside.class c.renew.new.self = rw class at c.renew.ensures.renewed in
     rw (← c.self.view_is, none)
     (ap (λ (s : List AtHome). record { owner = c.self.inside.owner; class = c.self.inside.class; slots = s; drawn = carved_of c.renew.new.self ∷ c.renew.new.ties.all })
@@ -16,7 +16,7 @@ returns-in-Some-clause-same c =
 
 pub returns-in-Some-clause-drawn : goal.returns-in-Some-clause-drawn
 returns-in-Some-clause-drawn c =
-    let class : c.in-Some.bump.class ≡ c.self.inside.class = rw c.in-Some.is at c.self.invariant.2 in
+    let class : c.in-Some.bump.class ≡ c.self.inside.class = rw c.in-Some.is at c.self.invariant.3 in
     let holds : HoldsPart c.args.part c.self.inside.class c.renew.new.self = rw class at c.renew.ensures.renewed in
     rw (← c.self.view_is, c.in-Some.is, c.renew.ensures.kept) (draws_new c.args.part c.self.inside.class c.renew.new.self _ holds)
 

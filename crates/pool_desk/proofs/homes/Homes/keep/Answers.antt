@@ -1,5 +1,7 @@
-use Rattle.std.proofs.Common.{◌<◌, length, ◌≡◌, sym, ap, ◌∙◌, subst}
-use Rattle.pool_desk.specs.Homes.{HomeState, LiesIn}
+use Rattle.std.proofs.Common.{◌<◌, length, ◌≡◌, [], ◌∷◌, sym, ap, ◌∙◌, subst}
+use Rattle.std.proofs.lemmas.List.Elements.{All-cons, All-nil}
+use Rattle.pool_desk.specs.Homes.AtHome.{Kept}
+use Rattle.pool_desk.specs.Homes.{HomeState, IsAtHome, LiesIn}
 use Rattle.pool_desk.specs.HomesState.{HomesState}
 use Rattle.pool_desk.proofs.ByClassLaws.{keep_keeps, keep_slots, keep_shown, own_kept}
 use Rattle.pool_desk.proofs.SetLaws.{put_back, put_kept, put_keeps, taken_up}
@@ -23,8 +25,8 @@ invariant_of-self c =
     let owner : c.args.buf.owner ≡ c.self.inside.owner = c.requires.owner ∙ ap (λ (h : HomesState). h.owner) (sym c.self.view_is) in
     let class : c.args.buf.class ≡ k = sym c.class-class.ensures ∙ sym c.number.ensures.value in
     let n = c.keep.new.self in
-    keep_keeps c.self.inside.owner k hs (put_back hs ds k n) c.args.buf c.self.invariant l (owner, class, c.requires.empty)
-    (put_kept hs ds k _ n e within one c.keep.ensures.same) (put_keeps hs ds k _ n c.args.buf e within one c.keep.ensures.slots)
+    keep_keeps c.self.inside.owner k hs (put_back hs ds k n) (Kept c.args.buf ∷ []) c.self.invariant l (All-cons (IsAtHome c.self.inside.owner k) (Kept c.args.buf) [] (owner, class, c.requires.empty) (All-nil _))
+    (put_kept hs ds k _ n e within one c.keep.ensures.same) (put_keeps hs ds k _ n (Kept c.args.buf ∷ []) e within one c.keep.ensures.slots)
 
 pub returns-clause-same : goal.returns-clause-same
 returns-clause-same c =
@@ -41,5 +43,5 @@ returns-clause-slots c =
     let one = taken_up hs ds k c.index-deref_mut-number.result e within in
     let n = c.keep.new.self in
     rw (← c.self.view_is)
-    (keep_slots c.self.inside.owner k hs (put_back hs ds k n) c.args.buf c.self.invariant l
-    (put_kept hs ds k _ n e within one c.keep.ensures.same) (put_keeps hs ds k _ n c.args.buf e within one c.keep.ensures.slots))
+    (keep_slots c.self.inside.owner k hs (put_back hs ds k n) (Kept c.args.buf ∷ []) c.self.invariant l
+    (put_kept hs ds k _ n e within one c.keep.ensures.same) (put_keeps hs ds k _ n (Kept c.args.buf ∷ []) e within one c.keep.ensures.slots))

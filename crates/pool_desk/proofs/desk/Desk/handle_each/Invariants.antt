@@ -1,6 +1,6 @@
 use Rattle.std.proofs.Common.{length}
 use Rattle.pool_desk.proofs.HandleLaws.{HandledOf}
-use Rattle.pool_desk.proofs.desk.Desk.handle_array.Given as goal
+use Rattle.pool_desk.proofs.desk.Desk.handle_each.Given as goal
 
 abbrev pub invariant-loop-buf : goal.invariant-loop-buf
 invariant-loop-buf l = HandledOf l.fn.self l.initial.array.items l.array.items l.self l.on
