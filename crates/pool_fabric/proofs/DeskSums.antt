@@ -17,7 +17,7 @@ use Rattle.pool_desk.specs.Homes.AtHome.{Kept, Fresh}
 use Rattle.pool_desk.specs.Slots.{places}
 use Rattle.pool_desk.specs.Desks.{DeskState}
 use Rattle.slot_chain.specs.Parcels.{ParcelState}
-use Rattle.pool_desk.specs.Steps.{Claims, AllocsClass, Frees, FreesAll, Handles, Caches, CachesAll, freed, passed_on, own, others}
+use Rattle.pool_desk.specs.Steps.{Claims, AllocsClass, Frees, FreesAll, Handles, LendsWhole, Caches, CachesAll, freed, passed_on, own, others}
 use Rattle.pool_desk.specs.declared.freed.Freed.{Freed}
 use Rattle.pool_desk.specs.declared.freed.Freed.TheVariants.{Home, Cached, Due}
 use Rattle.pool_fabric.specs.declared.ledger.DrawnChunk.{DrawnChunk}
@@ -75,6 +75,16 @@ gave_owed h old class b new a = given_drawn (of_chunk h) a.0.from b old.drawn ne
 
 pub gave_chunks : (g : DrawnChunk → ℕ) (old : DeskState) (class : ℕ) (b : Buffer) (new : DeskState) → AllocsClass old class (Ok b) new → drew g new ≡ drew g old
 gave_chunks g old class b new a = given_drawn (of_drawn g) a.0.from b old.drawn new.drawn (λ c n rest. refl) a.0.names
+
+-- buffers were given together
+pub gave_whole : (h : Slot → ℕ) (old : DeskState) (class : ℕ) (bs : List Buffer) (new : DeskState) → LendsWhole old class bs new → held h old ≡ held h new + weigh (of_buffer h) bs
+gave_whole h old class bs new a =
+    let kept : List AtHome = map {A = Buffer} {B = AtHome} (λ b. Kept b) bs in
+    let p = weigh-permutation (of_home h) old.home (kept ++ new.home) a.home in
+    let q = weigh-append (of_home h) kept new.home in
+    let m = weigh-map (of_home h) (λ (b : Buffer). Kept b) bs in
+    let s = ap (λ (d : DeskState). weigh (of_buffer h) d.cached) a.same in
+    omega arith
 
 freed_to : (h : Slot → ℕ) (old : DeskState) (b : Buffer) (new : DeskState) → Caches old b new → held h new ≡ held h old + h b.slot
 freed_to h old b new c =

@@ -6,11 +6,11 @@ use Rattle.region_cut.specs.declared.part.Part.{Part}
 use Rattle.slot_chain.specs.Buffer.{Buffer}
 use Rattle.pool_desk.specs.Desks.{DeskState}
 use Rattle.slot_chain.specs.Parcels.{ParcelState}
-use Rattle.pool_desk.specs.Steps.{Claims, AllocsClass, Frees, FreesAll}
+use Rattle.pool_desk.specs.Steps.{Claims, AllocsClass, Frees, FreesAll, LendsWhole}
 use Rattle.pool_desk.specs.declared.freed.Freed.{Freed}
 use Rattle.pool_fabric.specs.Weights.{weigh}
 use Rattle.pool_fabric.specs.Names.{Names, box_at}
-use Rattle.pool_fabric.specs.Pages.{PageState, drawn_for, lent_on, freed_on}
+use Rattle.pool_fabric.specs.Pages.{PageState, drawn_for, lent_on, lent_all_on, freed_on}
 use Rattle.pool_fabric.specs.Seats.{SeatState, AreSeatsBy}
 use Rattle.batch_inbox.specs.States.{TakeState}
 use Rattle.pool_fabric.specs.Accounts.{of_buffer, of_batch, of_home, of_chunk, of_drawn}
@@ -21,7 +21,7 @@ use Rattle.slot_chain.specs.Slots.{slot_of}
 use Rattle.pool_fabric.proofs.Sums.{weigh-append, weigh-snoc}
 use Rattle.pool_fabric.proofs.Columns.{map-snoc}
 use Rattle.std.proofs.lemmas.List.{map-append}
-use Rattle.pool_fabric.proofs.DeskSums.{claimed, claimed_chunk, gave, gave_owed, gave_chunks, got_all_back, got_all_back_drawn, got_back, got_back_drawn}
+use Rattle.pool_fabric.proofs.DeskSums.{claimed, claimed_chunk, gave, gave_owed, gave_chunks, gave_whole, got_all_back, got_all_back_drawn, got_back, got_back_drawn}
 use Rattle.pool_fabric.proofs.Posting.{length-sent_all, handled_stays, handled_sum, posted_sum}
 
 -- the pages are of the same holder
@@ -78,6 +78,29 @@ lends_keeps n s class b d page lent i a on more = record {
   chunks = λ g. gave_chunks g s.desk class b d a ∙ i.chunks g ∙ ap (λ (p : PageState). weigh g p.got) (sym on);
   loans = keeps_lent s.page page s.lent lent s.freed b i.loans on more;
   seated = reseat n s d page lent s.freed (ap (λ (x : DeskState). x.number) a.1) (ap (λ (x : DeskState). x.digits) a.1) (ap (λ (x : DeskState). x.limit) a.1)
+      (record { key = ap (λ (p : PageState). p.key) on; loans = ap (λ (p : PageState). p.loans) on; parts = ap (λ (p : PageState). p.parts) on; gave = ap (λ (p : PageState). p.gave) on }) i.seated;
+}
+
+keeps_lent_all : (p q : PageState) (lent more freed bs : List Buffer) → KeepsLoans p lent freed → q ≡ lent_all_on p (map slot_of bs) → more ≡ lent ++ bs → KeepsLoans q more freed
+keeps_lent_all p q lent more freed bs i e f = (
+  ap (λ (x : PageState). x.lent) e ∙ ap (λ l. l ++ map slot_of bs) i.0 ∙ sym (map-append slot_of lent bs) ∙ ap (map slot_of) (sym f),
+  ap (λ (x : PageState). x.freed) e ∙ i.1,
+)
+
+-- buffers are lent together
+pub lends_whole_keeps : (n : Names) (s : StationState) (class : ℕ) (bs : List Buffer) (d : DeskState) (page : PageState) (lent : List Buffer) → IsStation n s → LendsWhole s.desk class bs d
+    → page ≡ lent_all_on s.page (map slot_of bs) → lent ≡ s.lent ++ bs → IsStation n (record s { desk = d; page = page; lent = lent })
+lends_whole_keeps n s class bs d page lent i a on more = record {
+  slots = λ h.
+      let p = i.slots h in
+      let e = gave_whole h s.desk class bs d a in
+      let o = ap (λ (x : DeskState). weigh (of_chunk h) x.drawn) a.same in
+      let q = weigh-append (of_buffer h) s.lent bs in
+      let z = ap (weigh (of_buffer h)) more in
+      omega arith;
+  chunks = λ g. ap (λ (x : DeskState). weigh (of_drawn g) x.drawn) a.same ∙ i.chunks g ∙ ap (λ (p : PageState). weigh g p.got) (sym on);
+  loans = keeps_lent_all s.page page s.lent lent s.freed bs i.loans on more;
+  seated = reseat n s d page lent s.freed (ap (λ (x : DeskState). x.number) a.same) (ap (λ (x : DeskState). x.digits) a.same) (ap (λ (x : DeskState). x.limit) a.same)
       (record { key = ap (λ (p : PageState). p.key) on; loans = ap (λ (p : PageState). p.loans) on; parts = ap (λ (p : PageState). p.parts) on; gave = ap (λ (p : PageState). p.gave) on }) i.seated;
 }
 

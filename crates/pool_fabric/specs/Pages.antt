@@ -26,6 +26,10 @@ new_page key loans parts = record { key = key; loans = loans; parts = parts; gav
 abbrev pub lent_on : PageState → Slot → PageState
 lent_on p s = record p { lent = p.lent ++ s ∷ [] }
 
+-- slots were lent, one after the other
+abbrev pub lent_all_on : PageState → List Slot → PageState
+lent_all_on p ss = record p { lent = p.lent ++ ss }
+
 -- slots were taken back
 abbrev pub freed_on : PageState → List Slot → PageState
 freed_on p ss = record p { freed = p.freed ++ ss }

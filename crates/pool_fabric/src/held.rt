@@ -4,7 +4,7 @@ ghost use Rattle.slot_chain.specs.Counts.{capped, sizes};
 ghost use Rattle.region_cut.specs.Classes.{classes_of};
 ghost use Rattle.pool_desk.specs.Desks.{profile_at};
 ghost use Rattle.pool_desk.specs.HomesState.{HasClass};
-ghost use Rattle.pool_fabric.specs.Calls.{Lends, LendsClass, TakesAllBack, TakesBack};
+ghost use Rattle.pool_fabric.specs.Calls.{Lends, LendsClass, LendsParcel, TakesAllBack, TakesBack};
 
 use crate::buffer::Buffer;
 use crate::counted_notes::CountedNotes;
@@ -132,6 +132,24 @@ impl<'r, T: Receiver, S: Sender, J: Naming> HeldStation<'r, T, S, J> {
         self.lent = self.lent.and(&buf);
         let receipt = self.page.lend(buf.slot());
         Ok(Buffer::new(buf, receipt))
+    }
+
+    /// Lends buffers of this class into an empty parcel of its own, as [`Desk::lend_whole`] does.
+    pub fn lend_whole(
+        &mut self,
+        alloc: Global,
+        class: Class,
+        parcel: &mut Parcel<'r, J>,
+        most: usize,
+    ) -> bool
+        requires { parcel.old.owner ≡ self.old.desk.number }
+        ensures { LendsParcel self.old class most parcel.old result self.new parcel.new }
+    {
+        if !parcel.take_whole(&mut self.desk, &mut self.page, alloc, class, most) {
+            return false;
+        }
+        self.lent = self.lent.and_all(parcel.buffers());
+        true
     }
 
     /// Takes a buffer back, as [`Desk::free`] does.

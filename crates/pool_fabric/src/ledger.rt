@@ -4,8 +4,9 @@
 //! that what was given is what was got, each chunk for its class. Desks lend slots and take them back,
 //! and a page keeps its station's part of a ledger of loans beside that. Pages take no memory; only
 //! contracts see what is written on them.
-ghost use Rattle.std.specs.Prelude.{◌≡◌, ℕ, ◌+◌, ◌-◌, ◌<◌, ◌≤◌, [], ◌∷◌, ◌++◌, IfOk};
+ghost use Rattle.std.specs.Prelude.{◌≡◌, ℕ, ◌+◌, ◌-◌, ◌<◌, ◌≤◌, [], ◌∷◌, ◌++◌, map, IfOk};
 ghost use Rattle.region_cut.specs.declared.slot.Slot.{Slot};
+ghost use Rattle.slot_chain.specs.Slots.{slot_of};
 ghost use Rattle.pool_fabric.specs.Ledgers.{whole};
 ghost use Rattle.pool_fabric.specs.declared.ledger.DrawnChunk.{DrawnChunk};
 ghost use Rattle.pool_fabric.specs.Pages.{PageState, drawn_for, new_page};
@@ -15,7 +16,7 @@ use crossbeam_queue::protocol::{Join, Lesson, Protocol, Split};
 use crossbeam_queue::{RuledSegQueue, SegPass};
 use loan_ledger::{Loans, Receipt};
 use region_cut::{Class, Slot};
-use slot_chain::NoMemory;
+use slot_chain::{Buf, NoMemory};
 use std::alloc::Global;
 use std::collections::LinkedList;
 use std::marker::{Brand, Model, PhantomData};
@@ -278,6 +279,20 @@ impl Page {
         ensures receipt { result ≡ record { ledger = self.old.loans; slots = slot ∷ [] } }
     {
         self.loans.lend(slot)
+    }
+
+    /// Notes the loans of the slots of these buffers, one after the other. The receipt shows them all.
+    #[inline(always)]
+    pub fn lend_all(&mut self, buffers: &[Buf<'_>]) -> Receipt
+        requires { 0 < self.old.parts }
+        ensures page { self.new ≡ record self.old { lent = self.old.lent ++ map slot_of buffers.now } }
+        ensures receipt { result ≡ record { ledger = self.old.loans; slots = map slot_of buffers.now } }
+    {
+        let mut receipt = self.blank();
+        for buf in buffers {
+            receipt.merge(self.lend(buf.slot()));
+        }
+        receipt
     }
 
     /// Takes back the slots of a receipt, whoever lent them.

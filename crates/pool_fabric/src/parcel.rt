@@ -1,16 +1,22 @@
 //! Buffers of one allocator of a pool.
-ghost use Rattle.std.specs.Prelude.{◌≡◌, ◌<◌, ◌≤◌, ◌^◌, ◌↔◌, [], ◌∷◌, ◌++◌, length, map, IsTrue, MatchOption, MatchResult};
+ghost use Rattle.std.specs.Prelude.{◌≡◌, ◌<◌, ◌≤◌, ◌^◌, ◌↔◌, [], ◌∷◌, ◌++◌, length, map, IsTrue, MatchBool, MatchOption, MatchResult};
 ghost use Rattle.std.specs.Prelude.{Some, slice_get};
 ghost use Rattle.std.specs.Fn.{FnOnceReturnsAtMut};
 ghost use Rattle.region_cut.specs.Classes.{size_of};
 ghost use Rattle.slot_chain.specs.Filling.{data_of, holding};
 ghost use Rattle.slot_chain.specs.Parcels.{EditsAt, KeepsOut, Packs};
 ghost use Rattle.slot_chain.specs.Slots.{slot_of};
+ghost use Rattle.pool_desk.specs.Steps.{IsFilledUp, LendsWhole};
+ghost use Rattle.pool_fabric.specs.Pages.{lent_all_on};
 
 use crate::buffer::Buffer;
+use crate::ledger::Page;
 use crate::naming::Naming;
 use loan_ledger::Receipt;
+use pool_desk::Desk;
+use region_cut::Class;
 use slot_chain::{Buf, BufParcel};
+use std::alloc::Global;
 use std::fmt;
 use std::marker::{Model, PhantomData};
 
@@ -69,6 +75,29 @@ impl<'r, J: Naming> Parcel<'r, J> {
             of: _,
         } = self;
         (parcel, receipt)
+    }
+
+    /// Takes buffers of the class from its desk as [`Desk::lend_whole`] lends them, with their receipt.
+    pub(crate) fn take_whole(
+        &mut self,
+        desk: &mut Desk<'r>,
+        page: &mut Page,
+        alloc: Global,
+        class: Class,
+        most: usize,
+    ) -> bool
+        requires owner { self.old.owner ≡ desk.old.number }
+        requires page { (page.old.loans ≡ J.names.loans) × (0 < page.old.parts) }
+        ensures { MatchBool result
+            (LendsWhole desk.old class self.new.items desk.new × IsFilledUp most self.old self.new
+            × (page.new ≡ lent_all_on page.old (map slot_of self.new.items)))
+            ((desk.new ≡ desk.old) × (self.new ≡ self.old) × (page.new ≡ page.old)) }
+    {
+        if !desk.lend_whole(alloc, class, &mut self.parcel, most) {
+            return false;
+        }
+        self.receipt = page.lend_all(self.parcel.buffers());
+        true
     }
 
     /// The number of the allocator that made it: whose buffers it takes.

@@ -3,10 +3,13 @@ use Rattle.std.proofs.Common.{◌≡◌, ◌≢◌, ◌⊎◌, inl, inr, ⊎_eli
 use Rattle.std.specs.Prelude.{MatchResult, IfOk, replicate}
 use Rattle.std.proofs.lemmas.Bool.{cases_lt}
 use Rattle.std.proofs.lemmas.List.{length-append, length-map, map-append}
-use Rattle.std.proofs.lemmas.List.Elements.{All-append, All-cons, All-head, All-nil, All-tail}
+use Rattle.std.proofs.lemmas.List.Elements.{All-append, All-cons, All-head, All-nil, All-tail, All-weaker}
 use Rattle.slot_chain.specs.Buffer.{Buffer}
 use Rattle.slot_chain.specs.Filling.{data_of}
 use Rattle.slot_chain.specs.Parcels.{ParcelState, Packs, unforwarded}
+use Rattle.pool_desk.specs.Desks.{DeskState}
+use Rattle.pool_desk.specs.Homes.{IsReady}
+use Rattle.pool_fabric.specs.Calls.{LendsTogether}
 use Rattle.pool_fabric.specs.Names.{Names}
 use Rattle.pool_fabric.specs.Stations.{StationState}
 use Rattle.pool_jobs.specs.Bursts.{Fills, HasNoMore, LendsInto, TakesNone, WantsNoSlot, packed}
@@ -51,6 +54,38 @@ into_one names n c old p b new p' is s h = record {
   into = h.2;
 }
 
+all_unforwarded : (owner class : ℕ) (bs : List Buffer) → All (IsReady owner class) bs → map unforwarded bs ≡ bs
+all_unforwarded owner class [] h = refl
+all_unforwarded owner class (b ∷ bs) h =
+    let one : unforwarded b ≡ b = ap (λ n. record b { forwards = n }) (sym (All-head (IsReady owner class) b bs h).1) in
+    let rest = all_unforwarded owner class bs (All-tail (IsReady owner class) b bs h) in
+    rw (one, rest) refl
+
+-- all that came home together in an array
+pub into_whole : (names : Names) (n c count : ℕ) (old : StationState) (p : ParcelState) (new : StationState) (p' : ParcelState)
+    → IsClassFor names n c → old.desk.digits ≡ names.digits → LendsTogether old c count p new p' → LendsInto names n count old p (length p'.items) new p'
+into_whole names n c count old p new p' is digits h =
+    let a = h.desk in let bs = p'.items in
+    let owner : Buffer → Type 0 = λ b. b.owner ≡ old.desk.number in
+    let class : Buffer → Type 0 = λ b. IsClassFor names n b.class in
+    let empty : Buffer → Type 0 = λ b. b.filled ≡ 0 in
+    record {
+      buffers = bs;
+      lends = record {
+        desk = record { number = ap (λ (d : DeskState). d.number) a.same; digits = ap (λ (d : DeskState). d.digits) a.same ∙ digits };
+        class = All-weaker (IsReady old.desk.number c) class (λ b r. subst (λ k. IsClassFor names n k) (sym r.0.1) is) bs a.each;
+        owner = All-weaker (IsReady old.desk.number c) owner (λ b r. r.0.0) bs a.each;
+        empty = All-weaker (IsReady old.desk.number c) empty (λ b r. r.0.2) bs a.each;
+        lent = ap (λ (s : StationState). s.lent) h.same;
+        freed = ap (λ (s : StationState). s.freed) h.same;
+      };
+      number = refl;
+      most = h.parcel.most;
+      into =
+          h.parcel.same
+          ∙ ap (λ l. record p { items = l }) (sym (ap (λ l. l ++ map unforwarded bs) h.parcel.none ∙ all_unforwarded old.desk.number c bs a.each));
+    }
+
 -- some, and then more
 pub into_then : (names : Names) (n a c count : ℕ) (old mid new : StationState) (p q r : ParcelState) (k j : ℕ)
     → k + j ≤ count → LendsInto names n a old p k mid q → LendsInto names n c mid q j new r → LendsInto names n count old p (k + j) new r
@@ -88,6 +123,26 @@ into_kept names n count old mid new p q k h s =
         empty = l.empty;
         lent = s.lent ∙ l.lent;
         freed = s.freed ∙ l.freed;
+      };
+      number = h.number;
+      most = h.most;
+      into = h.into;
+    }
+
+-- nothing was lent before
+pub into_after : (names : Names) (n count : ℕ) (old mid new : StationState) (p q : ParcelState) (k : ℕ)
+    → Keeps names old mid → LendsInto names n count mid p k new q → LendsInto names n count old p k new q
+into_after names n count old mid new p q k s h =
+    let l = h.lends in
+    record {
+      buffers = h.buffers;
+      lends = record {
+        desk = record { number = l.desk.number ∙ s.desk.number; digits = l.desk.digits };
+        class = l.class;
+        owner = λ i d lt. l.owner i d lt ∙ s.desk.number;
+        empty = l.empty;
+        lent = l.lent ∙ ap (λ bs. bs ++ h.buffers) s.lent;
+        freed = l.freed ∙ s.freed;
       };
       number = h.number;
       most = h.most;

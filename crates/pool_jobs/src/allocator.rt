@@ -33,7 +33,7 @@ const LOOK_EVERY: u64 = 64;
 pub struct Allocator<'a, 'r, M: Mailbox, T: Receiver, S: Sender, G: Gate, J: Naming> {
     fabric: &'a Fabric<'r, M, T, S, J>,
     gate: &'a G,
-    alloc: Global,
+    pub(crate) alloc: Global,
     worker: u32,
     // How many calls the gate was told of.
     calls: u64,

@@ -1,7 +1,9 @@
 //! Parcels that are filled by one call.
 ghost use Rattle.std.specs.Prelude.{◌≡◌, ◌≢◌, ◌+◌, ◌≤◌, ◌<◌, ◌⊎◌, ◌↔◌, length, IsTrue, IfOk, MatchResult};
 ghost use Rattle.pool_jobs.specs.Bursts.{Fills, HasNoMore, LendsInto, WantsNoSlot};
-ghost use Rattle.pool_jobs.specs.Serving.{IsClassFor, ServesClass};
+ghost use Rattle.pool_jobs.specs.Serving.{IsClassFor, Keeps, ServesClass};
+ghost use Rattle.region_cut.specs.Classes.{classes_of};
+ghost use Rattle.digit_route.specs.Profiles.{profile_of};
 ghost use Rattle.pool_jobs.specs.declared.error.PoolError.TheVariants.{UsedUp};
 
 use crate::allocator::{Allocator, recall};
@@ -30,6 +32,10 @@ impl<
     ///
     /// An error comes where not one buffer was lent, and is that of [`Allocator::alloc`]. The parcel is
     /// then as it was.
+    ///
+    /// A parcel that was freed as a whole, with buffers of one class, is lent again as a whole, where it has
+    /// as many places as this one and this one is empty: its array takes the place of this one's, and no
+    /// buffer is looked at.
     #[inline]
     pub fn fill<R: Wait>(
         &mut self,
@@ -121,10 +127,8 @@ impl<
             (λ e. ServesClass J.names self.old class (Err e) self.new × (parcel.new ≡ parcel.old)) }
         ensures ends { IfOk result (λ n. (n ≡ most) ⊎ ((n ≢ 0) × HasNoMore class self.new)) }
     {
-        if self.is_to_look(most as u64) {
-            self.fetch(rt, class);
-        }
-        let mut lent = 0;
+        self.look(rt, class, most);
+        let mut lent = self.lend_whole(parcel, size, class, most);
         while lent < most {
             match self.lend_into(rt, parcel, size, class) {
                 Ok(()) => lent += 1,
@@ -137,6 +141,43 @@ impl<
             }
         }
         Ok(lent)
+    }
+
+    // Takes what came, where it is time for a look or no slot of the class is at home.
+    fn look<R: Wait>(&mut self, rt: &R, class: Class, most: usize)
+        requires class { class < classes_of (profile_of J.names.digits.bits) }
+        requires digits { self.old.desk.digits ≡ J.names.digits }
+        ensures { Keeps J.names self.old self.new }
+    {
+        if most == 0 {
+            return;
+        }
+        if self.is_to_look(most as u64) || !self.station.has_home(class) {
+            self.fetch(rt, class);
+        }
+    }
+
+    // Lends buffers of the class that a size has into the parcel, as they came home together in an array, and
+    // says how many: none where no such array is there.
+    fn lend_whole(
+        &mut self,
+        parcel: &mut Parcel<'r, J>,
+        size: usize,
+        class: Class,
+        most: usize,
+    ) -> usize
+        requires class { IsClassFor J.names size class }
+        requires digits { self.old.desk.digits ≡ J.names.digits }
+        requires own { 0 < most → parcel.old.owner ≡ self.old.desk.number }
+        ensures { LendsInto J.names size most self.old parcel.old result self.new parcel.new }
+    {
+        if most == 0 {
+            return 0;
+        }
+        if !self.station.lend_whole(self.alloc, class, parcel, most) {
+            return 0;
+        }
+        parcel.len()
     }
 
     // Lends a buffer of the class that a size has to the end of the parcel.

@@ -1,13 +1,9 @@
-use Rattle.std.proofs.Common.{◌<◌, inr, refl, arith}
-use Rattle.pool_jobs.proofs.Bursts.{class_some, into_none, into_then, keeps_same}
+use Rattle.std.proofs.Common.{◌<◌, inr, arith}
+use Rattle.pool_jobs.proofs.Bursts.{class_some, into_after, into_then}
 use Rattle.pool_jobs.proofs.allocator.Allocator.fill_class.Goals as goal
-use Rattle.pool_jobs.proofs.allocator.Allocator.fill_class.Goals.{then-is_to_look, else-is_to_look}
 
 pub loop-lent-init : goal.loop-lent-init
-loop-lent-init g c = elim c.if-is_to_look.branch [
-  | then-is_to_look w ↦ rw w.self-is (into_none _ _ _ _ _ _ w.fetch.ensures)
-  | else-is_to_look w ↦ rw w.self-is (into_none _ _ _ _ _ _ (keeps_same _ _ _ refl c.requires.digits))
-]
+loop-lent-init g c = into_after _ _ _ _ _ _ _ _ _ c.look.ensures c.lend_whole-lent.ensures
 
 pub loop-lent-preserved : goal.loop-lent-preserved
 loop-lent-preserved g c =
