@@ -1,9 +1,10 @@
 -- The chunks of a desk through the calls that leave them.
-use Rattle.std.proofs.Common.{◌≡◌, ℕ, List, Option, Result, Ok, Err, ap}
+use Rattle.std.proofs.Common.{◌≡◌, ℕ, Bool, true, false, List, Option, Result, Ok, Err, ap}
+use Rattle.std.specs.Prelude.{MatchBool}
 use Rattle.slot_chain.specs.Buffer.{Buffer}
 use Rattle.slot_chain.specs.Parcels.{ParcelState}
 use Rattle.pool_desk.specs.Desks.{DeskState}
-use Rattle.pool_desk.specs.Steps.{AllocsClass, Frees, FreesAll}
+use Rattle.pool_desk.specs.Steps.{AllocsClass, Frees, FreesAll, IsFilledUp, LendsWhole}
 use Rattle.pool_desk.specs.declared.error.DeskError.{DeskError}
 use Rattle.pool_desk.specs.declared.freed.Freed.{Freed}
 use Rattle.pool_desk.specs.declared.freed.Freed.TheVariants.{Home, Cached, Due}
@@ -21,6 +22,12 @@ pub free_all_keeps : (old : DeskState) (p : ParcelState) (r : Freed) (new : Desk
 free_all_keeps old p Home new f = ap (λ (d : DeskState). d.drawn) f.1
 free_all_keeps old p Cached new f = ap (λ (d : DeskState). d.drawn) f.0.1
 free_all_keeps old p Due new f = ap (λ (d : DeskState). d.drawn) f.0.1
+
+-- an array of buffers was asked for
+pub whole_keeps : (old : DeskState) (class most : ℕ) (p q : ParcelState) (r : Bool) (new : DeskState)
+    → MatchBool r (LendsWhole old class q.items new × IsFilledUp most p q) ((new ≡ old) × (q ≡ p)) → new.drawn ≡ old.drawn
+whole_keeps old class most p q true new f = ap (λ (d : DeskState). d.drawn) f.0.same
+whole_keeps old class most p q false new f = ap (λ (d : DeskState). d.drawn) f.0
 
 -- a slot was asked for
 pub alloc_noted : (notes : List (Option ℕ)) (old : DeskState) (c : ℕ) (r : Result Buffer DeskError) (new : DeskState) → AllocsClass old c r new

@@ -163,18 +163,71 @@ impl<'r> Station<'r> {
         self.fill_up(parcel, size, count)
     }
 
-    // Lends so many buffers into a parcel, or those that it can.
+    // Lends at most so many buffers into an empty parcel of its desk, as they came home together in an array,
+    // and says how many: none where no such array is there.
+    fn lend_whole(&mut self, parcel: &mut BufParcel<'r>, size: usize, count: usize) -> usize
+        requires { parcel.old.owner ≡ self.old.desk.number }
+        ensures station { IsSameStation self.old self.new }
+        ensures adds { Adds size result parcel.old parcel.new }
+        ensures most { result ≤ count }
+    {
+        if count == 0 || !parcel.is_empty() {
+            return 0;
+        }
+        let Some(class) = Profile::Pool.class_for(size) else {
+            return 0;
+        };
+        if self.is_to_fetch(class) {
+            self.fetch(class);
+        }
+        self.lend_array(parcel, size, class, count)
+    }
+
+    // The same, of a class that holds so many bytes.
+    fn lend_array(
+        &mut self,
+        parcel: &mut BufParcel<'r>,
+        size: usize,
+        class: Class,
+        count: usize,
+    ) -> usize
+        requires owner { parcel.old.owner ≡ self.old.desk.number }
+        requires size { size ≤ size_of class }
+        ensures station { IsSameStation self.old self.new }
+        ensures adds { Adds size result parcel.old parcel.new }
+        ensures most { result ≤ count }
+    {
+        let is_lent = self.desk.lend_whole(self.alloc, class, parcel, count);
+        if !is_lent {
+            return 0;
+        }
+        let lent = parcel.len();
+        self.count_lent(lent as u64);
+        lent
+    }
+
+    // Counts buffers that were lent together.
+    fn count_lent(&mut self, count: u64)
+        ensures { IsSameStation self.old self.new }
+    {
+        self.lent = self.lent.wrapping_add(count);
+        self.since = self.since.wrapping_add(count);
+    }
+
+    // Lends so many buffers into a parcel of its desk, or those that it can.
     fn fill_up(
         &mut self,
         parcel: &mut BufParcel<'r>,
         size: usize,
         count: usize,
     ) -> Result<(), Refusal>
+        requires { parcel.old.owner ≡ self.old.desk.number }
         ensures station { IsSameStation self.old self.new }
         ensures adds { MatchResult result (λ _. Adds size count parcel.old parcel.new)
             (λ _. (n : ℕ) × (n ≤ count) × Adds size n parcel.old parcel.new) }
     {
-        for lent in 0..count {
+        let mut lent = self.lend_whole(parcel, size, count);
+        while lent < count {
             if parcel.is_full() {
                 return Err(Refusal::Full);
             }
@@ -183,6 +236,7 @@ impl<'r> Station<'r> {
                 self.keep(buf);
                 return Err(Refusal::Full);
             }
+            lent += 1;
         }
         Ok(())
     }
