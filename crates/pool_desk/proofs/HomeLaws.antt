@@ -15,9 +15,10 @@ use Rattle.region_cut.specs.Bumps.{left_of, part_of, HoldsPart, GivesNext}
 use Rattle.region_cut.specs.Classes.{slots_of, size_of}
 use Rattle.slot_chain.specs.Buffer.{Buffer}
 use Rattle.slot_chain.specs.Filling.{emptied}
+use Rattle.slot_chain.specs.Parcels.{IsPackedOf}
 use Rattle.pool_desk.specs.declared.error.DeskError.{DeskError}
 use Rattle.pool_desk.specs.NextSlots.{GivesNextSlot}
-use Rattle.pool_desk.specs.Homes.{HomeState, IsRefused, AtHome, IsAlike, IsAtHome, IsReady, LiesIn, comes_home, unused_from, unused_of, IsUnused, GivesOne, Draws, taken_next}
+use Rattle.pool_desk.specs.Homes.{HomeState, IsRefused, AtHome, IsAtHome, IsReady, LiesIn, comes_home, unused_from, unused_of, IsUnused, GivesOne, Draws, taken_next}
 use Rattle.region_cut.specs.Carved.{Carved, carved_of}
 use Rattle.pool_desk.specs.Homes.AtHome.{Kept, Fresh}
 use Rattle.pool_desk.specs.Spares.{IsFitting}
@@ -165,8 +166,11 @@ all_append P xs ys h = (
   All-weaker (Contains ys) P (λ x c. All-contains P (xs ++ ys) x h (Contains-append_right xs ys x c)) ys (All-contains_itself ys),
 )
 
+lies : (owner class : ℕ) (b : Buffer) → IsReady owner class b → LiesIn owner class b
+lies owner class b r = (r.0.0.0, r.0.1, r.1)
+
 pub ready_lies : (owner class : ℕ) (bs : List Buffer) → All (IsReady owner class) bs → All (LiesIn owner class) bs
-ready_lies owner class bs h = All-weaker (IsReady owner class) (LiesIn owner class) (λ x r. r.0) bs h
+ready_lies owner class bs h = All-weaker (IsReady owner class) (LiesIn owner class) (lies owner class) bs h
 
 -- the buffers of the array that was taken apart
 apart_parts : (owner class : ℕ) (whole list : List Buffer) (b : Buffer) (whole' list' : List Buffer) → TakesApart whole list b whole' list'
@@ -177,7 +181,7 @@ apart_parts owner class whole list b whole' list' t h g =
     let rest = all_append (IsReady owner class) t.rest (b ∷ []) both.1 in (
       All-permutation (LiesIn owner class) (list ++ t.rest) list' t.listed (All-append (LiesIn owner class) list t.rest g (ready_lies owner class t.rest rest.0)),
       both.0,
-      (All-end (IsReady owner class) t.rest b both.1).0,
+      lies owner class b (All-end (IsReady owner class) t.rest b both.1),
     )
 
 pub apart_keeps : (owner class : ℕ) (whole list : List Buffer) (b : Buffer) (whole' list' : List Buffer) → TakesApart whole list b whole' list'
@@ -200,17 +204,16 @@ gives_apart owner class whole list b whole' list' us drawn t h g =
 pub ready_home : (owner class : ℕ) (bs : List Buffer) → All (IsReady owner class) bs → All (IsAtHome owner class) (map {A = Buffer} {B = AtHome} (λ x. Kept x) bs)
 ready_home owner class [] h = All-nil _
 ready_home owner class (b ∷ bs) h =
-    All-cons (IsAtHome owner class) (Kept b) _ (h 0 b (omega arith)).0 (ready_home owner class bs (λ k d l. h (suc k) d (omega (arith, l))))
+    All-cons (IsAtHome owner class) (Kept b) _ (lies owner class b (h 0 b (omega arith))) (ready_home owner class bs (λ k d l. h (suc k) d (omega (arith, l))))
 
 -- own buffers of a class are emptied, and may then be lent as they lie
-pub alike_ready : (owner class : ℕ) (bs : List Buffer) → All (IsAlike owner class) bs → All (IsReady owner class) (map emptied bs)
-alike_ready owner class [] h = All-nil _
-alike_ready owner class (b ∷ bs) h =
-    let one = h 0 b (omega arith) in
-    All-cons (IsReady owner class) (emptied b) _ ((one.0, one.1, refl), one.2) (alike_ready owner class bs (λ k d l. h (suc k) d (omega (arith, l))))
+pub packed_ready : (owner class : ℕ) (bs : List Buffer) → All (IsPackedOf owner class) bs → All (IsReady owner class) (map emptied bs)
+packed_ready owner class [] h = All-nil _
+packed_ready owner class (b ∷ bs) h =
+    All-cons (IsReady owner class) (emptied b) _ (h 0 b (omega arith), refl) (packed_ready owner class bs (λ k d l. h (suc k) d (omega (arith, l))))
 
-pub alike_own : (owner class : ℕ) (bs : List Buffer) → All (IsAlike owner class) bs → All (λ (b : Buffer). b.owner ≡ owner) bs
-alike_own owner class bs h = All-weaker (IsAlike owner class) (λ (b : Buffer). b.owner ≡ owner) (λ x r. r.0) bs h
+pub packed_own : (owner class : ℕ) (bs : List Buffer) → All (IsPackedOf owner class) bs → All (λ (b : Buffer). b.owner ≡ owner) bs
+packed_own owner class bs h = All-weaker (IsPackedOf owner class) (λ (b : Buffer). b.owner ≡ owner) (λ x r. r.0.0) bs h
 
 pub emptied_home : (bs : List Buffer) → map {A = Buffer} {B = AtHome} (λ x. Kept x) (map emptied bs) ≡ map comes_home bs
 emptied_home [] = refl

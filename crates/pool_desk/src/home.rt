@@ -174,8 +174,8 @@ impl<'r> Home<'r> {
         ensures same { self.new ≡ record self.old { slots = self.new.slots } }
         ensures slots { IsPermutation (map Kept array.entry.items ++ self.old.slots) self.new.slots }
     {
-        if let Some(array) = self.whole.put(array) {
-            link_each(&mut self.list, array);
+        if let Some(mut array) = self.whole.put(array) {
+            link_all(&mut self.list, &mut array);
         }
     }
 
@@ -267,14 +267,6 @@ fn take_apart<'r>(
     link_all(list, &mut array);
     spares.keep(array);
     Some(buf)
-}
-
-// Puts the buffers that an array names into the list.
-fn link_each<'r>(list: &mut Chain<'r>, array: Vec<Buf<'r>>)
-    ensures { IsPermutation (list.old ++ array.entry.items) list.new }
-{
-    let mut array = array;
-    link_all(list, &mut array);
 }
 
 // Puts the buffers that an array names into the list, and leaves it empty.

@@ -5,7 +5,8 @@ ghost use Rattle.region_cut.specs.Classes.{slots_of};
 ghost use Rattle.slot_chain.specs.Buffer.{Buffer, ended_of, owner_limit};
 ghost use Rattle.slot_chain.specs.Counts.{capped};
 ghost use Rattle.slot_chain.specs.Filling.{emptied};
-ghost use Rattle.pool_desk.specs.Homes.{Draws, GivesOne, IsAlike, IsOwn, IsReady, comes_home, kept_in, slot_at, unused_from};
+ghost use Rattle.slot_chain.specs.Parcels.{IsPackedOf};
+ghost use Rattle.pool_desk.specs.Homes.{Draws, GivesOne, IsOwn, IsReady, comes_home, kept_in, slot_at, unused_from};
 ghost use Rattle.pool_desk.specs.Spares.{IsFitting};
 ghost use Rattle.pool_desk.specs.Homes.AtHome.{Kept};
 ghost use Rattle.slot_chain.specs.Slots.{AddsSlots};
@@ -227,7 +228,7 @@ impl<'r> Homes<'r> {
 
 // Whether all buffers are of this owner and class, and none was passed on.
 fn are_alike(buffers: &[Buf<'_>], owner: u16, class: Class) -> bool
-    ensures { IsTrue result → All (IsAlike owner class) buffers.now }
+    ensures { IsTrue result → All (IsPackedOf owner class) buffers.now }
 {
     for buf in buffers {
         if buf.owner() != owner || buf.class() != class || buf.forwards() != 0 {

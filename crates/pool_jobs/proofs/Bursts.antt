@@ -57,7 +57,7 @@ into_one names n c old p b new p' is s h = record {
 all_unforwarded : (owner class : ℕ) (bs : List Buffer) → All (IsReady owner class) bs → map unforwarded bs ≡ bs
 all_unforwarded owner class [] h = refl
 all_unforwarded owner class (b ∷ bs) h =
-    let one : unforwarded b ≡ b = ap (λ n. record b { forwards = n }) (sym (All-head (IsReady owner class) b bs h).1) in
+    let one : unforwarded b ≡ b = ap (λ n. record b { forwards = n }) (sym (All-head (IsReady owner class) b bs h).0.0.1) in
     let rest = all_unforwarded owner class bs (All-tail (IsReady owner class) b bs h) in
     rw (one, rest) refl
 
@@ -74,8 +74,8 @@ into_whole names n c count old p new p' is digits h =
       lends = record {
         desk = record { number = ap (λ (d : DeskState). d.number) a.same; digits = ap (λ (d : DeskState). d.digits) a.same ∙ digits };
         class = All-weaker (IsReady old.desk.number c) class (λ b r. subst (λ k. IsClassFor names n k) (sym r.0.1) is) bs a.each;
-        owner = All-weaker (IsReady old.desk.number c) owner (λ b r. r.0.0) bs a.each;
-        empty = All-weaker (IsReady old.desk.number c) empty (λ b r. r.0.2) bs a.each;
+        owner = All-weaker (IsReady old.desk.number c) owner (λ b r. r.0.0.0) bs a.each;
+        empty = All-weaker (IsReady old.desk.number c) empty (λ b r. r.1) bs a.each;
         lent = ap (λ (s : StationState). s.lent) h.same;
         freed = ap (λ (s : StationState). s.freed) h.same;
       };
