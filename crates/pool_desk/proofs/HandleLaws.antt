@@ -1,9 +1,9 @@
 -- The steps of handling a batch.
 use Rattle.std.proofs.Common.{◌≡◌, ℕ, suc, ◌+◌, ◌-◌, ◌^◌, true, false, eqb, List, [], ◌∷◌, ◌++◌, refl, sym, ap, subst, ◌∙◌, arith, append_assoc, append-nil, All, IsPermutation, map}
-use Rattle.std.specs.Prelude.{Bool, Contains, MatchBool, ◌<◌, ◌≤◌, length}
+use Rattle.std.specs.Prelude.{Bool, Contains, ◌<◌, ◌≤◌, length}
 use Rattle.std.proofs.lemmas.Bool.{eq-eqb, ne_eqb}
 use Rattle.std.proofs.lemmas.List.{length-append, map-append}
-use Rattle.std.proofs.lemmas.List.Elements.{All-weaker, All-contains, All-contains_itself, Contains-append_left, Contains-append_right, Contains-push, filter-append}
+use Rattle.std.proofs.lemmas.List.Elements.{All-cons, All-nil, All-weaker, All-contains, All-contains_itself, Contains-append_left, Contains-append_right, Contains-push, filter-append}
 use Rattle.std.proofs.lemmas.List.Sorted.{IsPermutation-refl, IsPermutation-trans, IsPermutation-append_right}
 use Rattle.slot_chain.specs.Buffer.{Buffer}
 use Rattle.slot_chain.specs.Counts.{capped}
@@ -65,22 +65,8 @@ Handles-other old mid new done b h g =
       cached = rw test (more (passed_on b) _ old.cached mid.cached new.cached h.cached g.cached);
     }
 
--- one buffer
-pub Handles-one : (r : Bool) (old new : DeskState) (b : Buffer) → MatchBool r (GoesHome old b new) (GoesOn old b new) → Handles old (b ∷ []) new
-Handles-one true old new b g = Handles-own old old new [] b (Handles-none old) g
-Handles-one false old new b g = Handles-other old old new [] b (Handles-none old) g
-
 pub Adds-none : (a : ℕ) (c : Counts) → c.home < 2 ^ 64 → c.on < 2 ^ 64 → Adds a [] c c
 Adds-none a c h o = record { home = omega arith; on = omega arith }
-
-pub Adds-one : (r : Bool) (old new : DeskState) (b : Buffer) (c c' : Counts) → MatchBool r (GoesHome old b new) (GoesOn old b new)
-    → MatchBool r (c' ≡ record c { home = capped (c.home + 1) }) (c' ≡ record c { on = capped (c.on + 1) }) → c.home < 2 ^ 64 → c.on < 2 ^ 64 → Adds old.number (b ∷ []) c c'
-Adds-one true old new b c c' g e h o =
-    let test : eqb b.owner old.number ≡ true = eq-eqb _ _ g.own in
-    record { home = rw (e, test) refl; on = rw (e, test) (omega arith) }
-Adds-one false old new b c c' g e h o =
-    let test : eqb b.owner old.number ≡ false = ne_eqb _ _ g.other in
-    record { home = rw (e, test) (omega arith); on = rw (e, test) refl }
 
 -- some, and then those before them
 pub Handles-join : (old mid new : DeskState) (xs ys : List Buffer) → Handles old xs mid → Handles mid ys new → Handles old (ys ++ xs) new
@@ -126,37 +112,42 @@ pub record HandledOf (old : DeskState) (array rest : List Buffer) (new : DeskSta
 pub HandledOf-none : (d : DeskState) (array : List Buffer) → All (IsPassed d.digits d.number) array → HandledOf d array array d 0
 HandledOf-none d array p = record { done = []; parts = sym (append-nil array); handled = Handles-none d; on_is = refl; most = omega arith; passed = p }
 
--- one buffer more came home
-pub HandledOf-home : (old mid new : DeskState) (array left rest : List Buffer) (b : Buffer) (on : ℕ) → HandledOf old array left mid on → left ≡ rest ++ b ∷ []
-    → GoesHome mid b new → HandledOf old array rest new on
-HandledOf-home old mid new array left rest b on h is g =
-    let number : mid.number ≡ old.number = ap (λ (d : DeskState). d.number) h.handled.same in
-    let test : eqb b.owner old.number ≡ true = eq-eqb _ _ (g.own ∙ number) in
+-- one buffer more, of which it is known whether it is passed on
+HandledOf-more : (old mid new : DeskState) (array left rest : List Buffer) (b : Buffer) (on on' : ℕ) (h : HandledOf old array left mid on) → left ≡ rest ++ b ∷ []
+    → Handles old (b ∷ h.done) new → on' ≡ length (others old.number (b ∷ h.done)) → on' ≤ on + 1 → HandledOf old array rest new on'
+HandledOf-more old mid new array left rest b on on' h is handled on_is le =
     let len = length-append rest (b ∷ []) in let most = rw is at h.most in
     record {
       done = b ∷ h.done;
       parts = h.parts ∙ (ap (λ l. l ++ h.done) is ∙ append_assoc rest (b ∷ []) h.done);
-      handled = Handles-own old mid new h.done b h.handled g;
-      on_is = rw test h.on_is;
-      most = omega (arith, len, most);
+      handled = handled;
+      on_is = on_is;
+      most = omega (arith, len, most, le);
       passed = All-append_left (IsPassed old.digits old.number) rest (b ∷ []) (rw is at h.passed);
     }
+
+-- one buffer more came home
+pub HandledOf-home : (old mid new : DeskState) (array left rest : List Buffer) (b : Buffer) (on : ℕ) → HandledOf old array left mid on → left ≡ rest ++ b ∷ []
+    → GoesHome mid b new → HandledOf old array rest new on
+HandledOf-home old mid new array left rest b on h is g =
+    let test : eqb b.owner old.number ≡ true = eq-eqb _ _ (g.own ∙ ap (λ (d : DeskState). d.number) h.handled.same) in
+    HandledOf-more old mid new array left rest b on on h is (Handles-own old mid new h.done b h.handled g) (rw test h.on_is) (omega arith)
 
 -- one buffer more is passed on
 pub HandledOf-on : (old mid new : DeskState) (array left rest : List Buffer) (b : Buffer) (on : ℕ) → HandledOf old array left mid on → left ≡ rest ++ b ∷ []
     → GoesOn mid b new → HandledOf old array rest new (on + 1)
 HandledOf-on old mid new array left rest b on h is g =
+    let test : eqb b.owner old.number ≡ false = ne_eqb _ _ (λ e. g.other (e ∙ sym (ap (λ (d : DeskState). d.number) h.handled.same))) in
+    let on_is = h.on_is in
+    HandledOf-more old mid new array left rest b on (on + 1) h is (Handles-other old mid new h.done b h.handled g) (rw test (omega (arith, on_is))) (omega arith)
+
+-- where the last of what is left is another's, it may be passed on
+pub last_passed_of : (old mid : DeskState) (array left rest : List Buffer) (b : Buffer) (on : ℕ) → HandledOf old array left mid on → left ≡ rest ++ b ∷ []
+    → IsPassed mid.digits mid.number b
+last_passed_of old mid array left rest b on h is =
     let number : mid.number ≡ old.number = ap (λ (d : DeskState). d.number) h.handled.same in
-    let test : eqb b.owner old.number ≡ false = ne_eqb _ _ (λ e. g.other (e ∙ sym number)) in
-    let len = length-append rest (b ∷ []) in let most = rw is at h.most in let on_is = h.on_is in
-    record {
-      done = b ∷ h.done;
-      parts = h.parts ∙ (ap (λ l. l ++ h.done) is ∙ append_assoc rest (b ∷ []) h.done);
-      handled = Handles-other old mid new h.done b h.handled g;
-      on_is = rw test (omega (arith, on_is));
-      most = omega (arith, len, most);
-      passed = All-append_left (IsPassed old.digits old.number) rest (b ∷ []) (rw is at h.passed);
-    }
+    let digits : mid.digits ≡ old.digits = ap (λ (d : DeskState). d.digits) h.handled.same in
+    rw (number, digits) (All-last (IsPassed old.digits old.number) rest b (rw is at h.passed))
 
 -- each buffer is a's own, or it isn't
 own_or_not_one : (a : ℕ) (b : Buffer) (bs : List Buffer) (r : Bool) → eqb b.owner a ≡ r → length (own a bs) + length (others a bs) ≡ length bs
@@ -219,14 +210,20 @@ Handled-none d c batch h o p = record {
   passed = p;
 }
 
--- one buffer more, the last of what is left
-pub Handled-one : (r : Bool) (old mid new : DeskState) (batch left rest : List Buffer) (b : Buffer) (c d e : Counts) → Handled old c batch left mid d → left ≡ rest ++ b ∷ []
-    → MatchBool r (GoesHome mid b new) (GoesOn mid b new) → MatchBool r (e ≡ record d { home = capped (d.home + 1) }) (e ≡ record d { on = capped (d.on + 1) }) → Handled old c batch rest new e
-Handled-one r old mid new batch left rest b c d e h is g counts =
-    let m = h.counted.home in
-    let o = h.counted.on in
-    let h' : Handled old c batch (rest ++ b ∷ []) mid d = rw is at h in
-    Handled-more old mid new batch rest (b ∷ []) c d e h' (Handles-one r mid new b g) (Adds-one r mid new b d e g counts (omega arith) (omega arith))
+-- one buffer more, the last of what is left, came home
+pub Handled-home : (old mid new : DeskState) (batch left rest : List Buffer) (b : Buffer) (c d e : Counts) → Handled old c batch left mid d → left ≡ rest ++ b ∷ []
+    → GoesHome mid b new → e.home ≡ capped (d.home + 1) → e.on ≡ capped (d.on + 0) → Handled old c batch rest new e
+Handled-home old mid new batch left rest b c d e h is g home on =
+    Handled-more old mid new batch rest (b ∷ []) c d e (rw is at h) (Handles-own mid mid new [] b (Handles-none mid) g)
+    (Adds-own mid.number (b ∷ []) d e (All-cons (λ (x : Buffer). x.owner ≡ mid.number) b [] g.own (All-nil _)) home on)
+
+-- one buffer more, the last of what is left, is passed on
+pub Handled-on : (old mid new : DeskState) (batch left rest : List Buffer) (b : Buffer) (c d e : Counts) → Handled old c batch left mid d → left ≡ rest ++ b ∷ []
+    → GoesOn mid b new → e.home ≡ capped (d.home + 0) → e.on ≡ capped (d.on + 1) → Handled old c batch rest new e
+Handled-on old mid new batch left rest b c d e h is g home on =
+    let test : eqb b.owner mid.number ≡ false = ne_eqb _ _ g.other in
+    Handled-more old mid new batch rest (b ∷ []) c d e (rw is at h) (Handles-other mid mid new [] b (Handles-none mid) g)
+    (record { home = rw test home; on = rw test on })
 
 -- the last of what is left may be handled by the desk as it is now
 pub last_passed : (old mid : DeskState) (batch left rest : List Buffer) (b : Buffer) (c d : Counts) → Handled old c batch left mid d → left ≡ rest ++ b ∷ [] → IsPassed mid.digits mid.number b

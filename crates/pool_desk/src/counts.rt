@@ -1,5 +1,5 @@
 //! What became of a batch.
-ghost use Rattle.std.specs.Prelude.{◌≡◌, ◌+◌, MatchBool};
+ghost use Rattle.std.specs.Prelude.{◌≡◌, ◌+◌};
 ghost use Rattle.slot_chain.specs.Counts.{capped};
 
 /// How many buffers of a batch came home, and how many are passed on, each at most the greatest
@@ -13,18 +13,6 @@ pub struct Counts {
 }
 
 impl Counts {
-    /// One more came home, or is passed on.
-    pub(crate) fn count(&mut self, is_home: bool)
-        ensures { MatchBool is_home (self.new ≡ record self.old { home = capped (self.old.home + 1) })
-            (self.new ≡ record self.old { on = capped (self.old.on + 1) }) }
-    {
-        if is_home {
-            self.home = self.home.saturating_add(1);
-        } else {
-            self.on = self.on.saturating_add(1);
-        }
-    }
-
     /// So many more came home, and so many more are passed on.
     pub(crate) fn plus(self, home: usize, on: usize) -> Counts
         ensures home { result.home ≡ capped (self.home + home) }

@@ -276,24 +276,37 @@ impl<'r> Desk<'r> {
         self.spares.parcel(alloc, self.cache.number(), places)
     }
 
-    // Takes an own buffer of a batch home, and puts another into the cache with one more forward.
-    fn handle_one(&mut self, buf: Buf<'r>) -> bool
-        requires { buf.owner ≢ self.old.number → IsPassed self.old.digits self.old.number buf }
-        ensures { MatchBool result (GoesHome self.old buf.entry self.new) (GoesOn self.old buf.entry self.new) }
+    // Whether it is the desk's own.
+    fn owns(&self, buf: &Buf<'r>) -> bool
+        ensures { IsTrue result ↔ (buf.now.owner ≡ self.now.number) }
+    {
+        buf.owner() == self.cache.number()
+    }
+
+    // Takes an own buffer of a batch home.
+    fn take_home(&mut self, buf: Buf<'r>)
+        requires { buf.owner ≡ self.old.number }
+        ensures { GoesHome self.old buf.entry self.new }
     {
         let mut buf = buf;
-        let number = self.cache.number();
-        if buf.owner() == number {
-            buf.clear();
-            self.homes.keep(buf);
-            return true;
-        }
+        buf.clear();
+        self.homes.keep(buf);
+    }
+
+    // Puts another's buffer of a batch into the cache with one more forward. It isn't inlined, so that
+    // own buffers come home in a loop without a jump over it.
+    #[inline(never)]
+    fn pass_on(&mut self, buf: Buf<'r>)
+        requires other { buf.owner ≢ self.old.number }
+        requires passed { IsPassed self.old.digits self.old.number buf }
+        ensures { GoesOn self.old buf.entry self.new }
+    {
+        let mut buf = buf;
         let _most = self.cache.digits().count();
         shared_at_most_all();
         let forwards = buf.forwards();
         buf.set_forwards(forwards + 1);
         self.cache.put(buf);
-        false
     }
 
     /// Takes the own buffers of a batch home, and puts the others into the cache with one more
@@ -347,7 +360,10 @@ impl<'r> Desk<'r> {
         let all = array.len();
         let mut on = 0;
         while let Some(buf) = array.pop() {
-            if !self.handle_one(buf) {
+            if self.owns(&buf) {
+                self.take_home(buf);
+            } else {
+                self.pass_on(buf);
                 on += 1;
             }
         }
@@ -364,8 +380,13 @@ impl<'r> Desk<'r> {
         let mut chain = chain;
         let mut counts = counts;
         while let Some(buf) = chain.pop() {
-            let is_home = self.handle_one(buf);
-            counts.count(is_home);
+            if self.owns(&buf) {
+                self.take_home(buf);
+                counts = counts.plus(1, 0);
+            } else {
+                self.pass_on(buf);
+                counts = counts.plus(0, 1);
+            }
         }
         counts
     }

@@ -5,11 +5,11 @@ use Rattle.pool_desk.proofs.desk.Desk.handle_each.Goals as goal
 pub loop-buf-init : goal.loop-buf-init
 loop-buf-init c = HandledOf-none _ _ c.requires
 
-pub loop-buf-preserved-then-not-handle_one : goal.loop-buf-preserved-then-not-handle_one
-loop-buf-preserved-then-not-handle_one c = HandledOf-on _ _ _ _ _ _ c.in-Some.buf _ c.loop-buf.invariant c.in-Some.ensures.items c.if-not-handle_one.ensures
+pub loop-buf-preserved-then-owns : goal.loop-buf-preserved-then-owns
+loop-buf-preserved-then-owns c = HandledOf-home _ _ _ _ _ _ c.in-Some.buf _ c.loop-buf.invariant c.in-Some.ensures.items c.take_home.ensures
 
 pub loop-buf-preserved : goal.loop-buf-preserved
-loop-buf-preserved c = HandledOf-home _ _ _ _ _ _ c.in-Some.buf _ c.loop-buf.invariant c.in-Some.ensures.items c.if-not-handle_one.ensures
+loop-buf-preserved c = HandledOf-on _ _ _ _ _ _ c.in-Some.buf _ c.loop-buf.invariant c.in-Some.ensures.items c.pass_on.ensures
 
 pub returns-clause-counts : goal.returns-clause-counts
 returns-clause-counts c =

@@ -1,15 +1,12 @@
-use Rattle.std.proofs.Common.{rules, arith, ◌≡◌, ◌≢◌, ◌≤◌, ◌+◌, sym, ap, ◌∙◌}
+use Rattle.std.proofs.Common.{rules, arith, ◌≡◌, ◌≢◌, ◌≤◌, ◌+◌, ap, ◌∙◌}
 use Rattle.digit_route.specs.Digits.{count}
 use Rattle.pool_desk.specs.Desks.{DeskState}
-use Rattle.pool_desk.specs.Handling.{IsPassed}
 use Rattle.pool_desk.proofs.DeskLaws.{goes_on}
-use Rattle.pool_desk.proofs.desk.Desk.handle_one.Goals as goal
+use Rattle.pool_desk.proofs.desk.Desk.pass_on.Goals as goal
 
 pub overflow_add-forwards : goal.overflow_add-forwards
 overflow_add-forwards c =
-    let other : c.args.buf.owner ≢ c.args.self.now.number = λ e. c.if-owner-number.false (c.owner.ensures.value ∙ (e ∙ sym (c.number-number.ensures.value ∙ ap (λ (d : DeskState). d.number) c.self.view_is))) in
-    let one : IsPassed c.args.self.now.digits c.args.self.now.number c.args.buf = c.requires other in
-    let below = one.forwards in
+    let below = c.requires.passed.forwards in
     let within = c.shared_at_most_all.ensures c.args.self.now.digits c.args.buf.owner c.args.self.now.number in
     let digits : c.digits.result ≡ c.args.self.now.digits = c.digits.ensures ∙ ap (λ (d : DeskState). d.digits) c.self.view_is in
     let most : c.count-most.result ≡ count c.args.self.now.digits = c.count-most.ensures.value ∙ ap count digits in
@@ -20,6 +17,6 @@ overflow_add-forwards c =
 
 pub returns : goal.returns
 returns c =
-    let other : c.args.buf.owner ≢ c.self.inside.cache.number = λ e. c.if-owner-number.false (c.owner.ensures.value ∙ (e ∙ sym c.number-number.ensures.value)) in
+    let other : c.args.buf.owner ≢ c.self.inside.cache.number = rw (← c.self.view_is) at c.requires.other in
     let put = rw (c.set_forwards.ensures, c.forwards-forwards.ensures) at c.put.ensures.items in
     rw (← c.self.view_is) (goes_on _ c.args.buf c.put.new.self other c.put.ensures.same put)
