@@ -192,19 +192,21 @@ impl<
         }
     }
 
-    // Lends a buffer of the class.
+    // Lends a buffer of the class. What is seldom is all in a function of its own, so that an answer
+    // isn't written to memory on the way.
     #[inline(always)]
+    #[tactic(auto, using(crate::proofs::Fillings::lent_empty))]
     pub(crate) fn lend<R: Wait>(&mut self, rt: &R, class: Class) -> Result<Buffer<'r, J>, PoolError>
         requires { class < classes_of (profile_of J.names.digits.bits) }
         ensures { ServesClass J.names self.old class result self.new }
     {
-        match self.ask(class) {
-            Err(PoolError::UsedUp) => self.ask_again(rt, class),
-            answer => answer,
+        match self.station.alloc_class(self.alloc, class) {
+            Ok(buffer) => Ok(buffer),
+            Err(_) => self.ask_again(rt, class),
         }
     }
 
-    // Fetches a slot of the class, and lends it.
+    // Fetches a slot of the class, and lends it, where none is at home or each wants memory.
     #[cold]
     #[inline(never)]
     fn ask_again<R: Wait>(&mut self, rt: &R, class: Class) -> Result<Buffer<'r, J>, PoolError>
@@ -223,7 +225,7 @@ impl<
     ///
     /// [`PoolError::TooLarge`]: no class is large enough. [`PoolError::UsedUp`]: no slot of the class
     /// was at home, none came, and the stock was empty. [`PoolError::NoMemory`]: the system refused the
-    /// memory for a slot's first use.
+    /// memory for a slot's first use, and no slot that was used before came.
     // One function from here to the desk, but for what is seldom: the compiler looks at a flag behind each
     // call that may wait, inlined or not.
     #[inline(always)]
