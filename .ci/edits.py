@@ -85,6 +85,8 @@ def read(path):
         elif key in ("new", "new:"):
             if file is None or old is None or not (crate / file).is_file():
                 raise BadEdit("it has no line `file:` of a file of the crate, or no line `old:` before this `new:`")
+            if old == text:
+                raise BadEdit(f"`{old}` is put in its own place")
             source = (crate / file).read_text()
             if source.count(old) != 1:
                 raise BadEdit(f"`{old}` stands in {file} {source.count(old)} times, and not once")
@@ -93,6 +95,8 @@ def read(path):
             functions.add(function_at(file, source, change.start, change.end) if file.startswith("src/") else None)
             changes.append(change)
             old = None
+        elif line.strip() and not line.startswith("#"):
+            raise BadEdit(f"`{line}` is no line of `file:`, `old:` or `new:`: a change takes one line")
     if not changes:
         raise BadEdit("it has no lines `old:` and `new:`")
     return Edit(crate.name, path.stem, frozenset(() if None in functions else functions), tuple(changes))
