@@ -171,9 +171,9 @@ fn whole_parcel<'r>(rt: &impl Abort, alloc: Global, mut parts: Vec<Part<'r>>) {
     make_room(rt, alloc, &mut owner);
     let parcel = packed(rt, alloc, &mut owner, 512, 3);
     let mut next = empty(rt, alloc, &mut owner, 3);
-    assert!(rt; next.owner() == owner.number());
     set(alloc, Mark::TakesNone);
     free_all_is(rt, &mut owner, parcel, Freed::Home);
+    assert!(rt; next.owner() == owner.number());
     assert!(rt; owner.lend_whole(alloc, class(15), &mut next, 3));
     free_all_is(rt, &mut owner, next, Freed::Home);
     set(alloc, Mark::MayTake);
