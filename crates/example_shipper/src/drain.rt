@@ -1,27 +1,14 @@
-//! What a stage does with messages once it has given up.
+//! How a stage gives up.
 
 use crate::stage::READER;
 use fustrevol::{Edges, Heap, Message};
 use std::sync::Wait;
 
-/// Hands a message back to the reader, which stops then; it is freed where that isn't possible.
-pub fn stop_reader<H: Heap, R: Wait>(
-    rt: &R,
-    heap: &mut H,
-    to: &Edges<H>,
-    message: Message<H::Buffer, H::Parcel>,
-) {
-    if let Err(unsent) = to.try_send(rt, READER, message) {
+/// Stops the reader, and frees what comes until nobody sends any more, so that no other stage waits for it. What
+/// stops the reader is a parcel without buffers: any other would hold slots for which the reader may be waiting.
+pub fn drain<H: Heap, R: Wait>(rt: &R, heap: &mut H, to: &Edges<H>, stop: H::Parcel) {
+    if let Err(unsent) = to.try_send(rt, READER, Message::Parcel(stop)) {
         unsent.into_inner().free(rt, heap);
     }
-}
-
-/// Frees what comes until nobody sends any more, so that no other stage waits for it. The first message stops the
-/// reader.
-pub fn drain<H: Heap, R: Wait>(rt: &R, heap: &mut H, to: &Edges<H>) {
-    let Some(first) = to.receive(rt, heap) else {
-        return;
-    };
-    stop_reader(rt, heap, to, first);
     let _messages = to.free_rest(rt, heap);
 }

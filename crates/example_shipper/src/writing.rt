@@ -2,7 +2,7 @@
 ghost use Rattle.std.specs.Prelude.{◌<◌, length, IfSome};
 
 use crate::counts::Counts;
-use crate::drain::{drain, stop_reader};
+use crate::drain::drain;
 use crate::label::{Form, Label};
 use crate::output::Output;
 use anyhow::{Result, anyhow};
@@ -35,6 +35,7 @@ impl<P: Files + Print + Drop> Writing<P> {
     /// Writes what comes until all parsers have ended. Where a write fails it stops the reader, and says which line
     /// was the last one written.
     pub fn run<H: Heap, R: Wait>(self, rt: &R, heap: &mut H, to: &Edges<H>) -> Result<Counts> {
+        let stop = heap.parcel(1)?;
         let mut writer: Writer<P, H> = Writer {
             output: self.output,
             early: Vec::new(self.alloc),
@@ -47,11 +48,11 @@ impl<P: Files + Print + Drop> Writing<P> {
             counts: Counts::NONE,
         };
         let ended = writer.write_all(rt, heap, to);
-        writer.free_early(rt, heap, to);
+        writer.free_early(rt, heap);
         match ended {
             Ok(()) => Ok(writer.counts),
             Err(error) => {
-                drain(rt, heap, to);
+                drain(rt, heap, to, stop);
                 Err(fault(&error, writer.output.written()))
             }
         }
@@ -138,12 +139,12 @@ impl<P: Files + Print + Drop, H: Heap> Writer<P, H> {
     }
 
     // Frees the parcels whose turn didn't come.
-    fn free_early<R: Wait>(&mut self, rt: &R, heap: &mut H, to: &Edges<H>) {
+    fn free_early<R: Wait>(&mut self, rt: &R, heap: &mut H) {
         for _ in 0..u64::MAX {
             let Some(parcel) = self.early.pop() else {
                 break;
             };
-            stop_reader(rt, heap, to, Message::Parcel(parcel));
+            heap.free_all(rt, parcel);
         }
     }
 }
