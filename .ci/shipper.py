@@ -9,6 +9,8 @@ read back with Python's `json`. PROGRAM is `crates/example_shipper/out/example_s
 test; the exit status is 1 where one failed.
 """
 import argparse
+import collections
+import concurrent.futures
 import json
 import os
 import pathlib
@@ -331,6 +333,16 @@ def failures(folder):
             told = b"the last line written is %d" % last["line"]
         good = got[0] == 1 and len(text) == size and got[2].endswith(b"; " + told + b"\n")
         tell(f"{size} bytes can be written", good, (got, len(text), told))
+
+    # Parcels pile up where one parser is held up, as it is where many run at a time. Then the reader waits for slots while
+    # the writer gives up.
+    def on_full_device(_):
+        with open("/dev/full", "wb") as full:
+            return ran(["-p", "3"], log, stdout=full)[0]
+
+    with concurrent.futures.ThreadPoolExecutor(12) as many:
+        ended = collections.Counter(many.map(on_full_device, range(600)))
+    tell("a full device, 12 at a time", ended == {1: 600}, ended)
     got = ran(["-o", "/nowhere/out"], b"a\n")
     tell("an output that can't be opened", got[0] == 1 and got[2].startswith(b"example_shipper: the output file"), got)
 
