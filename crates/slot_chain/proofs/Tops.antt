@@ -61,3 +61,8 @@ list_is_there l h = list_at l.value l.at h.0
 pub front_is_none : (bs cs : List Buffer) → bs ++ cs ≡ [] → bs ≡ []
 front_is_none [] cs e = refl
 front_is_none (b ∷ bs) cs e = absurd (subst is_cons e tt)
+
+-- of three lists that name nothing together, the first two name nothing
+pub fronts_are_none : (xs ys zs : List Buffer) → xs ++ (ys ++ zs) ≡ [] → (xs ≡ []) × (ys ≡ [])
+fronts_are_none [] ys zs e = (refl, front_is_none ys zs e)
+fronts_are_none (x ∷ xs) ys zs e = absurd (subst is_cons e tt)

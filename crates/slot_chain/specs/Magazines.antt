@@ -4,7 +4,7 @@ use Rattle.std.specs.List.{flat_map}
 use Rattle.std.specs.declared.alloc.Global.{Global}
 use Rattle.slot_chain.specs.Buffer.{Buffer}
 use Rattle.slot_chain.specs.declared.portion.Portion.{Portion}
-use Rattle.slot_chain.specs.declared.portion.Portion.TheVariants.{Linked, Array}
+use Rattle.slot_chain.specs.declared.portion.Portion.TheVariants.{Linked, Array, Whole}
 
 -- those that an array names, none where there is no array
 abbrev pub named_in : Option (Vec Buffer Global) → List Buffer
@@ -15,11 +15,13 @@ named_in (Some array) = array.items
 abbrev pub items_of : Portion → List Buffer
 items_of (Linked chain) = chain
 items_of (Array array) = array.items
+items_of (Whole array) = array.items
 
 -- the array of a portion, where it has one
 abbrev pub array_of : Portion → Option (Vec Buffer Global)
 array_of (Linked chain) = None
 array_of (Array array) = Some array
+array_of (Whole array) = Some array
 
 -- there is an array, and a place in it
 abbrev pub HasPlace : Option (Vec Buffer Global) → Type 0

@@ -9,6 +9,7 @@ ghost use Rattle.slot_chain.specs.Magazines.{named_in, items_of, HasPlace};
 use crate::arrays::Arrays;
 use crate::buf::Buf;
 use crate::chain::Chain;
+use crate::empty::EmptyMagazine;
 use crate::error::NoMemory;
 use crate::portion::Portion;
 use crate::walk::{Walk, add_slots, bytes_in};
@@ -164,8 +165,73 @@ impl<'r> Magazine<'r> {
         if !self.linked.is_empty() {
             return Some(Portion::Linked(mem::take(&mut self.linked)));
         }
-        let array = take_array(&mut self.whole, &mut self.array)?;
-        Some(Portion::Array(array))
+        if let Some(array) = take_named(&mut self.array) {
+            return Some(Portion::Array(array));
+        }
+        let array = self.whole.take()?;
+        Some(Portion::Whole(array))
+    }
+
+    /// Puts the array of a [`Portion::Array`] back, once it is emptied, so that [`Magazine::into_empty`]
+    /// has it.
+    pub fn put_back(&mut self, array: Vec<Buf<'r>>)
+        requires { array.items ≡ [] }
+        ensures { self.new ≡ self.old }
+    {
+        if self.array.is_none() && self.linked.is_empty() {
+            self.array = Some(array);
+        }
+    }
+
+    /// What is left of a magazine whose buffers were taken out.
+    pub fn into_empty(self) -> EmptyMagazine<'r>
+        requires { self ≡ [] }
+    {
+        let Magazine {
+            whole,
+            array,
+            linked: _,
+            wanted: _,
+        } = self;
+        EmptyMagazine { whole, array }
+    }
+
+    /// Takes the memory of an empty magazine where some is wanted, as [`Magazine::make_room`] takes new
+    /// memory. What isn't as large as what is wanted goes back to the allocator.
+    pub fn reuse(&mut self, empty: EmptyMagazine<'r>)
+        ensures { self.new ≡ self.old }
+    {
+        let (whole, array) = empty.into_parts();
+        self.reuse_arrays(whole);
+        if let Some(array) = array {
+            self.reuse_array(array);
+        }
+    }
+
+    // Takes room for whole arrays, where there is less. It is taken where none is wanted too, and goes on
+    // with the next list then: another sender may be the one that wants it.
+    fn reuse_arrays(&mut self, whole: Arrays<'r>)
+        requires { whole ≡ [] }
+        ensures { self.new ≡ self.old }
+    {
+        let places = whole.places();
+        if places > self.whole.places() && self.whole.is_empty() {
+            self.whole = whole;
+            if places >= self.wanted.arrays as usize {
+                self.wanted.arrays = 0;
+            }
+        }
+    }
+
+    // Takes an empty array, where one is wanted.
+    fn reuse_array(&mut self, array: Vec<Buf<'r>>)
+        requires { array.items ≡ [] }
+        ensures { self.new ≡ self.old }
+    {
+        let wanted = self.wanted.buffers as usize;
+        if wanted > 0 && array.capacity() >= wanted && self.is_empty() {
+            self.put_array(array);
+        }
     }
 
     // For how many buffers the array should be made of a list that becomes as long as this one.
@@ -349,18 +415,6 @@ fn take_named<'r>(array: &mut Option<Vec<Buf<'r>>>) -> Option<Vec<Buf<'r>>>
         return None;
     }
     array.take()
-}
-
-// Takes out the array whose buffers came last.
-fn take_array<'r>(whole: &mut Arrays<'r>, array: &mut Option<Vec<Buf<'r>>>) -> Option<Vec<Buf<'r>>>
-    ensures { MatchOption result
-        ((whole.old ++ named_in array.old ≡ []) × (whole.new ++ named_in array.new ≡ []))
-        (λ a. (a.items ≢ []) × (whole.old ++ named_in array.old ≡ (whole.new ++ named_in array.new) ++ a.items)) }
-{
-    match take_named(array) {
-        Some(array) => Some(array),
-        None => whole.take(),
-    }
 }
 
 // Takes the last buffer of the array that came last as a whole, where the other array names none, and

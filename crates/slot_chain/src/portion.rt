@@ -11,8 +11,10 @@ use std::fmt;
 pub enum Portion<'r> {
     /// Those that found no place in an array.
     Linked(Chain<'r>),
-    /// Those that an array names.
+    /// Those that were put one by one, in the magazine's own array.
     Array(Vec<Buf<'r>>),
+    /// Those of an array that came as a whole.
+    Whole(Vec<Buf<'r>>),
 }
 
 impl<'r> Portion<'r> {
@@ -23,6 +25,7 @@ impl<'r> Portion<'r> {
         match self {
             Portion::Linked(_) => None,
             Portion::Array(array) => Some(array),
+            Portion::Whole(array) => Some(array),
         }
     }
 }
@@ -33,6 +36,7 @@ impl fmt::Debug for Portion<'_> {
         match self {
             Portion::Linked(chain) => write!(f, "Linked({} buffers)", chain.len()),
             Portion::Array(array) => write!(f, "Array({} buffers)", array.len()),
+            Portion::Whole(array) => write!(f, "Whole({} buffers)", array.len()),
         }
     }
 }

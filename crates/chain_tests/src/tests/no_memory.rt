@@ -5,7 +5,7 @@ use crate::tests::order::chains;
 use crate::tests::same;
 use memory_marks::{Mark, set};
 use region_cut::CHUNK;
-use slot_chain::{Buf, BufParcel, Chain, Magazine, NoMemory};
+use slot_chain::{Buf, BufParcel, Chain, EmptyMagazine, Magazine, NoMemory, Portion};
 use std::alloc::Global;
 use std::process::Abort;
 
@@ -171,4 +171,59 @@ fn appended_arrays_take_none(rt: HostRuntime) {
     if append(&rt, rt.alloc()).is_err() {
         assert!(rt; append(&rt, rt.alloc()).is_ok());
     }
+}
+
+// Empties the array of a list into a chain, and gives what is left of the list.
+fn emptied<'r>(
+    rt: &impl Abort,
+    mut list: Magazine<'r>,
+    chain: &mut Chain<'r>,
+) -> EmptyMagazine<'r> {
+    while let Some(portion) = list.pop_portion() {
+        let Portion::Array(mut array) = portion else {
+            assert!(rt; false, "an array of the list's own");
+            return EmptyMagazine::new();
+        };
+        while let Some(buf) = array.pop() {
+            chain.push(buf);
+        }
+        list.put_back(array);
+    }
+    list.into_empty()
+}
+
+// What a list had goes out with its buffers, comes back empty, and names buffers again, three times.
+fn go_round<'r>(rt: &impl Abort, mut list: Magazine<'r>, mut chain: Chain<'r>) {
+    for _ in 0..3 {
+        for _ in 0..8 {
+            list.push(chain.pop().expect(rt, "a buffer"));
+        }
+        let sent = list.take();
+        same(rt, "the buffers that go out", sent.len(), 8);
+        list.reuse(emptied(rt, sent, &mut chain));
+    }
+}
+
+fn reuse(rt: &impl Abort, alloc: Global) -> Result<(), NoMemory> {
+    let mut region = Vec::from_elem(alloc, 0u8, 2 * CHUNK)?;
+    let (chain, mut second) = chains(rt, alloc, &mut region)?;
+    let mut list = Magazine::new();
+    list.push(second.pop().expect(rt, "a buffer"));
+    same(
+        rt,
+        "the one that shows what is wanted",
+        list.take().len(),
+        1,
+    );
+    list.make_room(alloc);
+    set(alloc, Mark::TakesNone);
+    go_round(rt, list, chain);
+    set(alloc, Mark::MayTake);
+    Ok(())
+}
+
+// Where memory for the list's array is refused, the buffers are linked, and no array comes back.
+#[test]
+fn what_is_used_again_takes_none(rt: HostRuntime) {
+    assert!(rt; reuse(&rt, rt.alloc()).is_ok());
 }
