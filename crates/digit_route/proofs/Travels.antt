@@ -7,6 +7,7 @@ use Rattle.slot_chain.proofs.lease.Lease.TheSendSync.{the_send as lease_send}
 use Rattle.slot_chain.proofs.link.Link.TheSendSync.{the_send as link_send}
 use Rattle.slot_chain.specs.contracts.arrays.Arrays as Arrays
 use Rattle.slot_chain.specs.contracts.chain.Chain as Chain
+use Rattle.slot_chain.specs.contracts.empty.EmptyMagazine as EmptyMagazine
 use Rattle.slot_chain.specs.contracts.magazine.Magazine as Magazine
 use Rattle.slot_chain.specs.contracts.buf.Buf as Buf
 use Rattle.slot_chain.specs.contracts.parcel.BufParcel as BufParcel
@@ -24,6 +25,9 @@ arrays_send a = search (sendable, crosses, buf_send) depth 40 fits 6000
 
 pub magazine_send : (a : NamedLft) → IsSend (Magazine.the_row a)
 magazine_send a = search (sendable, crosses, chain_send, buf_send) depth 40 fits 6000
+
+pub empty_send : (a : NamedLft) → IsSend (EmptyMagazine.the_row a)
+empty_send a = search (sendable, crosses, buf_send) depth 40 fits 6000
 
 pub batch_send : (a : NamedLft) → IsSend (Batch.the_row a)
 batch_send a = search (sendable, crosses, magazine_send) depth 40 fits 6000

@@ -16,7 +16,7 @@ use crate::row::Row;
 use crate::{Batch, BatchSink, Digits, Posting, Refused, RouteError};
 use region_cut::Slot;
 use region_cut::endings::Endings;
-use slot_chain::{Buf, BufParcel, NoMemory};
+use slot_chain::{Buf, BufParcel, EmptyMagazine, NoMemory};
 use std::alloc::Global;
 use std::marker::Model;
 use std::{fmt, mem};
@@ -255,6 +255,15 @@ impl<'r> Cache<'r> {
         ensures { self.new ≡ self.old }
     {
         self.row.make_room(alloc);
+    }
+
+    /// Takes the memory of an empty magazine for what will be put here behind a batch to `t`, where that
+    /// batch took such memory along, as [`Cache::make_room`] takes new memory. What isn't as large goes back
+    /// to the allocator. Takes constant time.
+    pub fn reuse(&mut self, t: u16, empty: EmptyMagazine<'r>)
+        ensures { self.new ≡ self.old }
+    {
+        self.row.reuse(t, empty);
     }
 
     /// Takes out the bucket for some owner of a buffer in it, or says that the cache is empty.

@@ -11,7 +11,7 @@ ghost use Rattle.slot_chain.specs.Slots.{AddsSlots, slot_of};
 use arrayvec::ArrayVec;
 use region_cut::Slot;
 use region_cut::endings::Endings;
-use slot_chain::{Buf, Magazine, NoMemory};
+use slot_chain::{Buf, EmptyMagazine, Magazine, NoMemory};
 use std::alloc::Global;
 use std::mem;
 
@@ -69,6 +69,14 @@ pub(crate) fn make_room(magazines: &mut Magazines<'_>, alloc: Global)
     for k in 0..magazines.len() {
         magazines[k].make_room(alloc);
     }
+}
+
+/// Gives the magazine at `k` the memory of an empty one, where it wants some.
+pub(crate) fn reuse_at<'r>(magazines: &mut Magazines<'r>, k: usize, empty: EmptyMagazine<'r>)
+    requires { k < array_vec_len magazines.old }
+    ensures { magazines.new.items ≡ magazines.old.items }
+{
+    magazines[k].reuse(empty);
 }
 
 /// Puts `magazine` in the place of the magazine at `k`, whose buffers are dropped.

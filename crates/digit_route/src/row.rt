@@ -11,14 +11,14 @@ ghost use Rattle.digit_route.specs.Route.{GivesBucket};
 
 use crate::magazines::{
     Magazines, all_empty, append_at, bytes, empty_magazines, end_all, find_other, len, list_slots,
-    make_room, push_at, set_at, take_at,
+    make_room, push_at, reuse_at, set_at, take_at,
 };
 use crate::moves::{scatter, scatter_all, split};
 use crate::walks::{fault_in, some_owner};
 use crate::{Batch, Digits, RouteError};
 use region_cut::Slot;
 use region_cut::endings::Endings;
-use slot_chain::{Buf, BufParcel, Magazine, NoMemory};
+use slot_chain::{Buf, BufParcel, EmptyMagazine, Magazine, NoMemory};
 use std::alloc::Global;
 use std::marker::Model;
 
@@ -106,6 +106,14 @@ impl<'r> Row<'r> {
         ensures { self.new ≡ self.old }
     {
         make_room(&mut self.magazines, alloc);
+    }
+
+    /// Gives the magazine in which owners stand like `t` the memory of an empty one, where it wants some.
+    pub(crate) fn reuse(&mut self, t: u16, empty: EmptyMagazine<'r>)
+        ensures { self.new ≡ self.old }
+    {
+        let k = self.digits.digit(t, self.round);
+        reuse_at(&mut self.magazines, k as usize, empty);
     }
 
     /// Whether no buffer is left.

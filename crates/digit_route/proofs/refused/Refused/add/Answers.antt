@@ -1,9 +1,7 @@
-use Rattle.std.proofs.Common.{◌≡◌, ap}
 use Rattle.std.proofs.lemmas.List.Elements.{All-append, All-weaker}
 use Rattle.std.proofs.lemmas.List.Sorted.{All-permutation}
 use Rattle.digit_route.specs.Route.{IsCached}
 use Rattle.digit_route.specs.Rows.{IsLeft}
-use Rattle.digit_route.specs.States.{RefusedState}
 use Rattle.digit_route.proofs.CacheLaws.{IsLeft-back}
 use Rattle.digit_route.proofs.refused.Refused.add.Goals as goal
 
