@@ -12,9 +12,10 @@ use crate::opening::{opened, seated};
 use crate::rule::{Line, View};
 use crate::steps::{Nothing, Posts, Rests, Seats, Takes};
 use crate::{PostError, Rest, SendSeat, TakeSeat};
+use crossbeam_queue::SegQueue;
 use crossbeam_queue::protocol::Lesson;
 use digit_route::{Batch, Digits};
-use slot_chain::NoMemory;
+use slot_chain::{EmptyMagazine, NoMemory};
 use std::alloc::Global;
 use std::fmt;
 use std::marker::{Brand, Model};
@@ -24,8 +25,12 @@ use std::sync::Wait;
 ///
 /// Threads share it by `&`. Contracts see which inbox it is; what it holds they see in the seats.
 /// It may be dropped at any time, with what it holds, and so may its seats.
+///
+/// Empty magazines go back from the receiver to the senders through a second queue, of which
+/// contracts see nothing. Each queue takes memory for its blocks, once in 31 batches or magazines.
 pub struct Inbox<'r> {
     queue: Line<'r>,
+    empties: SegQueue<EmptyMagazine<'r>>,
     address: u16,
     digits: Digits,
 }
@@ -42,10 +47,12 @@ impl<'r> Drop for Inbox<'r> {
     fn drop(self) {
         let Self {
             queue,
+            empties,
             address: _,
             digits: _,
         } = self;
         queue.destroy();
+        drop(empties);
     }
 }
 
@@ -65,10 +72,12 @@ impl<'r> Inbox<'r> {
         ensures senders { IfOk result (λ r.
             AreSeatsOf r.0 r.2.items × (length r.2.items ≡ senders) × AreNew r.2.items) }
     {
+        let empties = SegQueue::new(alloc)?;
         let (queue, mut pass) = Line::with_rule(alloc)?;
         opened::<Brand>(&queue, &mut pass, address, digits);
         let inbox = Inbox {
             queue,
+            empties,
             address,
             digits,
         };
@@ -149,6 +158,17 @@ impl<'r> Inbox<'r> {
         self.queue.pop_as::<Takes<L>, R>(rt, &mut seat.pass)
     }
 
+    /// Leaves the memory of a batch that was taken to those who send here. Where the queue needs
+    /// memory, once in 31 calls, and gets none, the magazine is let go.
+    pub fn return_empty<R: Wait>(&self, rt: &R, empty: EmptyMagazine<'r>) {
+        drop(self.empties.push(rt, empty));
+    }
+
+    /// An empty magazine that the receiver left, or one without memory where there is none.
+    pub fn reclaim_empty<R: Wait>(&self, rt: &R) -> EmptyMagazine<'r> {
+        self.empties.pop(rt).unwrap_or_default()
+    }
+
     /// Ends the inbox, given all its seats. What was sent and not taken is left, of each sender in
     /// its order.
     pub fn drain<R: Wait>(self, rt: &R, seat: TakeSeat<'r>, seats: Vec<SendSeat<'r>>) -> Rest<'r>
@@ -161,9 +181,11 @@ impl<'r> Inbox<'r> {
     {
         let Self {
             queue,
+            empties,
             address: _,
             digits: _,
         } = self;
+        drop(empties);
         let TakeSeat { mut pass } = seat;
         for seat in seats {
             let SendSeat {

@@ -9,6 +9,7 @@ ghost use Rattle.batch_inbox.specs.Views.{batches_of, place_of};
 
 use crate::{Inbox, PostError, Rest, SendSeat, TakeSeat};
 use digit_route::Batch;
+use slot_chain::EmptyMagazine;
 use std::sync::Wait;
 
 /// A sender's seat.
@@ -75,6 +76,8 @@ pub trait Mailbox: Drop {
 /// - `drain`, given all seats, keeps for each sender just what it sent and `take` didn't give, and
 ///   nothing was taken of a sender that has no seat. `next_rest` hands that out and nothing else.
 /// - A seat that is new is at rest, and `post` leaves it so.
+/// - `return_empty` and `reclaim_empty` change nothing that is seen. A queue may let go what is left to
+///   it and answer `EmptyMagazine::new()`.
 pub trait Mail<'r>: Mailbox {
     type TakeSeat: Receiver;
 
@@ -109,6 +112,20 @@ pub trait Mail<'r>: Mailbox {
             (Self.TakeSeat.taken seat.new ≡ Self.TakeSeat.taken seat.old)
             (λ x. (Self.TakeSeat.taken seat.new ≡ Self.TakeSeat.taken seat.old ++ x ∷ [])
             × (place_of x ≡ (Self.id self.now).place)) };
+
+    /// Leaves the memory of a batch that was taken to those who send here. It may be let go instead.
+    fn return_empty<R: Wait>(&self, rt: &R, seat: &mut Self::TakeSeat, empty: EmptyMagazine<'r>)
+        requires { Self.TakeSeat.inbox seat.old ≡ Self.id self.now }
+        ensures { (Self.TakeSeat.inbox seat.new ≡ Self.TakeSeat.inbox seat.old)
+            × (Self.TakeSeat.senders seat.new ≡ Self.TakeSeat.senders seat.old)
+            × (Self.TakeSeat.taken seat.new ≡ Self.TakeSeat.taken seat.old) };
+
+    /// An empty magazine that the receiver left, or one without memory. Who posts asks for one behind each
+    /// batch that was posted, so that no more are kept than batches are under way.
+    fn reclaim_empty<R: Wait>(&self, rt: &R, seat: &mut Self::SendSeat) -> EmptyMagazine<'r>
+        requires { (Self.SendSeat.inbox seat.old ≡ Self.id self.now)
+            × (Self.SendSeat.resting seat.old ≡ true) }
+        ensures { seat.new ≡ seat.old };
 
     /// Ends the inbox, given all its seats. What was sent and not taken is left.
     fn drain<R: Wait>(self, rt: &R, seat: Self::TakeSeat, seats: Vec<Self::SendSeat>) -> Self::Rest
@@ -184,6 +201,14 @@ impl<'r> Mail<'r> for Inbox<'r> {
 
     fn take<R: Wait>(&self, rt: &R, seat: &mut TakeSeat<'r>) -> Option<Batch<'r>> {
         self.take(rt, seat)
+    }
+
+    fn return_empty<R: Wait>(&self, rt: &R, _seat: &mut TakeSeat<'r>, empty: EmptyMagazine<'r>) {
+        self.return_empty(rt, empty);
+    }
+
+    fn reclaim_empty<R: Wait>(&self, rt: &R, _seat: &mut SendSeat<'r>) -> EmptyMagazine<'r> {
+        self.reclaim_empty(rt)
     }
 
     fn drain<R: Wait>(self, rt: &R, seat: TakeSeat<'r>, seats: Vec<SendSeat<'r>>) -> Rest<'r>
