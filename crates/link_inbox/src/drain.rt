@@ -38,6 +38,7 @@ fn gathered<'r>(
             sender,
             turn,
             rests: _,
+            empty: _,
         } = seat;
         turns[sender as usize] = turn;
         words.join_seat::<Seats>(token, other);
@@ -60,6 +61,7 @@ impl<'r> LinkInbox<'r> {
         let TakeSeat {
             mut token,
             front: _,
+            empty: _,
         } = seat;
         let senders = seats.len() as u64;
         let turns = gathered(&nodes.shared, &mut token, seats);

@@ -6,6 +6,7 @@ ghost use Rattle.batch_inbox.specs.Views.{place_of};
 ghost use Rattle.batch_inbox.specs.declared.error.PostError.TheVariants.{NoNode};
 ghost use Rattle.link_inbox.specs.States.{AreSeatsOf, AreNew, AreAtRest};
 
+use crate::load::Load;
 use crate::opening::{opened, seated};
 use crate::rule::{FREE, NODES, Nodes};
 use crate::seats::{Attached, SendSeat, TakeSeat};
@@ -13,10 +14,10 @@ use crate::steps::{Attaches, Frees, Links, Prepares, Takes};
 use batch_inbox::PostError;
 use batch_inbox::place::Place;
 use digit_route::{Batch, Digits};
-use slot_chain::NoMemory;
+use slot_chain::{EmptyMagazine, NoMemory};
 use std::alloc::Global;
-use std::fmt;
 use std::marker::Model;
+use std::{fmt, mem};
 
 /// The message queue of one desk, with a seat for each sender and one for the receiver.
 ///
@@ -47,7 +48,8 @@ impl<'r> LinkInbox<'r> {
     ///
     /// Owner numbers are read as `digits` says: in its profile, and with digits of its width. All the
     /// memory that the inbox ever has is taken here: 16 nodes for each sender and one more, each with
-    /// a word of 8 bytes and room for a batch. It is refused where an allocation is.
+    /// a word of 8 bytes and room for a batch and for an empty magazine. It is refused where an
+    /// allocation is.
     pub fn new(
         alloc: Global,
         address: u16,
@@ -66,7 +68,11 @@ impl<'r> LinkInbox<'r> {
         let seats = seated(alloc, &nodes.shared, &mut token, senders)?;
         Ok((
             LinkInbox { nodes, place },
-            TakeSeat { token, front: 0 },
+            TakeSeat {
+                token,
+                front: 0,
+                empty: EmptyMagazine::new(),
+            },
             seats,
         ))
     }
@@ -111,10 +117,8 @@ impl<'r> LinkInbox<'r> {
         if found != FREE {
             return Err((batch, PostError::NoNode));
         }
-        match words.exchange(&mut seat.token, node as usize, Some(batch)) {
-            None => {}
-            Some(_) => unreachable!(),
-        }
+        let unused = words.exchange(&mut seat.token, node as usize, Load::full(batch));
+        seat.empty = unused.into_empty();
         let before = words.swap::<Attaches>(&mut seat.token, 0, node);
         seat.turn = (seat.turn + 1) % NODES;
         seat.rests = false;
@@ -175,10 +179,32 @@ impl<'r> LinkInbox<'r> {
         if found == 0 {
             return None;
         }
-        let batch = words.exchange(&mut seat.token, found as usize, None);
+        let left = Load::vacant(mem::take(&mut seat.empty));
+        let batch = words
+            .exchange(&mut seat.token, found as usize, left)
+            .into_batch();
         words.store::<Frees>(&mut seat.token, front as usize + 1, FREE);
         seat.front = found;
         batch
+    }
+
+    /// Leaves the memory of a batch that was taken to who sends here: it goes back in the node of the
+    /// batch that is taken next. Only the last one that was left is kept. Takes no memory and waits for
+    /// nobody.
+    pub fn return_empty(&self, seat: &mut TakeSeat<'r>, empty: EmptyMagazine<'r>)
+        requires { seat.old.inbox ≡ self.now }
+        ensures { seat.new ≡ seat.old }
+    {
+        seat.empty = empty;
+    }
+
+    /// The empty magazine that came back in the node of the batch that was sent last, or one without
+    /// memory. It is handed out once. Takes no memory and waits for nobody.
+    pub fn reclaim_empty(&self, seat: &mut SendSeat<'r>) -> EmptyMagazine<'r>
+        requires { seat.old.inbox ≡ self.now }
+        ensures { seat.new ≡ seat.old }
+    {
+        mem::take(&mut seat.empty)
     }
 }
 

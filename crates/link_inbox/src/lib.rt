@@ -15,6 +15,7 @@
 mod drain;
 mod inbox;
 pub mod laws;
+mod load;
 mod mail;
 mod opening;
 mod reading;

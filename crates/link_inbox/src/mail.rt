@@ -9,7 +9,7 @@ use crate::rest::Rest;
 use crate::seats::{SendSeat, TakeSeat};
 use batch_inbox::{Mail, Mailbox, NewMail, PostError, Receiver, Remainder, Sender};
 use digit_route::{Batch, Digits};
-use slot_chain::NoMemory;
+use slot_chain::{EmptyMagazine, NoMemory};
 use std::alloc::Global;
 use std::sync::Wait;
 
@@ -61,6 +61,14 @@ impl<'r> Mail<'r> for LinkInbox<'r> {
 
     fn take<R: Wait>(&self, _rt: &R, seat: &mut TakeSeat<'r>) -> Option<Batch<'r>> {
         self.take(seat)
+    }
+
+    fn return_empty<R: Wait>(&self, _rt: &R, seat: &mut TakeSeat<'r>, empty: EmptyMagazine<'r>) {
+        self.return_empty(seat, empty);
+    }
+
+    fn reclaim_empty<R: Wait>(&self, _rt: &R, seat: &mut SendSeat<'r>) -> EmptyMagazine<'r> {
+        self.reclaim_empty(seat)
     }
 
     fn drain<R: Wait>(self, _rt: &R, seat: TakeSeat<'r>, seats: Vec<SendSeat<'r>>) -> Rest<'r>

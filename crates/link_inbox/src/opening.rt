@@ -1,16 +1,29 @@
 //! How an inbox is opened: its nodes are made, and each sender gets a seat.
-ghost use Rattle.std.specs.Prelude.{◌≡◌, ℕ, ◌+◌, ◌*◌, ◌≤◌, [], length, IfOk};
+ghost use Rattle.std.specs.Prelude.{◌≡◌, ℕ, ◌+◌, ◌*◌, ◌≤◌, [], length, replicate, None, IfOk};
 ghost use Rattle.batch_inbox.specs.Limits.{sender_limit};
 ghost use Rattle.link_inbox.specs.States.{inbox_of, AreSeatsOf, AreNew, AreAtRest};
 ghost use Rattle.link_inbox.specs.Steps.{opener, view};
 ghost use Rattle.link_inbox.specs.declared.rule.Role.TheVariants.{Ready};
 
+use crate::load::Load;
 use crate::rule::{FREE, NODES, Nodes, SharedNodes, Token};
 use crate::seats::SendSeat;
 use crate::steps::Seats;
-use atomic_table::Table;
+use atomic_table::{Refused, Table};
 use batch_inbox::place::Place;
+use slot_chain::EmptyMagazine;
 use std::alloc::{AllocError, Global};
+
+// So many loads without a batch and without memory.
+fn vacant_loads<'r>(alloc: Global, count: usize) -> Result<Vec<Load<'r>>, AllocError>
+    ensures { IfOk result (λ loads. loads.items ≡ replicate count None) }
+{
+    let mut loads = Vec::with_capacity(alloc, count)?;
+    for node in 0..count {
+        loads.push(Load::vacant(EmptyMagazine::new()))?;
+    }
+    Ok(loads)
+}
 
 // The opening front alone, and the nodes of the senders, which are free.
 pub(crate) fn opened<'r>(
@@ -28,7 +41,13 @@ pub(crate) fn opened<'r>(
     let mut words = Vec::from_elem(alloc, FREE, nodes + 1)?;
     words[0] = 0;
     words[1] = 0;
-    Table::vacant(alloc, words.as_slice(), nodes, place)
+    match Table::new(alloc, words.as_slice(), vacant_loads(alloc, nodes)?, place) {
+        Ok(opened) => Ok(opened),
+        Err(Refused { slots }) => {
+            drop(slots);
+            Err(AllocError)
+        }
+    }
 }
 
 // Makes the seats of the senders, from sender 0 on.
@@ -54,6 +73,7 @@ pub(crate) fn seated<'r>(
             sender,
             turn: 0,
             rests: true,
+            empty: EmptyMagazine::new(),
         })?;
     }
     Ok(seats)

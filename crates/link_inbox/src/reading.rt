@@ -18,7 +18,7 @@ impl<'r> Round<'r> {
         ensures others { (s : ℕ) → s ≢ self.old.next / 16 → left_in self.new s ≡ left_in self.old s }
     {
         let at = spot_of(&self.turns, self.next);
-        let found = self.closed.take(at);
+        let found = self.closed.take(at).into_batch();
         self.next += 1;
         found
     }

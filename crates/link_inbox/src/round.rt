@@ -7,14 +7,14 @@ ghost use Rattle.batch_inbox.specs.Limits.{sender_limit};
 ghost use Rattle.digit_route.specs.States.{BatchState};
 ghost use Rattle.link_inbox.specs.Remains.{spot};
 
+use crate::load::Load;
 use crate::rule::{NODES, SENDERS};
 use atomic_table::Closed;
-use digit_route::Batch;
 use std::alloc::Global;
 
 /// The slots that are still to be read, from the reading number `next` on: 16 of each sender.
 pub(crate) struct Round<'r> {
-    pub(crate) closed: Closed<Option<Batch<'r>>, Global>,
+    pub(crate) closed: Closed<Load<'r>, Global>,
     pub(crate) turns: [u64; SENDERS],
     pub(crate) senders: u64,
     pub(crate) next: u64,

@@ -6,6 +6,7 @@
 //!
 //! Word 0 is the inbox's back. Word n + 1 is the next word of the node n, whose batch lies in the
 //! slot n. Node 0 is the opening front, and then come the nodes of sender 0, of sender 1, and so on.
+use crate::load::Load;
 use atomic_table::{Seat, Shared, Table, TableRule};
 use batch_inbox::place::Place;
 use digit_route::Batch;
@@ -59,7 +60,7 @@ pub struct View<T> {
 /// The rule of an inbox.
 pub struct InOrder;
 
-impl<'r> TableRule<Option<Batch<'r>>, View<Batch<'r>>, Place> for InOrder {
+impl<'r> TableRule<Load<'r>, View<Batch<'r>>, Place> for InOrder {
     ghost use Rattle.link_inbox.specs.Rule.{IsInOrder};
     ghost use Rattle.link_inbox.specs.States.{IsFor};
     ghost use Rattle.link_inbox.specs.Steps.{opener};
@@ -69,8 +70,8 @@ impl<'r> TableRule<Option<Batch<'r>>, View<Batch<'r>>, Place> for InOrder {
     ghost first = { opener };
 }
 
-pub(crate) type Nodes<'r> = Table<Option<Batch<'r>>, View<Batch<'r>>, Place, InOrder, Global>;
+pub(crate) type Nodes<'r> = Table<Load<'r>, View<Batch<'r>>, Place, InOrder, Global>;
 
-pub(crate) type SharedNodes<'r> = Shared<Option<Batch<'r>>, View<Batch<'r>>, Place, InOrder>;
+pub(crate) type SharedNodes<'r> = Shared<Load<'r>, View<Batch<'r>>, Place, InOrder>;
 
-pub(crate) type Token<'r> = Seat<Option<Batch<'r>>, View<Batch<'r>>>;
+pub(crate) type Token<'r> = Seat<Load<'r>, View<Batch<'r>>>;

@@ -2,6 +2,7 @@
 ghost use Rattle.std.specs.Prelude.{◌≡◌, is_none};
 
 use crate::rule::Token;
+use slot_chain::EmptyMagazine;
 use std::fmt;
 use std::marker::Model;
 
@@ -18,6 +19,8 @@ pub struct SendSeat<'r> {
     pub(crate) sender: u16,
     pub(crate) turn: u64,
     pub(crate) rests: bool,
+    // What came back in the node that was used last.
+    pub(crate) empty: EmptyMagazine<'r>,
 }
 
 impl<'r> Model for SendSeat<'r> {
@@ -58,6 +61,8 @@ impl<'r> SendSeat<'r> {
 pub struct TakeSeat<'r> {
     pub(crate) token: Token<'r>,
     pub(crate) front: u64,
+    // What goes into the node of the next batch that is taken.
+    pub(crate) empty: EmptyMagazine<'r>,
 }
 
 impl<'r> Model for TakeSeat<'r> {
