@@ -1,5 +1,5 @@
 -- Arrays that are kept.
-use Rattle.std.specs.Prelude.{◌≡◌, ◌≢◌, ℕ, ◌≤◌, [], Option, Some, None, Vec, length, vec_capacity}
+use Rattle.std.specs.Prelude.{◌≡◌, ◌≢◌, ℕ, ◌≤◌, [], All, List, Option, Some, None, Vec, length, slice_get, vec_capacity}
 use Rattle.std.specs.declared.alloc.Global.{Global}
 use Rattle.slot_chain.specs.Buffer.{Buffer}
 
@@ -9,7 +9,17 @@ pub record IsFitting (n places : ℕ) (a : Vec Buffer Global) : Type 0 where
   pub most : length a.items ≤ n
   pub places_are : vec_capacity a ≡ places
 
--- there is an array, with room for n buffers
-abbrev pub HasRoom : ℕ → Option (Vec Buffer Global) → Type 0
-HasRoom n None = ⊥
-HasRoom n (Some a) = n ≤ vec_capacity a
+-- the arrays that are kept, none where there is no place for any
+abbrev pub arrays_in : Option (Vec (Vec Buffer Global) Global) → List (Vec Buffer Global)
+arrays_in None = []
+arrays_in (Some arrays) = arrays.items
+
+-- none of the arrays names a buffer
+abbrev pub AreEmptied : List (Vec Buffer Global) → Type 0
+AreEmptied arrays = All (λ (a : Vec Buffer Global). a.items ≡ []) arrays
+
+-- at k there is an array with room for n buffers
+pub record RoomAt (n k : ℕ) (arrays : List (Vec Buffer Global)) : Type 0 where
+  pub array : Vec Buffer Global
+  pub there : slice_get arrays k ≡ Some array
+  pub room : n ≤ vec_capacity array

@@ -7,25 +7,22 @@ ghost use Rattle.slot_chain.specs.Counts.{capped, sizes};
 ghost use Rattle.digit_route.specs.Digits.{IsScheme, common};
 ghost use Rattle.digit_route.specs.Limits.{largest_limit};
 ghost use Rattle.digit_route.specs.Route.{IsCached, RouteFault};
-ghost use Rattle.slot_chain.specs.Magazines.{items_of};
 ghost use Rattle.slot_chain.specs.Slots.{AddsSlots, slot_of};
 ghost use Rattle.digit_route.specs.Route.{GivesBucket};
 ghost use Rattle.pool_desk.specs.HomesState.{HasClass};
 ghost use Rattle.pool_desk.specs.Desks.{profile_at};
 ghost use Rattle.pool_desk.specs.Homes.{IsOwn, comes_home, kept_in};
 ghost use Rattle.pool_desk.specs.Slots.{slots_in};
-ghost use Rattle.pool_desk.specs.Steps.{Claims, NotNeededFor, Allocs, AllocsClass, Frees, FreesAll, Handles, CountsOf};
+ghost use Rattle.pool_desk.specs.Steps.{Claims, NotNeededFor, Allocs, AllocsClass, Frees, FreesAll};
 ghost use Rattle.pool_desk.specs.Steps.{IsFilledUp, LendsWhole};
-ghost use Rattle.pool_desk.specs.Handling.{Adds, IsPassed, GoesHome, GoesOn};
 
 use crate::homes::Homes;
 use crate::spares::Spares;
-use crate::{Counts, DeskError, Freed, IdleDesk};
-use digit_route::laws::shared_at_most_all;
-use digit_route::{Batch, Cache, Digits};
+use crate::{DeskError, Freed, IdleDesk};
+use digit_route::{Cache, Digits};
 use region_cut::endings::Endings;
 use region_cut::{Class, Part, Slot};
-use slot_chain::{Buf, BufParcel, Chain, NoMemory, Portion};
+use slot_chain::{Buf, BufParcel, NoMemory};
 use std::alloc::Global;
 use std::fmt;
 use std::marker::Model;
@@ -266,129 +263,15 @@ impl<'r> Desk<'r> {
 
     /// An empty parcel for own buffers, with room for at least so many. It lies over an array in which
     /// own buffers came home, where an empty one is kept that is large enough: the one that was kept last of
-    /// those. A desk keeps at most 16 arrays, each for 1 to 256 buffers; one that comes beyond that is
-    /// let go. Only else memory is taken. [`NoMemory`] is answered only where there is none for it.
+    /// those. A desk keeps as many arrays as it made, at most 1,024, each for 1 to 256 buffers; one that
+    /// comes beyond that is let go. Only else memory is taken. [`NoMemory`] is answered only where there is
+    /// none for it.
     pub fn parcel(&mut self, alloc: Global, places: usize) -> Result<BufParcel<'r>, NoMemory>
         ensures same { self.new ≡ self.old }
         ensures value { IfOk result (λ p.
             (p ≡ record { owner = self.old.number; places = p.places; items = [] }) × (places ≤ p.places)) }
     {
         self.spares.parcel(alloc, self.cache.number(), places)
-    }
-
-    // Whether it is the desk's own.
-    fn owns(&self, buf: &Buf<'r>) -> bool
-        ensures { IsTrue result ↔ (buf.now.owner ≡ self.now.number) }
-    {
-        buf.owner() == self.cache.number()
-    }
-
-    // Takes an own buffer of a batch home.
-    fn take_home(&mut self, buf: Buf<'r>)
-        requires { buf.owner ≡ self.old.number }
-        ensures { GoesHome self.old buf.entry self.new }
-    {
-        let mut buf = buf;
-        buf.clear();
-        self.homes.keep(buf);
-    }
-
-    // Puts another's buffer of a batch into the cache with one more forward. It isn't inlined, so that
-    // own buffers come home in a loop without a jump over it.
-    #[inline(never)]
-    fn pass_on(&mut self, buf: Buf<'r>)
-        requires other { buf.owner ≢ self.old.number }
-        requires passed { IsPassed self.old.digits self.old.number buf }
-        ensures { GoesOn self.old buf.entry self.new }
-    {
-        let mut buf = buf;
-        let _most = self.cache.digits().count();
-        shared_at_most_all();
-        let forwards = buf.forwards();
-        buf.set_forwards(forwards + 1);
-        self.cache.put(buf);
-    }
-
-    /// Takes the own buffers of a batch home, and puts the others into the cache with one more
-    /// forward, to be sent on. Takes no memory.
-    pub fn handle(&mut self, batch: Batch<'r>) -> Counts
-        requires address { batch.address ≡ self.old.number }
-        requires digits { batch.digits ≡ self.old.digits }
-        ensures parts { Handles self.old batch.entry.items self.new }
-        ensures counts { CountsOf self.old.number batch.entry.items result }
-    {
-        let mut magazine = batch.into_magazine();
-        let mut counts = Counts { home: 0, on: 0 };
-        while let Some(portion) = magazine.pop_portion() {
-            counts = self.handle_portion(portion, counts);
-        }
-        counts
-    }
-
-    // Handles the buffers of a portion, and counts them on.
-    fn handle_portion(&mut self, portion: Portion<'r>, counts: Counts) -> Counts
-        requires { All (IsPassed self.old.digits self.old.number) (items_of portion) }
-        ensures parts { Handles self.old (items_of portion.entry) self.new }
-        ensures counts { Adds self.old.number (items_of portion.entry) counts result }
-    {
-        match portion {
-            Portion::Linked(chain) => self.handle_chain(chain, counts),
-            Portion::Array(array) => self.handle_array(array, counts),
-        }
-    }
-
-    // Handles the buffers of an array, as it lies where it may be kept so, and counts them on.
-    fn handle_array(&mut self, array: Vec<Buf<'r>>, counts: Counts) -> Counts
-        requires { All (IsPassed self.old.digits self.old.number) array.items }
-        ensures parts { Handles self.old array.entry.items self.new }
-        ensures counts { Adds self.old.number array.entry.items counts result }
-    {
-        let all = array.len();
-        match self.homes.keep_whole(array) {
-            None => counts.plus(all, 0),
-            Some(array) => self.handle_each(array, counts),
-        }
-    }
-
-    // Handles the buffers of an array one by one, and counts them on.
-    fn handle_each(&mut self, array: Vec<Buf<'r>>, counts: Counts) -> Counts
-        requires { All (IsPassed self.old.digits self.old.number) array.items }
-        ensures parts { Handles self.old array.entry.items self.new }
-        ensures counts { Adds self.old.number array.entry.items counts result }
-    {
-        let mut array = array;
-        let all = array.len();
-        let mut on = 0;
-        while let Some(buf) = array.pop() {
-            if self.owns(&buf) {
-                self.take_home(buf);
-            } else {
-                self.pass_on(buf);
-                on += 1;
-            }
-        }
-        self.spares.keep(array);
-        counts.plus(all - on, on)
-    }
-
-    // Handles the buffers of a chain, and counts them on.
-    fn handle_chain(&mut self, chain: Chain<'r>, counts: Counts) -> Counts
-        requires { All (IsPassed self.old.digits self.old.number) chain }
-        ensures parts { Handles self.old chain.entry self.new }
-        ensures counts { Adds self.old.number chain.entry counts result }
-    {
-        let mut chain = chain;
-        let mut counts = counts;
-        while let Some(buf) = chain.pop() {
-            if self.owns(&buf) {
-                self.take_home(buf);
-                counts = counts.plus(1, 0);
-            } else {
-                self.pass_on(buf);
-                counts = counts.plus(0, 1);
-            }
-        }
-        counts
     }
 
     /// Whether nothing is cached, so that the desk may be retired or passed on.

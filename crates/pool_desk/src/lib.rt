@@ -12,6 +12,7 @@ mod counts;
 mod desk;
 mod error;
 mod freed;
+mod handling;
 mod home;
 mod homes;
 mod idle;

@@ -7,6 +7,7 @@ ghost use Rattle.digit_route.specs.Route.{GivesBucket, RouteFault};
 
 use crate::{Desk, DeskPosting};
 use digit_route::{Batch, Cache, Posting, Refused, RouteError};
+use slot_chain::EmptyMagazine;
 use std::alloc::Global;
 use std::mem;
 
@@ -73,6 +74,15 @@ impl<'r> Desk<'r> {
         ensures { self.new ≡ self.old }
     {
         self.cache.make_room(alloc);
+    }
+
+    /// Takes the memory of an empty magazine for others' buffers that will be freed here, behind a batch
+    /// that was posted to `t`: as much as it had goes back and forth, and none is taken anew
+    /// ([`Desk::handle_and_empty`]). Takes constant time and no memory.
+    pub fn reuse(&mut self, t: u16, empty: EmptyMagazine<'r>)
+        ensures { self.new ≡ self.old }
+    {
+        self.cache.reuse(t, empty);
     }
 
     /// Takes back into the cache a batch of this desk that could not be posted. Takes no memory.

@@ -1,41 +1,43 @@
 //! Arrays that are kept for parcels to come.
-ghost use Rattle.std.specs.Prelude.{◌≡◌, ◌<◌, ◌≤◌, ◌↔◌, [], length, None, IsTrue, IfOk, IfSome, slice_index_or};
-ghost use Rattle.std.specs.Prelude.{vec_capacity};
-ghost use Rattle.pool_desk.specs.Spares.{HasRoom};
+ghost use Rattle.std.specs.Prelude.{◌≡◌, ◌<◌, ◌≤◌, ◌↔◌, [], length, IsTrue, IfOk, IfSome, vec_capacity};
+ghost use Rattle.pool_desk.specs.Spares.{AreEmptied, RoomAt, arrays_in};
 
-use arrayvec::ArrayVec;
 use slot_chain::{Buf, BufParcel, NoMemory};
 use std::alloc::Global;
 use std::marker::Model;
 
-// How many arrays are kept, and for how many buffers one of them has room at most.
-const MOST: usize = 16;
+// For how many arrays there are places, at least and at most, where one was made.
+const LEAST: usize = 16;
 
+const MOST: usize = 1024;
+
+// For how many buffers an array that is kept has room at most.
 const LARGEST: usize = 256;
 
 /// Arrays in which own buffers came home, kept for parcels to come, so that the C library needn't take
 /// each back and give it out again. They name no buffer, and contracts see nothing of them.
+///
+/// There is a place for each array that was made here, up to 1,024: all may be at home at once.
 pub(crate) struct Spares<'r> {
-    arrays: ArrayVec<Option<Vec<Buf<'r>>>, MOST>,
+    arrays: Option<Vec<Vec<Buf<'r>>>>,
+    // How many arrays were made, at most so many as there are places.
+    made: usize,
 }
 
 impl<'r> Model for Spares<'r> {
-    ghost use Rattle.std.specs.Prelude.{◌≡◌, [], All, Option, Vec};
-    ghost use Rattle.std.specs.declared.alloc.Global.{Global};
-    ghost use Rattle.slot_chain.specs.Buffer.{Buffer};
-    ghost use Rattle.slot_chain.specs.Magazines.{named_in};
+    ghost use Rattle.pool_desk.specs.Spares.{AreEmptied, arrays_in};
 
     ghost Value = { Unit {0} };
 
     ghost view = { λ _. tt };
 
-    ghost invariant = { λ s. All (λ (a : Option (Vec Buffer Global)). named_in a ≡ []) s.arrays.items };
+    ghost invariant = { λ s. AreEmptied (arrays_in s.arrays) };
 }
 
 // By hand, so that it is proved here once, and not again in each crate that lets a desk go.
 impl Drop for Spares<'_> {
     fn drop(self) {
-        let Spares { arrays } = self;
+        let Spares { arrays, made: _ } = self;
         drop(arrays);
     }
 }
@@ -44,31 +46,23 @@ impl<'r> Spares<'r> {
     /// None.
     pub(crate) fn new() -> Spares<'r> {
         Spares {
-            arrays: ArrayVec::new(),
+            arrays: None,
+            made: 0,
         }
     }
 
-    /// Keeps an array, where it has a place for a buffer, isn't too large to be kept, and 16 aren't kept
-    /// already.
+    /// Keeps an array, where it has a place for a buffer, isn't too large to be kept, and a place is left.
     pub(crate) fn keep(&mut self, array: Vec<Buf<'r>>)
         requires { array.items ≡ [] }
     {
         let places = array.capacity();
-        if places > 0 && places <= LARGEST && !self.arrays.is_full() {
-            self.arrays.push(Some(array));
+        if places > 0 && places <= LARGEST {
+            put(&mut self.arrays, array);
         }
     }
 
-    // Takes out the array that was kept last of those with room for so many buffers.
-    fn take(&mut self, places: usize) -> Option<Vec<Buf<'r>>>
-        ensures { IfSome result (λ a. (a.items ≡ []) × (places ≤ vec_capacity a)) }
-    {
-        let at = last_with_room(self.arrays.as_slice(), places)?;
-        self.arrays.remove(at)
-    }
-
     /// An empty parcel with room for at least so many buffers, over the array that was kept last of those
-    /// that have it. Only where none has, memory is taken.
+    /// that have it. Only where none has, memory is taken: for an array, and for a place to keep it.
     pub(crate) fn parcel(
         &mut self,
         alloc: Global,
@@ -78,33 +72,79 @@ impl<'r> Spares<'r> {
         ensures { IfOk result (λ p.
             (p ≡ record { owner = owner; places = p.places; items = [] }) × (places ≤ p.places)) }
     {
-        match self.take(places) {
+        match take(&mut self.arrays, places) {
             Some(array) => Ok(BufParcel::over(owner, array)),
-            None => BufParcel::new(alloc, owner, places),
+            None => {
+                let parcel = BufParcel::new(alloc, owner, places)?;
+                self.make_place(alloc);
+                Ok(parcel)
+            }
+        }
+    }
+
+    // Makes a place for an array that was made. Where there is no memory for it, fewer are kept.
+    fn make_place(&mut self, alloc: Global) {
+        if self.made < MOST {
+            self.made += 1;
+            make_places(&mut self.arrays, alloc, self.made);
+        }
+    }
+}
+
+// Puts an array to the others, where a place is left.
+fn put<'r>(arrays: &mut Option<Vec<Vec<Buf<'r>>>>, array: Vec<Buf<'r>>)
+    requires emptied { AreEmptied (arrays_in arrays.old) }
+    requires empty { array.items ≡ [] }
+    ensures { AreEmptied (arrays_in arrays.new) }
+{
+    if let Some(arrays) = arrays {
+        if arrays.len() < arrays.capacity() {
+            arrays.push_reserved(array);
+        }
+    }
+}
+
+// Takes out the array that was kept last of those with room for so many buffers.
+fn take<'r>(arrays: &mut Option<Vec<Vec<Buf<'r>>>>, places: usize) -> Option<Vec<Buf<'r>>>
+    requires { AreEmptied (arrays_in arrays.old) }
+    ensures emptied { AreEmptied (arrays_in arrays.new) }
+    ensures array { IfSome result (λ a. (a.items ≡ []) × (places ≤ vec_capacity a)) }
+{
+    match arrays {
+        None => None,
+        Some(arrays) => {
+            let at = last_with_room(arrays.as_slice(), places)?;
+            Some(arrays.remove(at))
+        }
+    }
+}
+
+// Makes at least so many places, and twice as many as there are.
+fn make_places(arrays: &mut Option<Vec<Vec<Buf<'_>>>>, alloc: Global, places: usize)
+    ensures { arrays_in arrays.new ≡ arrays_in arrays.old }
+{
+    match arrays {
+        None => *arrays = Vec::with_capacity(alloc, LEAST).ok(),
+        Some(arrays) => {
+            let there = arrays.capacity();
+            if there < places {
+                let wanted = there.saturating_mul(2).max(places).min(MOST);
+                drop(arrays.reserve(wanted.saturating_sub(arrays.len())));
+            }
         }
     }
 }
 
 // The place of the last array that has room for so many buffers.
-fn last_with_room(arrays: &[Option<Vec<Buf<'_>>>], places: usize) -> Option<usize>
-    ensures { IfSome result (λ k. (k < length arrays.now) × HasRoom places (slice_index_or arrays.now k None)) }
+fn last_with_room(arrays: &[Vec<Buf<'_>>], places: usize) -> Option<usize>
+    ensures { IfSome result (λ k. RoomAt places k arrays.now) }
 {
     let mut at = arrays.len();
     while at > 0 {
         at -= 1;
-        if has_room(&arrays[at], places) {
+        if arrays[at].capacity() >= places {
             return Some(at);
         }
     }
     None
-}
-
-// Whether an array has room for so many buffers.
-fn has_room(array: &Option<Vec<Buf<'_>>>, places: usize) -> bool
-    ensures { IsTrue result ↔ HasRoom places array.now }
-{
-    match array {
-        None => false,
-        Some(array) => array.capacity() >= places,
-    }
 }

@@ -1,6 +1,6 @@
 use Rattle.std.proofs.Common.{arith}
 use Rattle.pool_desk.proofs.HandleLaws.{Handled-none, Handled-more, Handled-all, CountsOf-added, IsPassed-routed, last_all_passed}
-use Rattle.pool_desk.proofs.desk.Desk.handle.Goals as goal
+use Rattle.pool_desk.proofs.desk.Desk.handle_and_empty.Goals as goal
 
 pub loop-portion-init : goal.loop-portion-init
 loop-portion-init c =
@@ -12,7 +12,8 @@ handle_portion-counts-requires c = last_all_passed _ _ _ _ _ _ _ _ c.loop-portio
 
 pub loop-portion-preserved : goal.loop-portion-preserved
 loop-portion-preserved c =
-    Handled-more _ c.loop-portion.self _ _ c.pop_portion.new.self _ _ _ _ (rw c.in-Some.ensures.1 at c.loop-portion.invariant) c.handle_portion-counts.ensures.parts c.handle_portion-counts.ensures.counts
+    let handled = c.handle_portion-counts.ensures in
+    rw handled.magazine (Handled-more _ c.loop-portion.self _ _ c.pop_portion.new.self _ _ _ _ (rw c.in-Some.ensures.1 at c.loop-portion.invariant) handled.parts handled.counts)
 
 pub returns-clause-parts : goal.returns-clause-parts
 returns-clause-parts c =

@@ -1,6 +1,6 @@
 use Rattle.std.proofs.Common.{length}
 use Rattle.pool_desk.proofs.HandleLaws.{Handled}
-use Rattle.pool_desk.proofs.desk.Desk.handle.Given as goal
+use Rattle.pool_desk.proofs.desk.Desk.handle_and_empty.Given as goal
 
 abbrev pub invariant-loop-portion : goal.invariant-loop-portion
 invariant-loop-portion l = Handled l.fn.self (record { home = 0; on = 0 }) l.initial.magazine l.magazine l.self l.counts
