@@ -5,7 +5,7 @@ ghost use Rattle.batch_inbox.specs.Views.{batches_of};
 
 use batch_inbox::{Inbox, Mail, Mailbox, NewMail, PostError, Rest, SendSeat, TakeSeat};
 use digit_route::{Batch, Digits};
-use slot_chain::NoMemory;
+use slot_chain::{EmptyMagazine, NoMemory};
 use std::alloc::Global;
 use std::sync::Wait;
 use std::sync::atomic::{AtomicU64, Ordering};
@@ -59,6 +59,14 @@ impl<'r> Mail<'r> for Refusing<'r> {
 
     fn take<R: Wait>(&self, rt: &R, seat: &mut TakeSeat<'r>) -> Option<Batch<'r>> {
         self.inbox.take(rt, seat)
+    }
+
+    fn return_empty<R: Wait>(&self, rt: &R, _seat: &mut TakeSeat<'r>, empty: EmptyMagazine<'r>) {
+        self.inbox.return_empty(rt, empty);
+    }
+
+    fn reclaim_empty<R: Wait>(&self, rt: &R, _seat: &mut SendSeat<'r>) -> EmptyMagazine<'r> {
+        self.inbox.reclaim_empty(rt)
     }
 
     fn drain<R: Wait>(self, rt: &R, seat: TakeSeat<'r>, seats: Vec<SendSeat<'r>>) -> Rest<'r>

@@ -4,7 +4,7 @@ ghost use Rattle.batch_inbox.specs.Views.{batches_of};
 
 use batch_inbox::{Mail, Mailbox, NewMail, PostError, Receiver, Sender};
 use digit_route::{Batch, Digits};
-use slot_chain::NoMemory;
+use slot_chain::{EmptyMagazine, NoMemory};
 use std::alloc::Global;
 use std::sync::Wait;
 use std::sync::atomic::{AtomicBool, Ordering};
@@ -48,6 +48,14 @@ impl<'r, M: Mail<'r>> Mail<'r> for RefusingOnce<M> {
 
     fn take<R: Wait>(&self, rt: &R, seat: &mut M::TakeSeat) -> Option<Batch<'r>> {
         self.inner.take(rt, seat)
+    }
+
+    fn return_empty<R: Wait>(&self, rt: &R, seat: &mut M::TakeSeat, empty: EmptyMagazine<'r>) {
+        self.inner.return_empty(rt, seat, empty);
+    }
+
+    fn reclaim_empty<R: Wait>(&self, rt: &R, seat: &mut M::SendSeat) -> EmptyMagazine<'r> {
+        self.inner.reclaim_empty(rt, seat)
     }
 
     fn drain<R: Wait>(self, rt: &R, seat: M::TakeSeat, seats: Vec<M::SendSeat>) -> M::Rest

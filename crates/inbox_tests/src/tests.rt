@@ -4,6 +4,7 @@
 //! changes nothing, and works when it is made again.
 mod deep;
 mod dropped;
+mod empties;
 mod given_back;
 mod leaving;
 mod order;

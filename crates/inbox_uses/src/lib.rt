@@ -5,6 +5,7 @@
 
 mod counting;
 mod crossing;
+mod empties;
 mod handling;
 mod posting;
 mod seating;
@@ -17,6 +18,7 @@ pub use counting::Counting;
 pub use crossing::{
     batch_crosses, inbox_is_shared, rest_crosses, send_seat_crosses, take_seat_crosses,
 };
+pub use empties::{has_room, room};
 pub use handling::take_and_handle;
 pub use posting::{Posting, deliver, post_all};
 pub use seating::{put_seat, take_last_seat};

@@ -12,7 +12,7 @@ use Rattle.crossbeam_utils.specs.contracts.cache_padded.CachePadded as CachePadd
 use Rattle.loan_ledger.proofs.Travels.{loans_send, receipt_send}
 use Rattle.region_cut.proofs.part.Part.TheSendSync.{the_send as part_send}
 use Rattle.slot_chain.specs.contracts.buf.Buf as Buf
-use Rattle.digit_route.proofs.Travels.{buf_send, batch_send, parcel_send as packed_send}
+use Rattle.digit_route.proofs.Travels.{buf_send, batch_send, empty_send, parcel_send as packed_send}
 use Rattle.pool_desk.proofs.Travels.{desk_send}
 use Rattle.pool_desk.specs.contracts.desk.Desk as Desk
 use Rattle.slot_audit.specs.contracts.drawn.Drawn as Drawn
@@ -56,7 +56,7 @@ pub seat_send : (a : NamedLft) → IsSend (SendSeat.the_row a)
 seat_send a = search (sendable, crosses, pass_send, option_send, batch_send) depth 40 fits 6000
 
 pub inbox_sync : (a : NamedLft) → IsSync (Inbox.the_row a)
-inbox_sync a = search (sendable, crosses, line_sync, option_send, batch_send) depth 40 fits 6000
+inbox_sync a = search (sendable, crosses, line_sync, option_send, batch_send, empty_send) depth 40 fits 6000
 
 -- a parcel of buffers
 

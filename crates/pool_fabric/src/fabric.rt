@@ -17,6 +17,7 @@ use crate::store::Store;
 use batch_inbox::{Mail, Mailbox, Receiver, Sender};
 use digit_route::{Batch, Posting, Refused};
 use pool_desk::Desk;
+use slot_chain::EmptyMagazine;
 use std::fmt;
 use std::sync::{Mutex, Wait};
 
@@ -78,8 +79,14 @@ impl<'r, T: Receiver, S: Sender, M: Mail<'r, TakeSeat = T, SendSeat = S>, J: Nam
         self.shelf.lock(rt).put(station)
     }
 
-    // Posts a batch to its address. It comes back where the inbox refuses it, or there is none.
-    fn post_one<R: Wait>(&self, rt: &R, seats: &mut [S], batch: Batch<'r>) -> Result<(), Batch<'r>>
+    // Posts a batch to its address, and gets the memory of one that was emptied there. The batch comes back
+    // where the inbox refuses it, or there is none.
+    fn post_one<R: Wait>(
+        &self,
+        rt: &R,
+        seats: &mut [S],
+        batch: Batch<'r>,
+    ) -> Result<EmptyMagazine<'r>, Batch<'r>>
         requires seats { AreSeatsBy J.names batch.sender (map (seat_of S.inbox S.number S.sent S.resting) seats.old) }
         requires digits { batch.digits ≡ J.names.digits }
         ensures { let seat = seat_of S.inbox S.number S.sent S.resting in let b = batch.entry in MatchResult result
@@ -94,20 +101,20 @@ impl<'r, T: Receiver, S: Sender, M: Mail<'r, TakeSeat = T, SendSeat = S>, J: Nam
         let inbox = &inboxes[at];
         let seat = &mut seats[at];
         match inbox.post(rt, seat, batch) {
-            Ok(()) => Ok(()),
+            Ok(()) => Ok(inbox.reclaim_empty(rt, seat)),
             Err((batch, _)) => Err(batch),
         }
     }
 
-    // Posts a batch to its address. Where the inbox refuses it, or there is none, its buffers are added to
-    // what was refused.
+    // Posts a batch to its address, and gets the memory of one that was emptied there, if there is any.
+    // Where the inbox refuses the batch, or there is none, its buffers are added to what was refused.
     fn post_or_keep<R: Wait>(
         &self,
         rt: &R,
         seats: &mut [S],
         batch: Batch<'r>,
         refused: &mut Refused<'r>,
-    )
+    ) -> EmptyMagazine<'r>
         requires seats { AreSeatsBy J.names batch.sender (map (seat_of S.inbox S.number S.sent S.resting) seats.old) }
         requires digits { batch.digits ≡ J.names.digits }
         requires refused { (refused.old.number ≡ batch.sender) × (refused.old.digits ≡ batch.digits) }
@@ -115,8 +122,12 @@ impl<'r, T: Receiver, S: Sender, M: Mail<'r, TakeSeat = T, SendSeat = S>, J: Nam
         ensures goes { let seat = seat_of S.inbox S.number S.sent S.resting in
             SendsOrKeeps batch.entry (map seat seats.old) refused.old.items (map seat seats.new) refused.new.items }
     {
-        if let Err(batch) = self.post_one(rt, seats, batch) {
-            refused.add(batch);
+        match self.post_one(rt, seats, batch) {
+            Ok(empty) => empty,
+            Err(batch) => {
+                refused.add(batch);
+                EmptyMagazine::new()
+            }
         }
     }
 
@@ -138,12 +149,15 @@ impl<'r, T: Receiver, S: Sender, M: Mail<'r, TakeSeat = T, SendSeat = S>, J: Nam
     {
         let mut refused = Refused::new(desk.number(), desk.digits());
         while let Some(batch) = desk.next_of_first_round() {
-            self.post_or_keep(rt, seats, batch, &mut refused);
+            let address = batch.address();
+            let empty = self.post_or_keep(rt, seats, batch, &mut refused);
+            desk.reuse(address, empty);
         }
         refused
     }
 
-    // Posts all that a posting gives, and hands back what was refused.
+    // Posts all that a posting gives, and hands back what was refused. A row of a later round is let go, so
+    // the memory that comes back is let go too.
     fn post_rounds<R: Wait>(
         &self,
         rt: &R,
@@ -171,7 +185,7 @@ impl<'r, T: Receiver, S: Sender, M: Mail<'r, TakeSeat = T, SendSeat = S>, J: Nam
     {
         let mut refused = Refused::new(posting.number(), posting.digits());
         while let Some(batch) = posting.next_batch() {
-            self.post_or_keep(rt, seats, batch, &mut refused);
+            let _empty = self.post_or_keep(rt, seats, batch, &mut refused);
         }
         refused
     }
@@ -280,7 +294,7 @@ impl<'r, T: Receiver, S: Sender, M: Mail<'r, TakeSeat = T, SendSeat = S>, J: Nam
     }
 
     /// Takes batches from the desk's inbox and handles each, until it is given none, but not more
-    /// than [`MOST_TAKEN`]. Says how many.
+    /// than [`MOST_TAKEN`]. Says how many. The emptied magazines go back to those who sent them.
     pub fn take_some<R: Wait>(&self, rt: &R, desk: &mut Desk<'r>, seat: &mut T) -> u32
         requires digits { desk.old.digits ≡ J.names.digits }
         requires seat { T.inbox seat.old ≡ box_at J.names desk.old.number }
@@ -300,7 +314,8 @@ impl<'r, T: Receiver, S: Sender, M: Mail<'r, TakeSeat = T, SendSeat = S>, J: Nam
             let Some(batch) = inbox.take(rt, seat) else {
                 return taken;
             };
-            desk.handle(batch);
+            let (_counts, empty) = desk.handle_and_empty(batch);
+            inbox.return_empty(rt, seat, empty);
         }
         MOST_TAKEN
     }

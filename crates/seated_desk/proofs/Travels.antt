@@ -17,7 +17,7 @@ use Rattle.region_cut.proofs.part.Part.TheSendSync.{the_send as part_send}
 use Rattle.digit_route.proofs.Travels.{buf_send, batch_send, parcel_send}
 use Rattle.pool_desk.proofs.Travels.{desk_send}
 use Rattle.link_inbox.specs.contracts.inbox.LinkInbox as LinkInbox
-use Rattle.link_inbox.proofs.Travels.{link_inbox_sync, seat_send, take_send}
+use Rattle.link_inbox.proofs.Travels.{link_inbox_sync, load_send, seat_send, take_send}
 use Rattle.slot_audit.specs.contracts.drawn.Drawn as Drawn
 use Rattle.chunk_stock.specs.contracts.drawer.Stock as Stock
 use Rattle.chunk_stock.specs.contracts.drawer.Drawer as Drawer
@@ -41,7 +41,7 @@ leases_send : (T : RattleType) → IsSend (SendLease.the_row T Heap.the_row ghos
 leases_send T = lease_send T Heap.the_row ghosts send frees
 
 inbox_send : (a : NamedLft) → IsSend (LinkInbox.the_row a)
-inbox_send a = search (sendable, crosses, option_send, batch_send, shared_send, leases_send) depth 40 fits 6000
+inbox_send a = search (sendable, crosses, load_send, shared_send, leases_send) depth 40 fits 6000
 
 stock_sync : (a : NamedLft) → IsSync (Stock.the_row a)
 stock_sync a = search (sendable, crosses, option_send, part_send, shared_sync, leases_sync) depth 40 fits 6000

@@ -4,6 +4,7 @@ ghost use Rattle.std.specs.Arc.{arc_value};
 
 use digit_route::Batch;
 use link_inbox::{LinkInbox, SendSeat, TakeSeat};
+use slot_chain::EmptyMagazine;
 use std::sync::Arc;
 
 /// Where a desk posts.
@@ -24,8 +25,8 @@ pub(crate) struct TakingEnd<'r> {
 }
 
 impl<'r> PostingEnd<'r> {
-    /// Posts a batch, or hands it back.
-    pub(crate) fn post(&mut self, batch: Batch<'r>) -> Result<(), Batch<'r>>
+    /// Posts a batch, and gives the memory of one that was emptied there; or hands the batch back.
+    pub(crate) fn post(&mut self, batch: Batch<'r>) -> Result<EmptyMagazine<'r>, Batch<'r>>
         ensures { IfErr result (λ b. b ≡ batch.entry) }
     {
         if batch.sender() != self.seat.sender() {
@@ -35,7 +36,7 @@ impl<'r> PostingEnd<'r> {
             return Err(batch);
         }
         match self.inbox.post(&mut self.seat, batch) {
-            Ok(()) => Ok(()),
+            Ok(()) => Ok(self.inbox.reclaim_empty(&mut self.seat)),
             Err((back, _)) => Err(back),
         }
     }
@@ -45,5 +46,10 @@ impl<'r> TakingEnd<'r> {
     /// Takes the first batch that can be reached.
     pub(crate) fn take(&mut self) -> Option<Batch<'r>> {
         self.inbox.take(&mut self.seat)
+    }
+
+    /// Leaves the memory of a batch that was taken to those who post here.
+    pub(crate) fn return_empty(&mut self, empty: EmptyMagazine<'r>) {
+        self.inbox.return_empty(&mut self.seat, empty);
     }
 }

@@ -104,7 +104,8 @@ impl<'r> Station<'r> {
             if batch.address() != self.desk.number() || batch.digits() != self.desk.digits() {
                 return count;
             }
-            self.desk.handle(batch);
+            let (_counts, empty) = self.desk.handle_and_empty(batch);
+            self.inward.return_empty(empty);
             self.taken = self.taken.wrapping_add(1);
         }
         MOST_TAKEN
@@ -117,12 +118,14 @@ impl<'r> Station<'r> {
         let Some(batch) = next_of(&mut self.desk) else {
             return false;
         };
-        let Some(end) = self.outward.get_mut(batch.address() as usize) else {
+        let address = batch.address();
+        let Some(end) = self.outward.get_mut(address as usize) else {
             self.desk.refused(batch);
             return false;
         };
         match end.post(batch) {
-            Ok(()) => {
+            Ok(empty) => {
+                self.desk.reuse(address, empty);
                 self.posted = self.posted.wrapping_add(1);
                 true
             }

@@ -31,7 +31,7 @@ loop-batch-smaller g c =
     let v = c.in-Some.ensures.value in
     let at = v.routed.owned in
     let l = at.2 in
-    batch_smaller c.loop-batch.desk.cached c.in-Some.batch.items c.next_of_first_round.new.self.cached v.taken.together (omega arith)
+    rw c.reuse.ensures (batch_smaller c.loop-batch.desk.cached c.in-Some.batch.items c.next_of_first_round.new.self.cached v.taken.together (omega arith))
 
 pub loop-batch-preserved : goal.loop-batch-preserved
 loop-batch-preserved g c =
@@ -40,19 +40,19 @@ loop-batch-preserved g c =
     let b = c.in-Some.batch in
     let d = c.args.desk.now in
     let new = c.next_of_first_round.new.self in
-    let goes = c.post_or_keep.ensures.goes in
+    let goes = c.post_or_keep-empty.ensures.goes in
     let ss = map as_seat c.loop-batch.seats in
-    let after = map as_seat c.post_or_keep.new.seats in
+    let after = map as_seat c.post_or_keep-empty.new.seats in
     let x = c.loop-batch.refused.items in
-    let y = c.post_or_keep.new.refused.items in
+    let y = c.post_or_keep-empty.new.refused.items in
     let number : c.loop-batch.desk.number ≡ d.number = ap (λ (d : DeskState). d.number) i.same in
     let digits : c.loop-batch.desk.digits ≡ d.digits = ap (λ (d : DeskState). d.digits) i.same in
     let gives : GivesBucket d.digits d.number c.loop-batch.desk.cached b new.cached =
     subst (λ (s : Scheme). GivesBucket s d.number c.loop-batch.desk.cached b new.cached) digits
     (subst (λ a. GivesBucket c.loop-batch.desk.digits a c.loop-batch.desk.cached b new.cached) number c.in-Some.ensures.value) in
-    record {
+    rw c.reuse.ensures (record {
       same = c.in-Some.ensures.same ∙ ap (λ (d : DeskState). record d { cached = new.cached }) i.same;
-      refused = c.post_or_keep.ensures.same ∙ ap (λ (r : RefusedState). record r { items = y }) i.refused;
+      refused = c.post_or_keep-empty.ensures.same ∙ ap (λ (r : RefusedState). record r { items = y }) i.refused;
       seats = seats_kept g.J.Naming.names d.number b ss after x y i.seats goes;
       posts = posts_more d.digits d.number d.cached c.loop-batch.desk.cached new.cached x y (map as_seat c.args.seats.now) ss after b i.posts gives goes;
-    }
+    })

@@ -39,11 +39,11 @@ loop-batch-preserved g c =
     let b = c.in-Some.batch in
     let d = c.args.posting.now in
     let new = c.next_batch.new.self in
-    let goes = c.post_or_keep.ensures.goes in
+    let goes = c.post_or_keep-empty.ensures.goes in
     let ss = map as_seat c.loop-batch.seats in
-    let after = map as_seat c.post_or_keep.new.seats in
+    let after = map as_seat c.post_or_keep-empty.new.seats in
     let x = c.loop-batch.refused.items in
-    let y = c.post_or_keep.new.refused.items in
+    let y = c.post_or_keep-empty.new.refused.items in
     let number : c.loop-batch.posting.number ≡ d.number = ap (λ (p : PostingState). p.number) i.same in
     let digits : c.loop-batch.posting.digits ≡ d.digits = ap (λ (p : PostingState). p.digits) i.same in
     let gives : GivesBucket d.digits d.number c.loop-batch.posting.items b new.items =
@@ -52,7 +52,7 @@ loop-batch-preserved g c =
     record {
       same = c.in-Some.ensures.same
           ∙ ap (λ (p : PostingState). record p { round = new.round; moves = new.moves; items = new.items }) i.same;
-      refused = c.post_or_keep.ensures.same ∙ ap (λ (r : RefusedState). record r { items = y }) i.refused;
+      refused = c.post_or_keep-empty.ensures.same ∙ ap (λ (r : RefusedState). record r { items = y }) i.refused;
       seats = seats_kept g.J.Naming.names d.number b ss after x y i.seats goes;
       posts = posts_more d.digits d.number d.items c.loop-batch.posting.items new.items x y (map as_seat c.args.seats.now) ss after b i.posts gives goes;
     }

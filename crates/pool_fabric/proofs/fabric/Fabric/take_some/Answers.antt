@@ -14,29 +14,38 @@ take-requires g c κs =
     let number = c.from-at.ensures ∙ c.number.ensures.value in
     ((refl, tt), c.loop-taken.invariant.inbox ∙ c.requires.seat ∙ ap (box_at g.J.Naming.names) (sym number) ∙ sym box.0)
 
-pub handle-requires-clause-address : goal.handle-requires-clause-address
-handle-requires-clause-address g c =
+pub handle_and_empty-empty-requires-clause-address : goal.handle_and_empty-empty-requires-clause-address
+handle_and_empty-empty-requires-clause-address g c =
     let at = c.from-at.result in
     let in_boxes : at < length c.args.self.now.inboxes.items = omega (arith, c.if-at-len.false, c.len.ensures, c.args.self.now.inboxes.ok) in
     let box = c.args.self.now.boxes.each at _ (get_map g.M.Mailbox.id _ at _ (slice_get_read _ _ at _ refl in_boxes c.index-inbox.ensures)) in
     let number = c.from-at.ensures ∙ c.number.ensures.value in
     ap (λ (p : Place). p.address) (c.in-Some.ensures.batch.1 ∙ box.1) ∙ number ∙ sym c.loop-taken.invariant.number
 
-pub handle-requires-clause-digits : goal.handle-requires-clause-digits
-handle-requires-clause-digits g c =
+pub handle_and_empty-empty-requires-clause-digits : goal.handle_and_empty-empty-requires-clause-digits
+handle_and_empty-empty-requires-clause-digits g c =
     let at = c.from-at.result in
     let in_boxes : at < length c.args.self.now.inboxes.items = omega (arith, c.if-at-len.false, c.len.ensures, c.args.self.now.inboxes.ok) in
     let box = c.args.self.now.boxes.each at _ (get_map g.M.Mailbox.id _ at _ (slice_get_read _ _ at _ refl in_boxes c.index-inbox.ensures)) in
     ap (λ (p : Place). p.digits) (c.in-Some.ensures.batch.1 ∙ box.1) ∙ sym (c.loop-taken.invariant.digits ∙ c.requires.digits)
 
+pub return_empty-requires : goal.return_empty-requires
+return_empty-requires g c κs =
+    let at = c.from-at.result in
+    let in_boxes : at < length c.args.self.now.inboxes.items = omega (arith, c.if-at-len.false, c.len.ensures, c.args.self.now.inboxes.ok) in
+    let box = c.args.self.now.boxes.each at _ (get_map g.M.Mailbox.id _ at _ (slice_get_read _ _ at _ refl in_boxes c.index-inbox.ensures)) in
+    let number = c.from-at.ensures ∙ c.number.ensures.value in
+    ((refl, tt), c.in-Some.ensures.seat.0 ∙ (c.loop-taken.invariant.inbox ∙ (c.requires.seat ∙ (ap (box_at g.J.Naming.names) (sym number) ∙ sym box.0))))
+
 pub loop-taken-preserved : goal.loop-taken-preserved
 loop-taken-preserved g c =
     let i = c.loop-taken.invariant in
     let e = c.in-Some.ensures in
-    let h = c.handle.ensures.parts in
+    let h = c.handle_and_empty-empty.ensures.parts in
+    let back = c.return_empty.ensures in
     record {
-      taken = takes_more _ _ _ _ _ _ _ c.in-Some.batch i.taken e.seat e.batch.0 h;
+      taken = takes_more _ _ _ _ _ _ _ c.in-Some.batch i.taken (back.0 ∙ e.seat.0, back.1 ∙ e.seat.1) (back.2 ∙ e.batch.0) h;
       number = ap (λ (d : DeskState). d.number) h.same ∙ i.number;
       digits = ap (λ (d : DeskState). d.digits) h.same ∙ i.digits;
-      inbox = e.seat.0 ∙ i.inbox;
+      inbox = back.0 ∙ (e.seat.0 ∙ i.inbox);
     }
