@@ -1,6 +1,8 @@
 //! The calls that take no memory, between two marks behind which `.ci/no_memory.py` refuses each
 //! allocation. No clause says that a call takes none: a `push` that grows its array would meet all
 //! of them.
+ghost use Rattle.std.specs.Prelude.{◌≡◌, []};
+
 use crate::tests::order::chains;
 use crate::tests::same;
 use memory_marks::{Mark, set};
@@ -173,23 +175,34 @@ fn appended_arrays_take_none(rt: HostRuntime) {
     }
 }
 
-// Empties the array of a list into a chain, and gives what is left of the list.
+// The array, whose eight buffers go to a chain.
+fn unloaded<'r>(mut array: Vec<Buf<'r>>, chain: &mut Chain<'r>) -> Vec<Buf<'r>>
+    ensures { result.items ≡ [] }
+{
+    for _ in 0..8 {
+        if let Some(buf) = array.pop() {
+            chain.push(buf);
+        }
+    }
+    array.clear();
+    array
+}
+
+// Empties a list, which has an array of its own and nothing else, and gives what is left of it.
 fn emptied<'r>(
     rt: &impl Abort,
     mut list: Magazine<'r>,
     chain: &mut Chain<'r>,
 ) -> EmptyMagazine<'r> {
-    while let Some(portion) = list.pop_portion() {
-        let Portion::Array(mut array) = portion else {
-            assert!(rt; false, "an array of the list's own");
-            return EmptyMagazine::new();
-        };
-        while let Some(buf) = array.pop() {
-            chain.push(buf);
+    for _ in 0..2 {
+        match list.pop_portion() {
+            None => return list.into_empty(),
+            Some(Portion::Array(array)) => list.put_back(unloaded(array, chain)),
+            Some(_) => assert!(rt; false, "an array of the list's own"),
         }
-        list.put_back(array);
     }
-    list.into_empty()
+    assert!(rt; false, "one array");
+    EmptyMagazine::new()
 }
 
 // What a list had goes out with its buffers, comes back empty, and names buffers again, three times.

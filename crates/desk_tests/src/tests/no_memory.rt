@@ -226,6 +226,88 @@ fn anothers_parcel_takes_none(rt: HostRuntime) {
     parcels(&rt, alloc, parts(&rt, alloc, &mut region));
 }
 
+// All eight are freed at another desk and come home, three times. The emptied magazine goes back each time.
+fn cross_thrice<'r>(
+    rt: &impl Abort,
+    alloc: Global,
+    owner: &mut Desk<'r>,
+    other: &mut Desk<'r>,
+    mut lent: Chain<'r>,
+) {
+    for _ in 0..3 {
+        free_each(rt, other, lent, Freed::Cached);
+        let batch = other.next_of_first_round().expect(rt, "a batch");
+        assert!(rt; batch.address() == owner.number() && batch.digits() == owner.digits());
+        let (counts, empty) = owner.handle_and_empty(batch);
+        assert!(rt; counts.home == 8 && counts.on == 0);
+        other.reuse(owner.number(), empty);
+        // there is room already, so none is made
+        other.make_room(alloc);
+        lent = lend_again(rt, alloc, owner);
+    }
+}
+
+fn magazines<'r>(rt: &impl Abort, alloc: Global, mut parts: Vec<Part<'r>>) {
+    let mut owner = desk(rt, 1);
+    let mut other = desk(rt, 0);
+    claim(rt, &mut owner, &mut parts, class(15));
+    let lent = lend_all(rt, alloc, &mut owner);
+    cross(rt, alloc, &mut owner, &mut other, lent);
+    other.make_room(alloc);
+    let lent = lend_all(rt, alloc, &mut owner);
+    set(alloc, Mark::TakesNone);
+    cross_thrice(rt, alloc, &mut owner, &mut other, lent);
+    set(alloc, Mark::MayTake);
+}
+
+#[test]
+fn a_magazine_that_goes_back_takes_none(rt: HostRuntime) {
+    let alloc = rt.alloc();
+    let mut region = region(&rt, alloc, 1);
+    magazines(&rt, alloc, parts(&rt, alloc, &mut region));
+}
+
+// Parcels of an owner are freed at another desk and come home as they are, three times.
+fn parcels_cross_thrice<'r>(
+    rt: &impl Abort,
+    alloc: Global,
+    owner: &mut Desk<'r>,
+    other: &mut Desk<'r>,
+    mut parcel: BufParcel<'r>,
+) {
+    for _ in 0..3 {
+        free_all_is(rt, other, parcel, Freed::Cached);
+        let batch = other.next_of_first_round().expect(rt, "a batch");
+        assert!(rt; batch.address() == owner.number() && batch.digits() == owner.digits());
+        let (counts, empty) = owner.handle_and_empty(batch);
+        assert!(rt; counts.home == 3 && counts.on == 0);
+        other.reuse(owner.number(), empty);
+        other.make_room(alloc);
+        parcel = packed(rt, alloc, owner, 512, 3);
+    }
+}
+
+// The first parcel finds no room for its array, and the second takes its array along.
+fn parcels_go_back<'r>(rt: &impl Abort, alloc: Global, mut parts: Vec<Part<'r>>) {
+    let mut owner = desk(rt, 1);
+    let mut other = desk(rt, 0);
+    claim(rt, &mut owner, &mut parts, class(15));
+    let first = packed(rt, alloc, &mut owner, 512, 3);
+    cross_as_one(rt, &mut owner, &mut other, first);
+    other.make_room(alloc);
+    let second = packed(rt, alloc, &mut owner, 512, 3);
+    set(alloc, Mark::TakesNone);
+    parcels_cross_thrice(rt, alloc, &mut owner, &mut other, second);
+    set(alloc, Mark::MayTake);
+}
+
+#[test]
+fn room_for_parcels_that_goes_back_takes_none(rt: HostRuntime) {
+    let alloc = rt.alloc();
+    let mut region = region(&rt, alloc, 1);
+    parcels_go_back(&rt, alloc, parts(&rt, alloc, &mut region));
+}
+
 // What is cached is posted, and both workers leave.
 fn leave<'r>(rt: &impl Abort, mut zero: Desk<'r>, mut one: Desk<'r>) {
     comes_back(rt, &mut zero);
