@@ -161,22 +161,6 @@ impl<
         taken
     }
 
-    // Asks the desk.
-    #[inline(always)]
-    #[tactic(auto, using(crate::proofs::Fillings::lent_empty))]
-    fn ask(&mut self, class: Class) -> Result<Buffer<'r, J>, PoolError>
-        requires { class < classes_of (profile_of J.names.digits.bits) }
-        ensures { ServesClass J.names self.old class result self.new }
-    {
-        let answer = self.station.alloc_class(self.alloc, class);
-        match answer {
-            Ok(buffer) => Ok(buffer),
-            Err(DeskError::NeedChunk(_)) => Err(PoolError::UsedUp),
-            Err(DeskError::NoMemory) => Err(PoolError::NoMemory),
-            Err(_) => unreachable!(),
-        }
-    }
-
     // Takes what came in batches, and claims a part of the stock where no slot of the class is among it.
     // A post that was refused is then tried again with the next buffer that is freed.
     #[cold]
@@ -192,29 +176,43 @@ impl<
         }
     }
 
-    // Lends a buffer of the class. What is seldom is all in a function of its own, so that an answer
-    // isn't written to memory on the way.
+    // Lends a buffer of the class where one is at home and wants no memory that isn't there.
     #[inline(always)]
     #[tactic(auto, using(crate::proofs::Fillings::lent_empty))]
-    pub(crate) fn lend<R: Wait>(&mut self, rt: &R, class: Class) -> Result<Buffer<'r, J>, PoolError>
+    pub(crate) fn lend_at_home(&mut self, class: Class) -> Option<Buffer<'r, J>>
+        requires { class < classes_of (profile_of J.names.digits.bits) }
+        ensures { MatchOption result (self.new ≡ self.old) (λ b. ServesClass J.names self.old class (Ok b) self.new) }
+    {
+        self.station.alloc_class(self.alloc, class).ok()
+    }
+
+    // Fetches a slot of the class, and lends it, where none was at home or each wants memory. It answers in
+    // one register; why there is none, `why_none` says.
+    #[cold]
+    #[inline(never)]
+    pub(crate) fn lend_fetched<R: Wait>(&mut self, rt: &R, class: Class) -> Option<Buffer<'r, J>>
+        requires { class < classes_of (profile_of J.names.digits.bits) }
+        ensures { MatchOption result (Keeps J.names self.old self.new)
+            (λ b. ServesClass J.names self.old class (Ok b) self.new) }
+    {
+        self.fetch(rt, class);
+        self.lend_at_home(class)
+    }
+
+    // Why no buffer of the class is lent. Where memory has come meanwhile, one is.
+    #[cold]
+    #[inline(never)]
+    #[tactic(auto, using(crate::proofs::Fillings::lent_empty))]
+    pub(crate) fn why_none(&mut self, class: Class) -> Result<Buffer<'r, J>, PoolError>
         requires { class < classes_of (profile_of J.names.digits.bits) }
         ensures { ServesClass J.names self.old class result self.new }
     {
         match self.station.alloc_class(self.alloc, class) {
             Ok(buffer) => Ok(buffer),
-            Err(_) => self.ask_again(rt, class),
+            Err(DeskError::NeedChunk(_)) => Err(PoolError::UsedUp),
+            Err(DeskError::NoMemory) => Err(PoolError::NoMemory),
+            Err(_) => unreachable!(),
         }
-    }
-
-    // Fetches a slot of the class, and lends it, where none is at home or each wants memory.
-    #[cold]
-    #[inline(never)]
-    fn ask_again<R: Wait>(&mut self, rt: &R, class: Class) -> Result<Buffer<'r, J>, PoolError>
-        requires { class < classes_of (profile_of J.names.digits.bits) }
-        ensures { ServesClass J.names self.old class result self.new }
-    {
-        self.fetch(rt, class);
-        self.ask(class)
     }
 
     /// Lends a buffer of at least `size` bytes. Nothing of it is cleared.
@@ -239,7 +237,13 @@ impl<
                 if self.is_to_look(1) {
                     self.fetch(rt, class);
                 }
-                self.lend(rt, class)
+                match self.lend_at_home(class) {
+                    Some(buffer) => Ok(buffer),
+                    None => match self.lend_fetched(rt, class) {
+                        Some(buffer) => Ok(buffer),
+                        None => self.why_none(class),
+                    },
+                }
             }
         };
         self.after(call);
@@ -360,8 +364,8 @@ impl<
 
     /// An empty parcel for buffers of this allocator, with room for at least `places` of them.
     ///
-    /// Up to 16 arrays in which buffers came home are kept and reused, each for at most 256 buffers.
-    /// Memory is taken only where none of these is large enough.
+    /// Arrays in which buffers came home are kept and reused: as many as were made here, at most 1,024, each
+    /// for at most 256 buffers. Memory is taken only where none of these is large enough.
     pub fn parcel(&mut self, places: usize) -> Result<Parcel<'r, J>, NoMemory>
         ensures same { self.new ≡ self.old }
         ensures value { IfOk result (λ p.

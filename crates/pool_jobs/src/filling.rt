@@ -196,7 +196,13 @@ impl<
             (λ _. LendsInto J.names size 1 self.old parcel.old 1 self.new parcel.new)
             (λ e. ServesClass J.names self.old class (Err e) self.new × (parcel.new ≡ parcel.old)) }
     {
-        let buffer = self.lend(rt, class)?;
+        let buffer = match self.lend_at_home(class) {
+            Some(buffer) => buffer,
+            None => match self.lend_fetched(rt, class) {
+                Some(buffer) => buffer,
+                None => self.why_none(class)?,
+            },
+        };
         let Ok(()) = parcel.push(buffer) else {
             unreachable!();
         };

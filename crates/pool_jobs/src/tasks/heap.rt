@@ -41,7 +41,8 @@ pub trait Heap: Drop {
     /// came, yields, and then sleeps, so that it uses little of a core.
     ///
     /// A task that waits while it holds back what others need can wait for ever, as one does that waits
-    /// for more buffers than the pool has.
+    /// for more buffers than the pool has. Buffers in messages that it didn't receive yet are held back by
+    /// it too: it doesn't look there while it waits.
     fn alloc_waiting<R: Wait + Clock>(
         &mut self,
         rt: &R,
@@ -72,8 +73,8 @@ pub trait Heap: Drop {
     fn free<R: Wait>(&mut self, rt: &R, buffer: Self::Buffer);
 
     /// An empty parcel for buffers that this allocator lends, with room for at least so many. It takes no
-    /// others: a task can't repack what it received. [`NoMemory`]: no kept array is large enough (up to 16
-    /// are kept, each for at most 256 buffers), and the system refused memory for one.
+    /// others: a task can't repack what it received. [`NoMemory`]: no kept array is large enough (as many
+    /// are kept as were made, each for at most 256 buffers), and the system refused memory for one.
     fn parcel(&mut self, places: usize) -> Result<Self::Parcel, NoMemory>
         ensures places { IfOk result (λ p. places ≤ Self.Parcel.places p) }
         ensures empty { IfOk result (λ p. Self.Parcel.fillings p ≡ []) }
