@@ -14,7 +14,7 @@ use Rattle.atomic_table.proofs.shared.Seat.TheSendSync.{the_send as token_send}
 use Rattle.atomic_table.specs.contracts.send_lease.SendLease as SendLease
 use Rattle.atomic_table.proofs.send_lease.SendLease.TheSendSync.{the_sync as lease_sync, the_send as lease_send}
 use Rattle.region_cut.proofs.part.Part.TheSendSync.{the_send as part_send}
-use Rattle.digit_route.proofs.Travels.{buf_send, batch_send, parcel_send}
+use Rattle.digit_route.proofs.Travels.{buf_send, parcel_send}
 use Rattle.pool_desk.proofs.Travels.{desk_send}
 use Rattle.link_inbox.specs.contracts.inbox.LinkInbox as LinkInbox
 use Rattle.link_inbox.proofs.Travels.{link_inbox_sync, load_send, seat_send, take_send}

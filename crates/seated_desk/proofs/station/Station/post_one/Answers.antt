@@ -10,7 +10,7 @@ pub invariant_of-self-in_default-get_mut-clause-noted : goal.invariant_of-self-i
 invariant_of-self-in_default-get_mut-clause-noted c = noted_same _ _ _ (ap (λ (d : DeskState). d.drawn) c.refused.ensures.same ∙ c.next_of.ensures.same.drawn) c.args.self.now.noted
 
 pub invariant_of-self-in-Ok-clause-noted : goal.invariant_of-self-in-Ok-clause-noted
-invariant_of-self-in-Ok-clause-noted c = noted_same _ _ _ c.next_of.ensures.same.drawn c.args.self.now.noted
+invariant_of-self-in-Ok-clause-noted c = noted_same _ _ _ (ap (λ (d : DeskState). d.drawn) c.reuse.ensures ∙ c.next_of.ensures.same.drawn) c.args.self.now.noted
 
 pub invariant_of-self-in-Err-clause-noted : goal.invariant_of-self-in-Err-clause-noted
 invariant_of-self-in-Err-clause-noted c = noted_same _ _ _ (ap (λ (d : DeskState). d.drawn) c.refused-in-Err.ensures.same ∙ c.next_of.ensures.same.drawn) c.args.self.now.noted
