@@ -198,7 +198,8 @@ fn emptied<'r>(
         match list.pop_portion() {
             None => return list.into_empty(),
             Some(Portion::Array(array)) => list.put_back(unloaded(array, chain)),
-            Some(_) => assert!(rt; false, "an array of the list's own"),
+            Some(Portion::Linked(_chain)) => assert!(rt; false, "nothing is linked"),
+            Some(Portion::Whole(_array)) => assert!(rt; false, "no array came as a whole"),
         }
     }
     assert!(rt; false, "one array");
