@@ -5,9 +5,7 @@
 //! The threads stand in a ring. Each frees what comes from the thread before it, and sends buffers of its own to the
 //! next one. Each has sent as many messages as any other, but for those in the edges, so all have worked for a while
 //! when the first of them sets the marks, and none has ended then.
-use fustrevol::{
-    Burst, CHUNK, Edges, Heap, InboxKind, LARGEST_DEFAULT_LIMIT, Message, Pool, PoolError, Task,
-};
+use fustrevol::{Burst, CHUNK, Edges, Heap, InboxKind, Message, Pool, PoolError, Task};
 use memory_marks::{Mark, set};
 use std::alloc::Global;
 use std::process::Abort;
@@ -133,18 +131,29 @@ fn ring(alloc: Global, count: usize, packing: Packing) -> Result<Vec<InRing>, Fa
     Ok(tasks)
 }
 
-// So many tasks over the inbox that allocates nothing, whose caches hold so many bytes.
+// When caches are posted.
+#[derive(Clone, Copy)]
+enum Posts {
+    // Above 8,192 bytes.
+    Often,
+    // Above the limit that the pool picks, and where a thread waits.
+    AsPicked,
+}
+
+// So many tasks over the inbox that allocates nothing.
 fn goes_round<R: AllocGlobal + Abort + Threads + Wait + Clock + Sync>(
     rt: &R,
     count: usize,
     packing: Packing,
-    limit: u64,
+    posts: Posts,
 ) -> Result<(), Fail> {
     let mut region = vec![in rt.alloc(); 0u8; count.saturating_mul(CHUNKS * CHUNK)]?;
-    let pool = Pool::new(rt.alloc(), &mut region)?.limit(limit);
-    let report = pool
-        .inbox(InboxKind::Linked)
-        .run(rt, ring(rt.alloc(), count, packing)?)?;
+    let pool = Pool::new(rt.alloc(), &mut region)?.inbox(InboxKind::Linked);
+    let pool = match posts {
+        Posts::Often => pool.limit(8_192),
+        Posts::AsPicked => pool,
+    };
+    let report = pool.run(rt, ring(rt.alloc(), count, packing)?)?;
     for answer in report.answers {
         assert!(rt; answer == Some(Ok(())));
     }
@@ -154,36 +163,35 @@ fn goes_round<R: AllocGlobal + Abort + Threads + Wait + Clock + Sync>(
 
 #[test]
 fn single_buffers_of_two_threads(rt: HostRuntime) -> Result<(), Fail> {
-    goes_round(&rt, 2, Packing::Single, 8_192)
+    goes_round(&rt, 2, Packing::Single, Posts::Often)
 }
 
 #[test]
 fn single_buffers_of_eight_threads(rt: HostRuntime) -> Result<(), Fail> {
-    goes_round(&rt, 8, Packing::Single, 8_192)
+    goes_round(&rt, 8, Packing::Single, Posts::Often)
 }
 
 #[test]
 fn parcels_of_two_threads(rt: HostRuntime) -> Result<(), Fail> {
-    goes_round(&rt, 2, Packing::Pushed, 8_192)
+    goes_round(&rt, 2, Packing::Pushed, Posts::Often)
 }
 
 #[test]
 fn parcels_of_eight_threads(rt: HostRuntime) -> Result<(), Fail> {
-    goes_round(&rt, 8, Packing::Pushed, 8_192)
+    goes_round(&rt, 8, Packing::Pushed, Posts::Often)
 }
 
 #[test]
 fn filled_parcels_of_two_threads(rt: HostRuntime) -> Result<(), Fail> {
-    goes_round(&rt, 2, Packing::Filled, 8_192)
+    goes_round(&rt, 2, Packing::Filled, Posts::Often)
 }
 
 #[test]
 fn filled_parcels_of_eight_threads(rt: HostRuntime) -> Result<(), Fail> {
-    goes_round(&rt, 8, Packing::Filled, 8_192)
+    goes_round(&rt, 8, Packing::Filled, Posts::Often)
 }
 
-// The caches are never full: each thread posts where it waits.
 #[test]
 fn parcels_at_the_limit_that_the_pool_picks(rt: HostRuntime) -> Result<(), Fail> {
-    goes_round(&rt, 4, Packing::Pushed, LARGEST_DEFAULT_LIMIT)
+    goes_round(&rt, 4, Packing::Pushed, Posts::AsPicked)
 }
