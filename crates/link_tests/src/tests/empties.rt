@@ -47,15 +47,32 @@ fn passes<'r>(
     takes(rt, inbox, take, 0, number);
 }
 
+// Sixteen batches go through the inbox, one by one.
+fn sixteen_pass<'r>(
+    rt: &impl Abort,
+    alloc: Global,
+    inbox: &LinkInbox<'r>,
+    take: &mut TakeSeat<'r>,
+    seat: &mut SendSeat<'r>,
+    supply: &mut Supply<'r>,
+)
+    requires take { take.old.inbox ≡ inbox.now }
+    requires seat { (seat.old.inbox ≡ inbox.now) × (seat.old.half ≡ None) }
+    ensures take { take.new.inbox ≡ take.old.inbox }
+    ensures seat { (seat.new.inbox ≡ seat.old.inbox) × (seat.new.half ≡ None) }
+{
+    for number in 0..16 {
+        passes(rt, alloc, inbox, take, seat, supply, number);
+    }
+}
+
 // What is left before the first batch is taken comes back with the seventeenth, in the same node, and once.
 fn goes_back<'r>(rt: &impl Abort, alloc: Global, mut supply: Supply<'r>) {
     let (inbox, mut take, mut seats) = open(rt, alloc, 1);
     let mut seat = take_last_seat(&inbox, &mut seats).expect(rt, "a seat");
     let batch = batch_of(rt, alloc, &mut supply, 0, 99);
     inbox.return_empty(&mut take, room(alloc, batch));
-    for number in 0..16 {
-        passes(rt, alloc, &inbox, &mut take, &mut seat, &mut supply, number);
-    }
+    sixteen_pass(rt, alloc, &inbox, &mut take, &mut seat, &mut supply);
     let batch = batch_of(rt, alloc, &mut supply, 0, 16);
     post(rt, &inbox, &mut seat, batch);
     gets(rt, alloc, &inbox, &mut seat, &mut supply, true);
