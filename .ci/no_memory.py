@@ -29,7 +29,7 @@ import built_tests
 
 TOP = pathlib.Path(__file__).resolve().parent.parent
 SECONDS = 60
-CRATES = ["chain_tests", "desk_tests", "fabric_uses", "fustrevol_tests", "inbox_tests", "link_tests", "route_uses"]
+CRATES = ["chain_tests", "desk_tests", "fabric_uses", "inbox_tests", "link_tests", "route_uses"]
 KINDS = ("no_memory::", "given_back::")
 
 # As `Mark::bytes` of `memory_marks` has them.

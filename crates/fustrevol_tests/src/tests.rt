@@ -1,7 +1,6 @@
 //! Two tasks over a pool: one sends buffers of the greatest size, and the other one frees them.
 
 mod limits;
-mod no_memory;
 mod refused;
 mod settings;
 
