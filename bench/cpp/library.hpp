@@ -1,5 +1,6 @@
 // What a program in C lends from: the library of ../../c. All workers have allocators of one pool.
 #pragma once
+#include "blocks.hpp"
 #include "lenders.hpp"
 #include <cstdio>
 #include <fustrevol.h>
@@ -91,14 +92,15 @@ struct InBursts {
   struct Back {};
 
   static Back first() { return {}; }
-  static Block open(Library &lender, Back) {
+  template <class Next> static Block filled(Library &lender, Back, Next next) {
     Block burst;
     fv_burst_init(&burst);
-    if (fv_burst_open(lender.get(), &burst, 64) != FV_OK) abort();
+    if (fv_burst_open(lender.get(), &burst, BLOCK) != FV_OK) abort();
+    for (size_t i = 0; i < BLOCK; i++) {
+      Library::Lent lent = lender.lend(next());
+      if (fv_burst_push(&burst, &lent.buf) != FV_OK) abort();
+    }
     return burst;
-  }
-  static void put(Block &burst, Library::Lent lent) {
-    if (fv_burst_push(&burst, &lent.buf) != FV_OK) abort();
   }
   static Back give_all(Library &lender, Block &burst) {
     fv_burst_free(lender.get(), &burst);
