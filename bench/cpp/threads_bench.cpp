@@ -5,8 +5,9 @@
 //
 // LENDER is malloc, nothing for the loop and the hand-over alone, one of the pools of pools.hpp (boxes or slots), that
 // of magazines.hpp (magazines), of rings.hpp (rings) or of parcels.hpp (parcels); where this was built with the C
-// library, that, with blocks of buffers (library) or in bursts (bursts). Each thread runs TURNS turns of COUNT
-// buffers, and the workload, the nanoseconds and the sum of the sizes of all threads are printed.
+// library, that, with blocks of buffers (library) or in bursts (bursts); where with DPDK, its rte_mempool, element by
+// element (mempool) or a block by one call (bulk). Each thread runs TURNS turns of COUNT buffers, and the workload, the
+// nanoseconds and the sum of the sizes of all threads are printed.
 #include "crew.hpp"
 #include "magazines.hpp"
 #include "parcels.hpp"
@@ -14,6 +15,9 @@
 #include "rings.hpp"
 #ifdef LIBRARY
 #include "library.hpp"
+#endif
+#ifdef MEMPOOL
+#include "mempool.hpp"
 #endif
 #include <cstdio>
 #include <string>
@@ -65,6 +69,11 @@ int main(int count, char **words) {
 #ifdef LIBRARY
   if (lender == "library") return measured<Library>(workload, buffers, turns);
   if (lender == "bursts") return measured<Library, InBursts>(workload, buffers, turns);
+#endif
+#ifdef MEMPOOL
+  if (lender == "mempool" || lender == "bulk") Elements::open(Drawn::LARGEST, 4, 4 * RING_WINDOW);
+  if (lender == "mempool") return measured<Mempool>(workload, buffers, turns);
+  if (lender == "bulk") return measured<Mempool, InBulk>(workload, buffers, turns);
 #endif
   fprintf(stderr, "no lender %s\n", lender.c_str());
   return 2;

@@ -4,7 +4,7 @@ from .measure import Column, instructions, least
 from .packages import PEERS, has
 from .table import COUNTED, COUNTED_COLD, SHARED
 from .text import aligned, number
-from .threads import HANDED_OVER, measured_by_turns, ratio
+from .threads import HANDED_OVER, measured_by_turns, peers_of, ratio
 
 LIBRARY, BURSTS = "the library", "in bursts"
 
@@ -20,10 +20,8 @@ def one_thread():
 def with_threads():
     """The columns where buffers are handed over, and that of the hand-over alone."""
     program = programs.library_threads_bench()
-    installed = [peer for peer in PEERS if peer.path() is not None]
-    peers = [Column(peer.name, program, behind=("malloc",), preload=peer.path()) for peer in installed]
     ours = [Column(LIBRARY, program, behind=("library",)), Column(BURSTS, program, behind=("bursts",))]
-    return peers, ours, Column("hand-over", program, behind=("nothing",))
+    return peers_of(program), ours, Column("hand-over", program, behind=("nothing",))
 
 
 def counted(peers, library, loop, workload):

@@ -1,5 +1,6 @@
 """What a measurement needs of the machine, and which Debian packages have it."""
 import shutil
+import subprocess
 import sys
 from dataclasses import dataclass
 from pathlib import Path
@@ -34,10 +35,21 @@ def has(command):
     return shutil.which(command) is not None
 
 
+def dpdk():
+    """What the compiler is told of DPDK, its words for sources and those for libraries; None where DPDK isn't installed."""
+    if not has("pkg-config"):
+        return None
+    asked = [["pkg-config", which, "libdpdk"] for which in ("--cflags", "--libs")]
+    told = [subprocess.run(command, stdout=subprocess.PIPE, stderr=subprocess.DEVNULL, text=True) for command in asked]
+    return None if any(it.returncode for it in told) else tuple(it.stdout.split() for it in told)
+
+
 def missing():
     """Lines that say what is missing and which packages have it. Without a compiler or rt it stops."""
     absent = [peer for peer in PEERS if peer.path() is None]
     lines = [f"bench: no {peer.name}: it stands in the Debian package {peer.package}" for peer in absent]
+    if dpdk() is None:
+        lines.append("bench: no mempool: it needs the Debian packages libdpdk-dev and pkg-config")
     if not has("valgrind"):
         lines.append("bench: no instruction counts: valgrind stands in the Debian package valgrind")
     if not has("g++"):

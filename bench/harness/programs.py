@@ -11,6 +11,8 @@ import subprocess
 import sys
 from pathlib import Path
 
+from . import packages
+
 HERE = Path(__file__).resolve().parent.parent
 TOP = HERE.parent
 OUT = HERE / "out"
@@ -43,10 +45,28 @@ def cpp_bench():
     return compiled("cpp_bench", [*folder.iterdir()], ["g++", *flags, folder / "cpp_bench.cpp"])
 
 
-def threads_bench():
+# How programs with threads are compiled.
+THREADED = ["-std=c++17", "-O2", "-Wall", "-Wextra", "-fno-builtin-malloc", "-pthread"]
+
+
+def threaded(source):
+    """A program in C++ with threads, which lends from malloc."""
     folder = HERE / "cpp"
-    flags = ["-std=c++17", "-O2", "-Wall", "-Wextra", "-fno-builtin-malloc", "-pthread"]
-    return compiled("threads_bench", [*folder.iterdir()], ["g++", *flags, folder / "threads_bench.cpp"])
+    return compiled(Path(source).stem, [*folder.iterdir()], ["g++", *THREADED, folder / source])
+
+
+def with_mempool(source):
+    """The same, which also lends from DPDK's rte_mempool; None where DPDK isn't installed."""
+    folder, told = HERE / "cpp", packages.dpdk()
+    if told is None:
+        return None
+    includes, libraries = told
+    command = ["g++", *THREADED, "-DMEMPOOL", *includes, folder / source, *libraries]
+    return compiled(f"mempool_{Path(source).stem}", [*folder.iterdir()], command)
+
+
+def threads_bench():
+    return threaded("threads_bench.cpp")
 
 
 def library():
@@ -58,19 +78,20 @@ def library():
     return TOP / "c/build/libfustrevol.a"
 
 
-def with_library(name, source):
+def with_library(source):
     """A program in C++ that lends from the C library, too."""
     folder, archive = HERE / "cpp", library()
-    flags = ["-std=c++17", "-O2", "-Wall", "-Wextra", "-fno-builtin-malloc", "-pthread", "-DLIBRARY", "-I", TOP / "c"]
-    return compiled(name, [*folder.iterdir(), archive], ["g++", *flags, folder / source, archive])
+    name = f"library_{Path(source).stem}"
+    command = ["g++", *THREADED, "-DLIBRARY", "-I", TOP / "c", folder / source, archive]
+    return compiled(name, [*folder.iterdir(), archive], command)
 
 
 def library_bench():
-    return with_library("library_bench", "cpp_bench.cpp")
+    return with_library("cpp_bench.cpp")
 
 
 def library_threads_bench():
-    return with_library("library_threads_bench", "threads_bench.cpp")
+    return with_library("threads_bench.cpp")
 
 
 def pin():
@@ -81,8 +102,7 @@ def pin():
 
 def road():
     source = HERE / "cpp" / "road.cpp"
-    flags = ["-std=c++17", "-O2", "-Wall", "-Wextra", "-fno-builtin-malloc", "-pthread"]
-    return compiled("road", [source], ["g++", *flags, source])
+    return compiled("road", [source], ["g++", *THREADED, source])
 
 
 def steps():

@@ -31,8 +31,11 @@ SHAPES = {
     "C++ parcels": "parcels",
 }
 
+# rte_mempool of DPDK, with the word by which the program knows it: buffer by buffer, and by one call for a block.
+MEMPOOLS = {"mempool": "mempool", "mempool, bulk": "bulk"}
+
 # These are measured only where buffers are handed over.
-IN_PARCELS = ["Inbox, in parcels", "LinkInbox, in parcels", "C++ parcels"]
+ONLY_HANDED_OVER = ["Inbox, in parcels", "LinkInbox, in parcels", "C++ parcels", *MEMPOOLS]
 
 # Buffers are handed over so many at a time.
 BLOCK = 64
@@ -78,28 +81,41 @@ class Columns:
     peers: list
     workers: list
     shapes: list
+    mempools: list
     # the loop and the hand-over alone, in C++ and in Rattle
     alone: Column
     workers_alone: Column
 
     def every(self):
-        return [self.alone, *self.peers, *self.shapes, self.workers_alone, *self.workers]
+        return [self.alone, *self.peers, *self.mempools, *self.shapes, self.workers_alone, *self.workers]
 
     def pairs(self):
         """Each allocator with what is subtracted from it."""
-        pairs = [(it, self.alone) for it in [*self.peers, *self.shapes]]
+        pairs = [(it, self.alone) for it in [*self.peers, *self.mempools, *self.shapes]]
         return pairs + [(it, self.workers_alone) for it in self.workers]
 
     def measured_in(self, workload):
         """Those that are measured in this workload."""
-        return [it for it in self.every() if workload in HANDED_OVER or it.name not in IN_PARCELS]
+        return [it for it in self.every() if workload in HANDED_OVER or it.name not in ONLY_HANDED_OVER]
+
+
+def peers_of(program):
+    """The columns of malloc: a program with each that is installed."""
+    installed = [peer for peer in PEERS if peer.path() is not None]
+    return [Column(peer.name, program, behind=("malloc",), preload=peer.path()) for peer in installed]
+
+
+def mempools_of(source):
+    """The columns of DPDK's mempool, where it is installed."""
+    program = programs.with_mempool(source)
+    return [Column(name, program, behind=(word,)) for name, word in MEMPOOLS.items()] if program else []
 
 
 def columns():
     cpp, jobs = programs.threads_bench(), programs.jobs_bench()
-    installed = [peer for peer in PEERS if peer.path() is not None]
     return Columns(
-        peers=[Column(peer.name, cpp, behind=("malloc",), preload=peer.path()) for peer in installed],
+        peers=peers_of(cpp),
+        mempools=mempools_of("threads_bench.cpp"),
         workers=[Column(name, jobs, behind=(word,)) for name, word in POOLS.items()],
         shapes=[Column(name, cpp, behind=(word,)) for name, word in SHAPES.items()],
         alone=Column("hand-over", cpp, behind=("nothing",)),
@@ -155,14 +171,14 @@ def ratio(value, best):
 
 
 def net_rows(what, nets, all_columns):
-    peers = [it.name for it in all_columns.peers]
-    head = [f"{what}, without the hand-over", *peers, *SHAPES]
+    peers, mempools = ([it.name for it in some] for some in (all_columns.peers, all_columns.mempools))
+    head = [f"{what}, without the hand-over", *peers, *mempools, *SHAPES]
     for name in POOLS:
         head += [name, "to the best"]
     rows = [head]
     for workload, net in nets.items():
         best = min(net[name] for name in peers)
-        row = [workload, *(number(net.get(name)) for name in [*peers, *SHAPES])]
+        row = [workload, *(number(net.get(name)) for name in [*peers, *mempools, *SHAPES])]
         for name in POOLS:
             row += [number(net.get(name)), ratio(net.get(name), best)]
         rows.append(row)
