@@ -133,6 +133,18 @@ public:
     });
   }
 
+  // the same, where one takes from the first thread's start to the last one's end
+  double of_all() const {
+    return best([&](size_t turn) {
+      Turn whole = workers[0].turns[turn];
+      for (auto &worker : workers) {
+        whole.start = std::min(whole.start, worker.turns[turn].start);
+        whole.end = std::max(whole.end, worker.turns[turn].end);
+      }
+      return whole.nanos();
+    });
+  }
+
   uint64_t sum() const {
     uint64_t sum = 0;
     for (auto &worker : workers) sum += worker.sum;

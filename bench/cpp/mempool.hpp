@@ -64,11 +64,16 @@ public:
 struct Mempool {
   using Lent = uint8_t *;
 
-  Lent lend(size_t) {
+  // not written to
+  Lent take(size_t) {
     void *it;
     if (rte_mempool_get(Elements::pool, &it)) abort();
-    touch(static_cast<Lent>(it));
     return static_cast<Lent>(it);
+  }
+  Lent lend(size_t size) {
+    Lent it = take(size);
+    touch(it);
+    return it;
   }
   void give(Lent it) { rte_mempool_put(Elements::pool, it); }
 };

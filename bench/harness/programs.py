@@ -69,11 +69,14 @@ def threads_bench():
     return threaded("threads_bench.cpp")
 
 
+PROVED = TOP / "crates/fustrevol_c/out/libfustrevol_c.a"
+NOT_BUILT = "bench: the C library isn't built: run `rt lib --jobs 1` in crates/fustrevol_c"
+
+
 def library():
     """The C library, whose proved part `rt lib` has built."""
-    proved = TOP / "crates/fustrevol_c/out/libfustrevol_c.a"
-    if not proved.exists():
-        sys.exit("bench: the C library isn't built: run `rt lib --jobs 1` in crates/fustrevol_c")
+    if not PROVED.exists():
+        sys.exit(NOT_BUILT)
     subprocess.run(["make", "-s", "-C", TOP / "c", "build/libfustrevol.a"], check=True)
     return TOP / "c/build/libfustrevol.a"
 
@@ -84,6 +87,14 @@ def with_library(source):
     name = f"library_{Path(source).stem}"
     command = ["g++", *THREADED, "-DLIBRARY", "-I", TOP / "c", folder / source, archive]
     return compiled(name, [*folder.iterdir(), archive], command)
+
+
+def with_library_if_built(source):
+    """The same, or None where the C library isn't built."""
+    if PROVED.exists():
+        return with_library(source)
+    print(f"{NOT_BUILT}; its columns are left out of {Path(source).stem}", file=sys.stderr)
+    return None
 
 
 def library_bench():

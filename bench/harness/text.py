@@ -1,4 +1,4 @@
-"""Tables in plain text."""
+"""Tables in plain text, and in Markdown."""
 
 
 def aligned(rows):
@@ -9,6 +9,17 @@ def aligned(rows):
         cells = [row[0].ljust(widths[0]), *(cell.rjust(width) for cell, width in zip(row[1:], widths[1:]))]
         lines.append("  ".join(cells).rstrip())
     return "\n".join(lines)
+
+
+def markdown(rows):
+    """The rows as a table of Markdown, the first column to the left and the others to the right."""
+    widths = [max(len(row[i]) for row in rows) for i in range(len(rows[0]))]
+    lines = []
+    for first, *others in rows:
+        cells = [first.ljust(widths[0]), *(cell.rjust(width) for cell, width in zip(others, widths[1:]))]
+        lines.append(f"| {' | '.join(cells)} |")
+    below = ["-" * (widths[0] + 2), *("-" * (width + 1) + ":" for width in widths[1:])]
+    return "\n".join([lines[0], f"|{'|'.join(below)}|", *lines[1:]])
 
 
 def number(value):

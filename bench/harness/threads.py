@@ -123,11 +123,15 @@ def columns():
     )
 
 
-def run(column, workload, count, measured):
+def said(column, workload, count, turns):
+    """The words that a run prints."""
     env = {**os.environ, "LD_PRELOAD": f"{programs.pin()} {column.preload}"}
-    command = column.command(workload, count, TURNS)
-    ran = subprocess.run(command, env=env, stdout=subprocess.PIPE, text=True, check=True, timeout=SECONDS)
-    _workload, nanos, total, *of_pool = ran.stdout.split()
+    command = column.command(workload, count, turns)
+    return subprocess.run(command, env=env, stdout=subprocess.PIPE, text=True, check=True, timeout=SECONDS).stdout.split()
+
+
+def run(column, workload, count, measured):
+    _workload, nanos, total, *of_pool = said(column, workload, count, TURNS)
     if of_pool:
         pool = measured.pools.setdefault((workload, column.name), Pool())
         pool.note(*map(int, of_pool))
@@ -137,13 +141,18 @@ def run(column, workload, count, measured):
     measured.note(workload, column, float(nanos), total and int(total))
 
 
-def measured_by_turns(cells, given):
-    """Runs each cell, a workload and a column, in turn, as often as there are rounds."""
+def whole_blocks(count):
+    """So many buffers, or a few less or more, that blocks of them are full."""
+    return max(BLOCK, int(count) // BLOCK * BLOCK)
+
+
+def measured_by_turns(cells, given, share=lambda _workload: 1):
+    """Runs each cell, a workload and a column, in turn, as often as there are rounds. `share` is what part of the
+    buffers that are asked for a thread has in a workload."""
     measured = Measured()
-    count = max(BLOCK, given.count - given.count % BLOCK)
     for _round in range(given.rounds):
         for workload, column in cells:
-            run(column, workload, count, measured)
+            run(column, workload, whole_blocks(given.count * share(workload)), measured)
     return measured
 
 
@@ -194,14 +203,15 @@ def scaling_rows(times, all_columns):
     return aligned(rows)
 
 
-def pool_rows(pools):
-    rows = [["most chunks drawn", *POOLS, "of", *(f"{name}: no buffer" for name in POOLS)]]
-    for workload in WORKLOADS:
-        of_each = [pools.get((workload, name)) for name in POOLS]
+def pool_rows(pools, names, labels):
+    """What the pools of these names said of each workload; `labels` has what a workload's row is called."""
+    rows = [["most chunks drawn", *names, "of", *(f"{name}: no buffer" for name in names)]]
+    for workload, label in labels.items():
+        of_each = [pools.get((workload, name)) for name in names]
         drawn = ["-" if it is None else str(it.drawn) for it in of_each]
         starved = ["-" if it is None else str(it.starved) for it in of_each]
-        rows.append([workload, *drawn, str(of_each[0].chunks), *starved])
-    return aligned(rows)
+        rows.append([label, *drawn, str(of_each[0].chunks), *starved])
+    return rows
 
 
 def measure(given):
@@ -212,7 +222,8 @@ def measure(given):
     nets = {what: net_of(it, all_columns) for what, it in times.items()}
     tables = [measured_rows(what, it, all_columns) for what, it in times.items()]
     tables += [net_rows(what, it, all_columns) for what, it in nets.items()]
-    tables += [scaling_rows(times["median"], all_columns), pool_rows(measured.pools)]
+    tables += [scaling_rows(times["median"], all_columns)]
+    tables.append(aligned(pool_rows(measured.pools, POOLS, {it: it for it in WORKLOADS})))
     text = "\n\n".join(tables) + "\n"
     (programs.OUT / "threads.txt").write_text(text)
     names = [it.name for it in [*all_columns.peers, *all_columns.workers]]
