@@ -7,8 +7,8 @@
 // how many buffers are under way at most, in all
 constexpr size_t UNDER_WAY = 4096;
 
-// `WORKLOAD COUNT TURNS LENDER`. WORKLOAD is prodcons or ring, the number of threads, a slash and the size: `ring4/512`,
-// or `ring4/mixed` for sizes by lot. Each thread has COUNT buffers in each of TURNS turns.
+// `WORKLOAD COUNT TURNS LENDER`. WORKLOAD is prodcons or ring, the number of threads, a slash and the size: as
+// `ring4/64` or `ring4/512`, or `ring4/mixed` for sizes by lot. Each thread has COUNT buffers in each of TURNS turns.
 struct Asked {
   std::string workload, loop, size, lender;
   size_t threads;

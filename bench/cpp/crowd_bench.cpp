@@ -1,5 +1,5 @@
-// What it costs many threads to lend buffers that others free: nanoseconds for one buffer of a thread, in the best turn.
-// Start it with LD_PRELOAD for another malloc.
+// What it costs many threads to lend buffers that others free: nanoseconds for one buffer of a thread, in the best
+// turn. Start it with LD_PRELOAD for another malloc.
 //
 //   crowd_bench WORKLOAD COUNT TURNS LENDER
 //

@@ -1,5 +1,5 @@
 // How often a number of ticks was seen, and below which number so many parts of all lie. Small numbers have a bucket
-// each, and larger ones 64 to a doubling, so that none is off by more than one part in 64.
+// each, and larger ones 64 to a doubling, so that none is off by more than a hundredth.
 #pragma once
 #include <array>
 #include <cmath>
@@ -13,7 +13,9 @@ class Histogram {
   std::array<uint64_t, BUCKETS> seen{};
 
   // by how many bits a number is shifted until it is below twice FINE
-  static unsigned shift_of(uint64_t ticks) { return ticks < 2 * FINE ? 0 : 57 - static_cast<unsigned>(__builtin_clzll(ticks)); }
+  static unsigned shift_of(uint64_t ticks) {
+    return ticks < 2 * FINE ? 0 : 57 - static_cast<unsigned>(__builtin_clzll(ticks));
+  }
 
   static size_t bucket_of(uint64_t ticks) {
     unsigned shift = shift_of(ticks);

@@ -5,8 +5,8 @@
 //
 // asked.hpp says what the words are. LENDER is malloc, mempool, where this was built with DPDK, or library, where with
 // the C library. With nothing a call is empty, so that what is left is to read the clock. Prints the workload; the
-// nanoseconds that 50, 99 and 99.9 of a hundred calls that lend don't exceed; the same of calls that free; and the sum of
-// all sizes. Nothing is subtracted.
+// nanoseconds that 50, 99 and 99.9 of a hundred calls that lend don't exceed; the same of calls that free; and the sum
+// of all sizes. Nothing is subtracted.
 #include "asked.hpp"
 #include "timed.hpp"
 #ifdef LIBRARY

@@ -46,8 +46,8 @@ class Elements {
 public:
   static inline rte_mempool *pool = nullptr;
 
-  // Opens the pool with elements for what is under way and what caches keep, so that none is ever wanting. A ring has
-  // the least memory where they are one less than a power of two.
+  // Opens the pool with elements for what is under way and what caches keep, so that none is ever wanting. A ring
+  // takes the least memory where they are one less than a power of two.
   static void open(size_t size, size_t threads, size_t under_way) {
     start();
     size_t places = 1;

@@ -1,5 +1,5 @@
-"""Buffers that are handed over among 2 to 64 threads, of three sizes: the C library of ../c beside the allocators that a
-program would take instead."""
+"""Buffers that are handed over among 2 to 64 threads, of three sizes: the C library of ../c beside the allocators that
+a program would take instead."""
 import statistics
 
 from . import programs

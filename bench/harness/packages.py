@@ -36,7 +36,7 @@ def has(command):
 
 
 def dpdk():
-    """What the compiler is told of DPDK, its words for sources and those for libraries; None where DPDK isn't installed."""
+    """What the compiler is told of DPDK: words for sources, and words for libraries. None where it isn't installed."""
     if not has("pkg-config"):
         return None
     asked = [["pkg-config", which, "libdpdk"] for which in ("--cflags", "--libs")]

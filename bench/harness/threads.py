@@ -127,7 +127,8 @@ def said(column, workload, count, turns):
     """The words that a run prints."""
     env = {**os.environ, "LD_PRELOAD": f"{programs.pin()} {column.preload}"}
     command = column.command(workload, count, turns)
-    return subprocess.run(command, env=env, stdout=subprocess.PIPE, text=True, check=True, timeout=SECONDS).stdout.split()
+    ran = subprocess.run(command, env=env, stdout=subprocess.PIPE, text=True, check=True, timeout=SECONDS)
+    return ran.stdout.split()
 
 
 def run(column, workload, count, measured):
