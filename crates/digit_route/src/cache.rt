@@ -202,6 +202,7 @@ impl<'r> Cache<'r> {
 
     /// Adds the buffers that were refused while this desk's cache was posted, in time for their number.
     /// Each batch that is held as it is goes back as by [`Cache::put_back`].
+    #[inline(always)]
     pub fn take_back(&mut self, refused: Refused<'r>)
         requires number { refused.number ≡ self.old.number }
         requires digits { refused.digits ≡ self.old.digits }
@@ -209,8 +210,21 @@ impl<'r> Cache<'r> {
         ensures items { IsPermutation (self.old.items ++ refused.entry.items) self.new.items }
     {
         if refused.is_empty() {
-            return;
+            // Nothing is in its places, so they needn't be looked at.
+            mem::forget(refused);
+        } else {
+            self.take_back_some(refused);
         }
+    }
+
+    // By itself, so that none is moved where nothing was refused.
+    #[inline(never)]
+    fn take_back_some(&mut self, refused: Refused<'r>)
+        requires number { refused.number ≡ self.old.number }
+        requires digits { refused.digits ≡ self.old.digits }
+        ensures same { self.new ≡ record self.old { items = self.new.items } }
+        ensures items { IsPermutation (self.old.items ++ refused.entry.items) self.new.items }
+    {
         let (batches, linked) = refused.into_parts();
         self.put_batches(batches);
         self.put_linked(linked);

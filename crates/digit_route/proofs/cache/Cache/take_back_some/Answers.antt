@@ -1,5 +1,5 @@
 use Rattle.digit_route.proofs.KeptLaws.{added_twice}
-use Rattle.digit_route.proofs.cache.Cache.take_back.Goals as goal
+use Rattle.digit_route.proofs.cache.Cache.take_back_some.Goals as goal
 
 pub returns-clause-items : goal.returns-clause-items
 returns-clause-items c =
