@@ -130,6 +130,7 @@ impl<'r> Home<'r> {
 
     /// Gives out a slot, of which nothing is filled: one of the list, else one of the array that came last,
     /// which is then taken apart, else one that was never handed out.
+    #[inline(always)]
     pub(crate) fn alloc(
         &mut self,
         alloc: Global,
@@ -154,6 +155,7 @@ impl<'r> Home<'r> {
     }
 
     /// Takes an own buffer home, of which nothing is filled.
+    #[inline(always)]
     pub(crate) fn keep(&mut self, buf: Buf<'r>)
         requires { LiesIn self.old.owner self.old.class buf }
         ensures same { self.new ≡ record self.old { slots = self.new.slots } }

@@ -58,7 +58,7 @@ impl<'r> Stack<'r> {
     }
 
     /// Puts a buffer to the others, to be taken next. Takes constant time.
-    #[inline]
+    #[inline(always)]
     pub fn push(&mut self, buf: Buf<'r>)
         ensures { IsPermutation (self.old ++ buf.entry ∷ []) self.new }
     {
@@ -68,7 +68,7 @@ impl<'r> Stack<'r> {
     }
 
     /// Takes the buffer that came last, or `None` where there is none. Takes constant time.
-    #[inline]
+    #[inline(always)]
     pub fn pop(&mut self) -> Option<Buf<'r>>
         ensures { MatchOption result ((self.old ≡ []) × (self.new ≡ [])) (λ b. self.old ≡ self.new ++ b ∷ []) }
     {
@@ -78,7 +78,7 @@ impl<'r> Stack<'r> {
         if let Some(buf) = pop_named(&mut self.array) {
             return Some(buf);
         }
-        self.linked.pop()
+        pop_linked(&mut self.linked)
     }
 
     /// For how many buffers its array has places.
@@ -168,8 +168,25 @@ fn store<'r>(array: &mut Option<Vec<Buf<'r>>>, linked: &mut Chain<'r>, buf: Buf<
     ensures { IsPermutation ((linked.old ++ named_in array.old) ++ buf.entry ∷ []) (linked.new ++ named_in array.new) }
 {
     if let Some(buf) = offer(array, buf) {
-        linked.push(buf);
+        link(linked, buf);
     }
+}
+
+// By itself, as the other one below, so that the short ways stand inline at who frees and lends.
+#[cold]
+#[inline(never)]
+fn link<'r>(linked: &mut Chain<'r>, buf: Buf<'r>)
+    ensures { linked.new ≡ linked.old ++ buf.entry ∷ [] }
+{
+    linked.push(buf);
+}
+
+#[cold]
+#[inline(never)]
+fn pop_linked<'r>(linked: &mut Chain<'r>) -> Option<Buf<'r>>
+    ensures { MatchOption result ((linked.old ≡ []) × (linked.new ≡ [])) (λ b. linked.old ≡ linked.new ++ b ∷ []) }
+{
+    linked.pop()
 }
 
 // The buffers are counted, and not printed.
