@@ -14,7 +14,6 @@ mod order;
 mod packing;
 mod refusal;
 mod sending;
-mod stacks;
 mod whole;
 
 use chain_uses::fill_region;

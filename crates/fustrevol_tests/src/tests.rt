@@ -3,7 +3,6 @@
 mod limits;
 mod refused;
 mod settings;
-mod steady;
 
 use fustrevol::{Edges, Heap, JobError, Message, Pool, PoolError, RunReport, Tally, Task};
 use std::alloc::Global;

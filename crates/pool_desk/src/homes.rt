@@ -93,7 +93,6 @@ impl<'r> Homes<'r> {
     }
 
     /// Gives out a slot of the class: one that came home, else the next that was never handed out.
-    #[inline(always)]
     pub(crate) fn alloc(
         &mut self,
         alloc: Global,

@@ -11,7 +11,6 @@
 //! allocator, which are passed on and freed as a whole.
 #![tactic(auto)]
 
-mod array;
 mod arrays;
 mod below;
 mod buf;
@@ -27,8 +26,6 @@ mod node;
 mod parcel;
 mod portion;
 mod room;
-mod single;
-mod stack;
 mod walk;
 
 pub use arrays::Arrays;
@@ -41,5 +38,4 @@ pub use magazine::Magazine;
 pub use parcel::BufParcel;
 pub use portion::Portion;
 pub use room::Room;
-pub use stack::Stack;
 pub use walk::{Tag, Walk};
