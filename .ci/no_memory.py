@@ -1,18 +1,21 @@
 #!/usr/bin/env python3
-"""Runs the tests of calls that take no memory, and those of what gives its boxes back.
+"""Runs the tests of calls that take no memory, those of what gives its boxes back, and those of a steady state.
 
     python3 .ci/no_memory.py [CRATE ..]
 
-takes the built tests of these crates, or of `CRATES`, whose names have `no_memory::` or `given_back::`, and runs each
-under a small library that stands before the C library's. A test can't call that library. It sets marks in place of it:
+takes the built tests of these crates, or of `CRATES`, whose names have `no_memory::`, `given_back::` or `steady::`, and
+runs each under a small library that stands before the C library's. A test can't call that library. It sets marks in place of it:
 `memory_marks::set` asks for a vector of a size that nothing else asks for (`MARKS`). The library knows these sizes and
 refuses them, so that a mark itself lends nothing.
 
 - From `TakesNone` to `MayTake` each allocation is refused and counted. The test fails where there is one.
 - At `GivenBack` as many blocks have to be lent as at the last `Lent`. The test fails where there are more or fewer.
+- From one `Window` to the next is a window, whatever the thread. Allocations and frees of all threads are counted in it,
+  and none is refused. The test fails where fewer than `QUIET` of a hundred windows have none: which thread waits for
+  which is the scheduler's matter, so a longer list than any before may come at any time.
 
-A test of `no_memory::` without a pair of the former, one of `given_back::` without a pair of the latter, and a crate
-without such a test fail too.
+A test of `no_memory::` without a pair of the first, one of `given_back::` without a pair of the second, one of
+`steady::` with fewer than `WINDOWS` windows, and a crate without such a test fail too.
 
 Prints a line for each crate, and one for each test that fails. The exit status is 1 where there is one, and 2 where a
 test can't be run.
@@ -29,11 +32,14 @@ import built_tests
 
 TOP = pathlib.Path(__file__).resolve().parent.parent
 SECONDS = 60
-CRATES = ["chain_tests", "desk_tests", "fabric_uses", "inbox_tests", "link_tests", "route_uses"]
-KINDS = ("no_memory::", "given_back::")
+CRATES = ["chain_tests", "desk_tests", "fabric_uses", "fustrevol_tests", "inbox_tests", "link_tests", "route_uses"]
+KINDS = ("no_memory::", "given_back::", "steady::")
+
+# How many windows a test of a steady state has at least, and how many of a hundred are without an allocation or a free.
+WINDOWS, QUIET = 16, 50
 
 # As `Mark::bytes` of `memory_marks` has them.
-MARKS = {"TAKES_NONE": 65521, "MAY_TAKE": 65519, "LENT": 65497, "GIVEN_BACK": 65479}
+MARKS = {"TAKES_NONE": 65521, "MAY_TAKE": 65519, "LENT": 65497, "GIVEN_BACK": 65479, "WINDOW": 65449}
 
 LIBRARY = "".join(f"#define {name} {size}\n" for name, size in MARKS.items()) + r"""
 #define _GNU_SOURCE
@@ -45,8 +51,15 @@ LIBRARY = "".join(f"#define {name} {size}\n" for name, size in MARKS.items()) + 
 #include <unistd.h>
 
 static long none_marks, may_marks, lent_marks, back_marks, asked, first_asked, uneven, first_uneven;
-static long lent, lent_then;
+static long windows, quiet;
+static long lent, lent_then, calls, calls_then;
 static int takes_none;
+
+static void window(void) {
+    long now = __atomic_load_n(&calls, __ATOMIC_RELAXED);
+    if (windows++ && now == calls_then) quiet++;
+    calls_then = now;
+}
 
 // Whether it was a mark.
 static int is_mark(size_t size) {
@@ -58,6 +71,7 @@ static int is_mark(size_t size) {
         back_marks++;
         if (lent != lent_then && !uneven++) first_uneven = lent - lent_then;
         return 1;
+    case WINDOW: window(); return 1;
     }
     return 0;
 }
@@ -69,8 +83,14 @@ static int is_refused(size_t size) {
 }
 
 static void *counted(void *block) {
+    __atomic_add_fetch(&calls, 1, __ATOMIC_RELAXED);
     if (block) __atomic_add_fetch(&lent, 1, __ATOMIC_RELAXED);
     return block;
+}
+
+static void returned(void) {
+    __atomic_add_fetch(&calls, 1, __ATOMIC_RELAXED);
+    __atomic_sub_fetch(&lent, 1, __ATOMIC_RELAXED);
 }
 
 #define NEXT(name) if (!next) next = dlsym(RTLD_NEXT, name)
@@ -93,7 +113,8 @@ void *realloc(void *old, size_t size) {
     if (is_refused(size)) return 0;
     void *block = next(old, size);
     if (!old) return counted(block);
-    if (!block && !size) __atomic_sub_fetch(&lent, 1, __ATOMIC_RELAXED);
+    if (!block && !size) returned();
+    else __atomic_add_fetch(&calls, 1, __ATOMIC_RELAXED);
     return block;
 }
 
@@ -115,7 +136,7 @@ int posix_memalign(void **block, size_t alignment, size_t size) {
 void free(void *block) {
     static void (*next)(void *);
     NEXT("free");
-    if (block) __atomic_sub_fetch(&lent, 1, __ATOMIC_RELAXED);
+    if (block) returned();
     next(block);
 }
 
@@ -123,8 +144,8 @@ __attribute__((destructor)) static void tell(void) {
     const char *path = getenv("TOLD");
     int file = path ? open(path, O_WRONLY | O_CREAT | O_TRUNC, 0600) : -1;
     if (file >= 0) {
-        dprintf(file, "%ld %ld %ld %ld %ld %ld %ld %ld", none_marks, may_marks, lent_marks, back_marks, asked,
-            first_asked, uneven, first_uneven);
+        dprintf(file, "%ld %ld %ld %ld %ld %ld %ld %ld %ld %ld", none_marks, may_marks, lent_marks, back_marks, asked,
+            first_asked, uneven, first_uneven, windows, quiet);
         close(file);
     }
 }
@@ -158,11 +179,16 @@ def faults_of(library, program, test, told):
         faults.append(f"status {run.returncode}: {(run.stdout + run.stderr).decode(errors='replace').strip()[-600:]}")
     if not told.exists():
         return faults + ["it told no count"]
-    none, may, lent, back, asked, first_asked, uneven, first_uneven = map(int, told.read_text().split())
+    numbers = map(int, told.read_text().split())
+    none, may, lent, back, asked, first_asked, uneven, first_uneven, windows, quiet = numbers
     if asked:
         faults.append(f"{asked} allocations where none is wanted, the first of {first_asked} bytes")
     if uneven:
         faults.append(f"blocks were not given back at {uneven} marks, {first_uneven:+} at the first")
+    if windows and quiet * 100 < QUIET * (windows - 1):
+        faults.append(f"{windows - 1 - quiet} of {windows - 1} windows have allocations or frees")
+    if "steady::" in test and windows <= WINDOWS:
+        faults.append(f"marks are missing: {windows} Window")
     if none != may or lent != back or ("no_memory::" in test and not none) or ("given_back::" in test and not back):
         faults.append(f"marks are missing: {none} TakesNone, {may} MayTake, {lent} Lent, {back} GivenBack")
     return faults

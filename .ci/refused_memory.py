@@ -7,8 +7,7 @@ takes the tests of these crates, or of all that have some; behind a colon those 
 A test has to hold whichever one of its allocations is refused: it ends by itself, and what it compares is as it has
 to be. Of a crate in `WRITTEN_FOR_IT` only the tests with these words are written so, and of one in
 `NOT_WRITTEN_FOR_IT` none; the others compare what comes out where there is memory. With `--most N` at most N
-allocations of a test are refused, spread evenly. Of the tests in `DEEP` only a part is ever refused, and none of those
-in `WANTS_MEMORY`.
+allocations of a test are refused, spread evenly. Of the tests in `DEEP` only a part is ever refused.
 
 The tests are the built ones, `crates/NAME/out/NAME_tests`, which `rt ci` and `rt test` leave; where a crate has none,
 or one that is older than its sources, `rt test` makes it first. A small library that stands before the C library's
@@ -40,9 +39,6 @@ WRITTEN_FOR_IT = {
     "trace_uses": "growing,each_slot_once,the_least_fault_is_named,the_number_is_not_enough",
 }
 NOT_WRITTEN_FOR_IT = {"work_tests"}
-
-# It wants the memory that it then uses again.
-WANTS_MEMORY = {"tests::no_memory::what_is_used_again_takes_none"}
 
 # These show that a list of 102,400 or 204,800 buffers takes no depth of the stack. Each buffer is a box of its own,
 # made by the same call as the one before, so refusing each in turn would take hours and look at one step again and
@@ -168,7 +164,6 @@ def main():
             name, _, words = name.partition(":")
             words = [word for word in (words or WRITTEN_FOR_IT.get(name, "")).split(",") if word]
             program, tests = built_tests.of(TOP / "crates" / name)
-            tests = [test for test in tests if test not in WANTS_MEMORY]
             tests = [test for test in tests if not words or any(word in test for word in words)]
             deep = [test for test in tests if name in DEEP and any(word in test for word in DEEP[name].split(","))]
             with concurrent.futures.ThreadPoolExecutor(len(os.sched_getaffinity(0))) as pool:

@@ -216,7 +216,7 @@ void fv_burst_init(fv_burst *burst) FV_NOEXCEPT;
  * buffer goes home directly. With fewer, allocators pass batches on for others, so that each sends fewer
  * and larger ones.
  *
- * Takes some 40 bytes of memory for each chunk, 9 KB for each allocator, and 2.3 KB for each pair of them:
+ * Takes some 40 bytes of memory for each chunk, 10 KB for each allocator, and 2.3 KB for each pair of them:
  * 10 MB for 64 allocators. No byte of the region is written. The pool is another one than each before it: it
  * takes no buffer back that an earlier one over the same region lent.
  *

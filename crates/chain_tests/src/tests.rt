@@ -14,6 +14,7 @@ mod order;
 mod packing;
 mod refusal;
 mod sending;
+mod stacks;
 mod whole;
 
 use chain_uses::fill_region;

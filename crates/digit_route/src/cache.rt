@@ -4,6 +4,7 @@ ghost use Rattle.std.specs.Prelude.{None, MatchOption, MatchResult, IsTrue, IsPe
 ghost use Rattle.slot_chain.specs.Buffer.{Buffer, ended_of};
 ghost use Rattle.slot_chain.specs.Counts.{capped, sizes};
 ghost use Rattle.digit_route.specs.Digits.{Scheme, IsScheme, common, count};
+ghost use Rattle.digit_route.specs.Kept.{IsKept, kept_items};
 ghost use Rattle.digit_route.specs.Limits.{largest_limit};
 ghost use Rattle.digit_route.specs.Posts.{Moved, Posts, shared};
 ghost use Rattle.digit_route.specs.Route.{IsCached, RouteFault};
@@ -12,11 +13,12 @@ ghost use Rattle.digit_route.specs.States.{BatchState};
 ghost use Rattle.digit_route.specs.Route.{GivesBucket};
 
 use crate::counter::{bytes_left, bytes_without};
+use crate::refused::Kept;
 use crate::row::Row;
 use crate::{Batch, BatchSink, Digits, Posting, Refused, RouteError};
 use region_cut::Slot;
 use region_cut::endings::Endings;
-use slot_chain::{Buf, BufParcel, EmptyMagazine, NoMemory};
+use slot_chain::{Buf, BufParcel, Chain, EmptyMagazine, NoMemory};
 use std::alloc::Global;
 use std::marker::Model;
 use std::{fmt, mem};
@@ -184,7 +186,8 @@ impl<'r> Cache<'r> {
         self.bytes = self.bytes.saturating_add(size);
     }
 
-    /// Adds the buffers of a batch that this desk would have sent.
+    /// Adds the buffers of a batch that this desk would have sent, in time for their number. Where no
+    /// buffer stands in their place, they go there as they lie, and bring the batch's memory along.
     pub fn put_back(&mut self, batch: Batch<'r>)
         requires sender { batch.sender ≡ self.old.number }
         requires digits { batch.digits ≡ self.old.digits }
@@ -192,19 +195,63 @@ impl<'r> Cache<'r> {
         ensures items { IsPermutation (self.old.items ++ batch.entry.items) self.new.items }
     {
         let size = batch.bytes();
-        self.row.push_all(batch.into_magazine());
+        let address = batch.address();
+        self.row.restore(address, batch.into_magazine());
         self.bytes = self.bytes.saturating_add(size);
     }
 
     /// Adds the buffers that were refused while this desk's cache was posted, in time for their number.
+    /// Each batch that is held as it is goes back as by [`Cache::put_back`].
+    #[inline(always)]
     pub fn take_back(&mut self, refused: Refused<'r>)
         requires number { refused.number ≡ self.old.number }
         requires digits { refused.digits ≡ self.old.digits }
         ensures same { self.new ≡ record self.old { items = self.new.items } }
         ensures items { IsPermutation (self.old.items ++ refused.entry.items) self.new.items }
     {
-        let mut refused = refused;
-        while let Some(buf) = refused.pop() {
+        if refused.is_empty() {
+            // Nothing is in its places, so they needn't be looked at.
+            mem::forget(refused);
+        } else {
+            self.take_back_some(refused);
+        }
+    }
+
+    // By itself, so that none is moved where nothing was refused.
+    #[inline(never)]
+    fn take_back_some(&mut self, refused: Refused<'r>)
+        requires number { refused.number ≡ self.old.number }
+        requires digits { refused.digits ≡ self.old.digits }
+        ensures same { self.new ≡ record self.old { items = self.new.items } }
+        ensures items { IsPermutation (self.old.items ++ refused.entry.items) self.new.items }
+    {
+        let (batches, linked) = refused.into_parts();
+        self.put_batches(batches);
+        self.put_linked(linked);
+    }
+
+    // Adds the buffers of batches of this desk.
+    fn put_batches(&mut self, batches: Kept<'r>)
+        requires { All (IsKept self.old.digits self.old.number) batches.items }
+        ensures same { self.new ≡ record self.old { items = self.new.items } }
+        ensures items { IsPermutation (self.old.items ++ kept_items batches.entry.items) self.new.items }
+    {
+        let mut batches = batches;
+        while let Some(kept) = batches.pop() {
+            if let Some(batch) = kept {
+                self.put_back(batch);
+            }
+        }
+    }
+
+    // Adds buffers that are linked.
+    fn put_linked(&mut self, linked: Chain<'r>)
+        requires { All (IsCached self.old.digits self.old.number) linked }
+        ensures same { self.new ≡ record self.old { items = self.new.items } }
+        ensures items { IsPermutation (self.old.items ++ linked.entry) self.new.items }
+    {
+        let mut linked = linked;
+        while let Some(buf) = linked.pop() {
             self.put(buf);
         }
     }

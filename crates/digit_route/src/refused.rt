@@ -1,34 +1,46 @@
 //! What was refused of a posting.
-ghost use Rattle.std.specs.Prelude.{◌≡◌, ◌↔◌, [], ◌∷◌, ◌++◌, IsTrue, IsPermutation, MatchOption};
+ghost use Rattle.std.specs.Prelude.{◌≡◌, ◌↔◌, [], ◌++◌, All, IsTrue, IsPermutation};
+ghost use Rattle.digit_route.specs.Kept.{IsKept, kept_items};
 ghost use Rattle.digit_route.specs.Route.{IsCached};
 
 use crate::{Batch, Digits};
-use slot_chain::{Buf, Chain, Magazine};
+use arrayvec::ArrayVec;
+use slot_chain::{Chain, Magazine};
 use std::fmt;
 use std::marker::Model;
 
-/// The buffers of batches that no inbox took, of one desk. They are held here while the desk posts the
-/// rest of its cache, and then go back into it ([`Cache::take_back`](crate::Cache::take_back)).
+// How many batches are held as they are.
+const MOST: usize = 4;
+
+/// Batches that are held as they are. Each is `Some`: an unused place has `None`.
+pub(crate) type Kept<'r> = ArrayVec<Option<Batch<'r>>, MOST>;
+
+/// The batches of one desk that no inbox took. They are held here while the desk posts the rest of its
+/// cache, and then go back into it ([`Cache::take_back`](crate::Cache::take_back)).
 ///
-/// They are linked, so no call takes memory. Contracts see them as a list in an order that is open.
+/// Up to four batches are held as they are; what is refused beyond is linked. So no call takes memory,
+/// and a batch that comes back brings its arrays along. Contracts see the buffers as a list in an order
+/// that is open.
 #[must_use]
 #[derive(Drop)]
 pub struct Refused<'r> {
     number: u16,
     digits: Digits,
+    kept: Kept<'r>,
     linked: Chain<'r>,
 }
 
 impl<'r> Model for Refused<'r> {
-    ghost use Rattle.std.specs.Prelude.{All};
+    ghost use Rattle.std.specs.Prelude.{◌++◌, All};
+    ghost use Rattle.digit_route.specs.Kept.{IsKept, kept_items};
     ghost use Rattle.digit_route.specs.Route.{IsCached};
     ghost use Rattle.digit_route.specs.States.{RefusedState};
 
     ghost Value = { RefusedState };
 
-    ghost view = { λ r. record { number = r.number; digits = r.digits; items = r.linked } };
+    ghost view = { λ r. record { number = r.number; digits = r.digits; items = kept_items r.kept.items ++ r.linked } };
 
-    ghost invariant = { λ r. All (IsCached r.digits r.number) r.linked };
+    ghost invariant = { λ r. All (IsKept r.digits r.number) r.kept.items × All (IsCached r.digits r.number) r.linked };
 }
 
 impl<'r> Refused<'r> {
@@ -39,6 +51,7 @@ impl<'r> Refused<'r> {
         Refused {
             number,
             digits,
+            kept: ArrayVec::new(),
             linked: Chain::new(),
         }
     }
@@ -47,26 +60,38 @@ impl<'r> Refused<'r> {
     pub fn is_empty(&self) -> bool
         ensures { IsTrue result ↔ (self.now.items ≡ []) }
     {
-        self.linked.is_empty()
+        self.kept.is_empty() && self.linked.is_empty()
     }
 
-    /// Adds the buffers of a batch of this desk, in time for its length.
+    /// Adds the buffers of a batch of this desk: in constant time where fewer than four are held, else in
+    /// time for its length.
     pub fn add(&mut self, batch: Batch<'r>)
         requires sender { batch.sender ≡ self.old.number }
         requires digits { batch.digits ≡ self.old.digits }
         ensures same { self.new ≡ record self.old { items = self.new.items } }
         ensures items { IsPermutation (self.old.items ++ batch.entry.items) self.new.items }
     {
-        link_all(&mut self.linked, batch.into_magazine());
+        let _known = batch.address();
+        if self.kept.is_full() {
+            link_all(&mut self.linked, batch.into_magazine());
+        } else {
+            self.kept.push(Some(batch));
+        }
     }
 
-    // Takes out a buffer, which may be in the desk's cache.
-    pub(crate) fn pop(&mut self) -> Option<Buf<'r>>
-        ensures same { self.new ≡ record self.old { items = self.new.items } }
-        ensures value { MatchOption result ((self.old.items ≡ []) × (self.new.items ≡ []))
-            (λ b. (self.old.items ≡ self.new.items ++ b ∷ []) × IsCached self.old.digits self.old.number b) }
+    // The batches that are held as they are, and the buffers that are linked.
+    pub(crate) fn into_parts(self) -> (Kept<'r>, Chain<'r>)
+        ensures kept { All (IsKept self.entry.digits self.entry.number) result.0.items }
+        ensures linked { All (IsCached self.entry.digits self.entry.number) result.1 }
+        ensures items { kept_items result.0.items ++ result.1 ≡ self.entry.items }
     {
-        self.linked.pop()
+        let Refused {
+            number: _,
+            digits: _,
+            kept,
+            linked,
+        } = self;
+        (kept, linked)
     }
 }
 

@@ -189,6 +189,22 @@ impl<'r> Row<'r> {
         let _moved = scatter(&mut self.magazines, self.digits, self.round, magazine);
     }
 
+    /// Adds the buffers of a batch for `address` to a row by the first digit, by which all of them have
+    /// one place. Where no buffer stands there, the magazine is put there as it lies.
+    pub(crate) fn restore(&mut self, address: u16, magazine: Magazine<'r>)
+        requires round { self.old.round ≡ 0 }
+        requires routed { IsWellRouted self.old.digits self.old.number address magazine }
+        ensures same { self.new ≡ record self.old { items = self.new.items } }
+        ensures items { IsPermutation (self.old.items ++ magazine.entry) self.new.items }
+    {
+        let k = self.digits.digit(address, 0) as usize;
+        if self.magazines.as_slice()[k].is_empty() {
+            set_at(&mut self.magazines, k, magazine);
+        } else {
+            self.push_all(magazine);
+        }
+    }
+
     /// Why no bucket for `t` is taken.
     pub(crate) fn fault_for(&self, t: u16) -> Option<RouteError>
         requires { self.now.round ≡ 0 }

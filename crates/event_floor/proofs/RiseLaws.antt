@@ -1,5 +1,5 @@
 -- Inboxes along which the numbers rise.
-use Rattle.std.proofs.Common.{◌≡◌, ◌≢◌, ℕ, ◌<◌, ◌≤◌, List, [], ◌∷◌, ◌++◌, length, get_or, sym, ◌∙◌, subst, arith, All, ⊎_elim}
+use Rattle.std.proofs.Common.{◌≡◌, ◌≢◌, ℕ, suc, ◌<◌, ◌≤◌, List, [], ◌∷◌, ◌++◌, length, get_or, sym, ◌∙◌, subst, arith, All, ⊎_elim}
 use Rattle.std.proofs.lemmas.Bool.{cases_lt}
 use Rattle.std.proofs.lemmas.Bool.Decides.{eqb_tells}
 use Rattle.std.proofs.lemmas.List.{get_or_read, get_or_append_left, length-append}
@@ -33,6 +33,10 @@ not_unlinked ps number i x answer asked denied read d l unlinked =
     let says : answer ≡ true = asked.1 (subst (λ z. IsUnlinked number z) (sym (get_or_read ps i x l read d)) unlinked) in
     let both : false ≡ true = sym denied ∙ says in
     absurd (cc)
+
+-- they rise behind the front
+pub rises_behind : (ps qs : List QueuedState) (p : QueuedState) → qs ≡ p ∷ ps → NumbersRise qs → NumbersRise ps
+rises_behind ps qs p e h i j d l m = let all : NumbersRise (p ∷ ps) = subst (λ z. NumbersRise z) e h in all (suc i) (suc j) d (omega (arith, l)) (omega (arith, m))
 
 -- a batch with a greater number than all others goes behind them
 pub rises_sent : (ps : List QueuedState) (p : QueuedState) → NumbersRise ps → All (λ (q : QueuedState). q.batch.number < p.batch.number) ps → NumbersRise (ps ++ p ∷ [])

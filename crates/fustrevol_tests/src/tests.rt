@@ -3,6 +3,7 @@
 mod limits;
 mod refused;
 mod settings;
+mod steady;
 
 use fustrevol::{Edges, Heap, JobError, Message, Pool, PoolError, RunReport, Tally, Task};
 use std::alloc::Global;

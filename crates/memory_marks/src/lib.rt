@@ -19,6 +19,8 @@ pub enum Mark {
     Lent,
     /// As many blocks have to be lent as at the last mark `Lent`.
     GivenBack,
+    /// From one such mark to the next is a window, in which allocations and frees are counted.
+    Window,
 }
 
 impl Mark {
@@ -28,6 +30,7 @@ impl Mark {
             Mark::MayTake => 65_519,
             Mark::Lent => 65_497,
             Mark::GivenBack => 65_479,
+            Mark::Window => 65_449,
         }
     }
 }

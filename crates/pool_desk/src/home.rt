@@ -15,7 +15,7 @@ use crate::listing::add_unused;
 use crate::spares::Spares;
 use region_cut::endings::{Endings, Ties};
 use region_cut::{Bump, Class, Part, Slot};
-use slot_chain::{Arrays, Buf, Chain, NoMemory, Room};
+use slot_chain::{Arrays, Buf, NoMemory, Room, Stack};
 use std::alloc::Global;
 use std::marker::Model;
 
@@ -26,19 +26,22 @@ const MOST: usize = 1024;
 
 /// The buffers of one class that came home, and the slots of the chunk drawn last that were never
 /// handed out.
-// It takes 64 bytes, so that its place in a row is a shift away: with 56 a buffer that is lent and freed
-// takes a sixth longer.
+// It takes 128 bytes, so that its place in a row is a shift away.
 #[derive(Drop)]
 pub(crate) struct Home<'r> {
     owner: u16,
     class: Class,
     // Whether an array found no place among the whole ones.
     wants_room: bool,
-    list: Chain<'r>,
+    // How many slots were claimed: all may be at home at once.
+    claimed: u32,
+    list: Stack<'r>,
     // Arrays in which buffers came home, to be lent as they lie.
     whole: Arrays<'r>,
     bump: Option<Bump<'r>>,
     ties: Ties,
+    // Nothing reads it: with it a home takes 128 bytes.
+    apart: [u64; 3],
 }
 
 impl<'r> Model for Home<'r> {
@@ -83,10 +86,12 @@ impl<'r> Home<'r> {
             owner,
             class,
             wants_room: false,
-            list: Chain::new(),
+            claimed: 0,
+            list: Stack::new(),
             whole: Arrays::new(),
             bump: None,
             ties: Ties::new(),
+            apart: [0; 3],
         }
     }
 
@@ -116,6 +121,7 @@ impl<'r> Home<'r> {
         } }
         ensures drawn { Draws part.entry self.old.class self.old.drawn self.new.drawn }
     {
+        self.claimed = self.claimed.saturating_add(self.class.slots() as u32);
         match &mut self.bump {
             Some(bump) => bump.renew(part, &mut self.ties),
             None => self.bump = Some(part.bump(self.class)),
@@ -124,6 +130,7 @@ impl<'r> Home<'r> {
 
     /// Gives out a slot, of which nothing is filled: one of the list, else one of the array that came last,
     /// which is then taken apart, else one that was never handed out.
+    #[inline(always)]
     pub(crate) fn alloc(
         &mut self,
         alloc: Global,
@@ -140,6 +147,7 @@ impl<'r> Home<'r> {
         if let Some(buf) = take_apart(&mut self.whole, &mut self.list, spares) {
             return Ok(buf);
         }
+        make_places(&mut self.list, alloc, self.claimed);
         let Some(bump) = &mut self.bump else {
             return Err(DeskError::NeedChunk(self.class));
         };
@@ -147,6 +155,7 @@ impl<'r> Home<'r> {
     }
 
     /// Takes an own buffer home, of which nothing is filled.
+    #[inline(always)]
     pub(crate) fn keep(&mut self, buf: Buf<'r>)
         requires { LiesIn self.old.owner self.old.class buf }
         ensures same { self.new ≡ record self.old { slots = self.new.slots } }
@@ -236,10 +245,12 @@ impl<'r> Home<'r> {
             owner: _,
             class: _,
             wants_room: _,
+            claimed: _,
             list,
             whole,
             bump,
             ties,
+            apart: _,
         } = self;
         list.end(endings);
         whole.end(endings);
@@ -250,12 +261,25 @@ impl<'r> Home<'r> {
     }
 }
 
+// Makes a place in an empty list for each slot that was claimed, and at least twice as many as before. Where
+// memory is refused, buffers will be linked.
+#[inline(never)]
+fn make_places(list: &mut Stack<'_>, alloc: Global, claimed: u32)
+    ensures { list.new ≡ list.old }
+{
+    let places = list.places();
+    let claimed = claimed as usize;
+    if places < claimed {
+        list.make_room(alloc, claimed.max(places.saturating_mul(2)));
+    }
+}
+
 // Takes the array that came last apart: gives out its last buffer, and puts the others into the list.
 #[cold]
 #[inline(never)]
 fn take_apart<'r>(
     whole: &mut Arrays<'r>,
-    list: &mut Chain<'r>,
+    list: &mut Stack<'r>,
     spares: &mut Spares<'r>,
 ) -> Option<Buf<'r>>
     ensures { MatchOption result ((whole.old ≡ []) × (whole.new ≡ []) × (list.new ≡ list.old))
@@ -270,7 +294,7 @@ fn take_apart<'r>(
 }
 
 // Puts the buffers that an array names into the list, and leaves it empty.
-fn link_all<'r>(list: &mut Chain<'r>, array: &mut Vec<Buf<'r>>)
+fn link_all<'r>(list: &mut Stack<'r>, array: &mut Vec<Buf<'r>>)
     ensures list { IsPermutation (list.old ++ array.old.items) list.new }
     ensures emptied { array.new.items ≡ [] }
 {

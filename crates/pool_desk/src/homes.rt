@@ -93,6 +93,7 @@ impl<'r> Homes<'r> {
     }
 
     /// Gives out a slot of the class: one that came home, else the next that was never handed out.
+    #[inline(always)]
     pub(crate) fn alloc(
         &mut self,
         alloc: Global,

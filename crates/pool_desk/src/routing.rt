@@ -96,6 +96,7 @@ impl<'r> Desk<'r> {
     }
 
     /// Takes back into the cache all that was refused while it was posted. Takes no memory.
+    #[inline(always)]
     pub fn take_back(&mut self, refused: Refused<'r>)
         requires number { refused.number ≡ self.old.number }
         requires digits { refused.digits ≡ self.old.digits }

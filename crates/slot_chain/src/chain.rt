@@ -7,7 +7,6 @@ ghost use Rattle.slot_chain.specs.Counts.{capped, sizes};
 ghost use Rattle.slot_chain.specs.Magazines.{AreFilled, named_in_all};
 ghost use Rattle.slot_chain.specs.Slots.{AddsSlots, slot_of};
 
-use crate::arrays::Arrays;
 use crate::buf::Buf;
 use crate::error::NoMemory;
 use crate::link::Link;
@@ -215,22 +214,6 @@ impl<'r> Chain<'r> {
         ensures { result ≡ (named_in_all whole.now ++ named.now) ++ self.now }
     {
         Walk::from(whole, named, &self.top)
-    }
-
-    /// Adds the slots of its buffers and of those that the arrays name to the end of `slots`, as
-    /// [`Chain::list_slots`] does.
-    pub fn list_slots_with(
-        &self,
-        arrays: &Arrays<'r>,
-        slots: &mut Vec<Slot>,
-    ) -> Result<(), NoMemory>
-        ensures ok { OnOk result (AddsSlots (map slot_of (arrays.now ++ self.now)) slots.old.items slots.new.items) }
-        ensures err { OnErr result (slots.new.items ≡ slots.old.items) }
-    {
-        add_slots(
-            self.walk_behind(arrays.as_slice(), Default::default()),
-            slots,
-        )
     }
 
     /// Adds the slot of each buffer to the end of `slots`, in no order. Where memory for that is

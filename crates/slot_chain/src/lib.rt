@@ -11,6 +11,7 @@
 //! allocator, which are passed on and freed as a whole.
 #![tactic(auto)]
 
+mod array;
 mod arrays;
 mod below;
 mod buf;
@@ -26,6 +27,8 @@ mod node;
 mod parcel;
 mod portion;
 mod room;
+mod single;
+mod stack;
 mod walk;
 
 pub use arrays::Arrays;
@@ -38,4 +41,5 @@ pub use magazine::Magazine;
 pub use parcel::BufParcel;
 pub use portion::Portion;
 pub use room::Room;
+pub use stack::Stack;
 pub use walk::{Tag, Walk};

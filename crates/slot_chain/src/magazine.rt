@@ -6,6 +6,7 @@ ghost use Rattle.slot_chain.specs.Counts.{capped, sizes};
 ghost use Rattle.slot_chain.specs.Slots.{AddsSlots, slot_of};
 ghost use Rattle.slot_chain.specs.Magazines.{named_in, items_of, HasPlace};
 
+use crate::array::{len_of, names_none, offer, pop_named, slice_of, take_named};
 use crate::arrays::Arrays;
 use crate::buf::Buf;
 use crate::chain::Chain;
@@ -21,15 +22,23 @@ use std::{fmt, mem};
 
 // For how many buffers an array has places, and for how many whole arrays there is room, at least and
 // at most.
-const LEAST: u32 = 16;
+const LEAST: u16 = 16;
 
-const MOST: u32 = 4096;
+const MOST: u16 = 4096;
+
+// How often lists are longer than their arrays before larger ones are made: twice within some eight lists.
+// Where that comes seldom, a larger array would be made for each list under way, for little.
+const WEIGHT: u16 = 16;
+
+const OFTEN: u16 = 24;
 
 // For how many buffers an array is to be made, and for how many whole arrays room: 0 where none is wanted.
 #[derive(Clone, Copy)]
 struct Wanted {
-    buffers: u32,
-    arrays: u32,
+    buffers: u16,
+    arrays: u16,
+    // Each list that was longer than its array adds `WEIGHT`, and each other takes 1 away.
+    overflows: u16,
 }
 
 /// A list of buffers that goes to another thread as a whole. In contracts it is that list;
@@ -95,6 +104,7 @@ impl<'r> Magazine<'r> {
         Magazine::wanting(Wanted {
             buffers: 0,
             arrays: 0,
+            overflows: 0,
         })
     }
 
@@ -234,23 +244,32 @@ impl<'r> Magazine<'r> {
         }
     }
 
-    // For how many buffers the array should be made of a list that becomes as long as this one.
-    fn places(&self) -> u32 {
-        match &self.array {
-            None => self.wanted.buffers.max(LEAST),
-            Some(array) => {
-                let places = at_most(array.capacity());
-                if self.linked.is_empty() {
-                    places
-                } else {
-                    more_than(places)
-                }
-            }
+    // What is to be made behind this list.
+    fn wanted_behind(&self) -> Wanted {
+        let overflows = self.overflows_behind();
+        let (buffers, overflows) = match &self.array {
+            None => (self.wanted.buffers.max(LEAST), overflows),
+            Some(array) => places_behind(at_most(array.capacity()), overflows),
+        };
+        Wanted {
+            buffers,
+            arrays: self.places_for_arrays(),
+            overflows,
+        }
+    }
+
+    // How often lists were longer than their arrays, with this one.
+    fn overflows_behind(&self) -> u16 {
+        let before = self.wanted.overflows;
+        if self.array.is_some() && !self.linked.is_empty() {
+            before.saturating_add(WEIGHT)
+        } else {
+            before.saturating_sub(1)
         }
     }
 
     // For how many whole arrays there should be room in such a list: for none where none found no place.
-    fn places_for_arrays(&self) -> u32 {
+    fn places_for_arrays(&self) -> u16 {
         self.wanted.arrays.max(at_most(self.whole.places()))
     }
 
@@ -260,15 +279,13 @@ impl<'r> Magazine<'r> {
         ensures value { result ≡ self.old }
         ensures emptied { self.new ≡ [] }
     {
-        let empty = Magazine::wanting(Wanted {
-            buffers: self.places(),
-            arrays: self.places_for_arrays(),
-        });
+        let empty = Magazine::wanting(self.wanted_behind());
         mem::replace(self, empty)
     }
 
     /// Makes room for what comes, where a list was taken out and nothing came since: an array as large
-    /// as that list had, or twice as large, up to 4,096 places, where it had too few. The first has 16.
+    /// as that list had, or twice as large, up to 4,096 places, where lists often have too few. The first
+    /// has 16.
     /// Where memory is refused, all stays as it is.
     pub fn make_room(&mut self, alloc: Global)
         ensures { self.new ≡ self.old }
@@ -309,11 +326,7 @@ impl<'r> Magazine<'r> {
     pub fn len(&self) -> u64
         ensures { result ≡ capped (length self.now) }
     {
-        let named = match &self.array {
-            None => 0,
-            Some(array) => array.len() as u64,
-        };
-        let array = named.saturating_add(self.linked.len());
+        let array = len_of(&self.array).saturating_add(self.linked.len());
         self.whole.len().saturating_add(array)
     }
 
@@ -347,11 +360,8 @@ impl<'r> Magazine<'r> {
     pub fn walk(&self) -> Walk<'_, 'r>
         ensures { result ≡ self.now }
     {
-        let whole = self.whole.as_slice();
-        match &self.array {
-            None => self.linked.walk_behind(whole, Default::default()),
-            Some(array) => self.linked.walk_behind(whole, array.as_slice()),
-        }
+        self.linked
+            .walk_behind(self.whole.as_slice(), slice_of(&self.array))
     }
 
     /// Adds the slot of each buffer to the end of `slots`, in no order. Where memory for that is
@@ -364,57 +374,23 @@ impl<'r> Magazine<'r> {
     }
 }
 
+// For how many buffers the next array is to be made, and what is then counted of lists that were longer.
+fn places_behind(places: u16, overflows: u16) -> (u16, u16) {
+    if overflows >= OFTEN {
+        (more_than(places), 0)
+    } else {
+        (places, overflows)
+    }
+}
+
 // So many places, or the most that are made.
-fn at_most(places: usize) -> u32 {
-    places.min(MOST as usize) as u32
+fn at_most(places: usize) -> u16 {
+    places.min(MOST as usize) as u16
 }
 
 // Twice as many places, and neither fewer nor more than are made.
-fn more_than(places: u32) -> u32 {
+fn more_than(places: u16) -> u16 {
     places.saturating_mul(2).max(LEAST).min(MOST)
-}
-
-// Puts a buffer into the array, where it has a place; else hands it back.
-#[inline]
-fn offer<'r>(array: &mut Option<Vec<Buf<'r>>>, buf: Buf<'r>) -> Option<Buf<'r>>
-    ensures { MatchOption result
-        (HasPlace array.old × (named_in array.new ≡ named_in array.old ++ buf.entry ∷ []))
-        (λ b. (b ≡ buf.entry) × (array.new ≡ array.old) × (HasPlace array.old → ⊥)) }
-{
-    match array {
-        None => Some(buf),
-        Some(array) => {
-            if array.len() >= array.capacity() {
-                return Some(buf);
-            }
-            array.push_reserved(buf);
-            None
-        }
-    }
-}
-
-// Takes the last buffer of an array.
-#[inline]
-fn pop_named<'r>(array: &mut Option<Vec<Buf<'r>>>) -> Option<Buf<'r>>
-    ensures named { MatchOption result ((named_in array.old ≡ []) × (named_in array.new ≡ []))
-        (λ b. named_in array.old ≡ named_in array.new ++ b ∷ []) }
-    ensures place { MatchOption result (HasPlace array.new → HasPlace array.old) (λ _. HasPlace array.new) }
-{
-    match array {
-        None => None,
-        Some(array) => array.pop(),
-    }
-}
-
-// Takes an array out, where it names a buffer.
-fn take_named<'r>(array: &mut Option<Vec<Buf<'r>>>) -> Option<Vec<Buf<'r>>>
-    ensures { MatchOption result ((named_in array.old ≡ []) × (array.new ≡ array.old))
-        (λ a. (a.items ≢ []) × (named_in array.old ≡ a.items) × (array.new ≡ None)) }
-{
-    if names_none(array) {
-        return None;
-    }
-    array.take()
 }
 
 // Takes the last buffer of the array that came last as a whole, where the other array names none, and
@@ -430,16 +406,6 @@ fn pop_whole<'r>(whole: &mut Arrays<'r>, array: &mut Option<Vec<Buf<'r>>>) -> Op
     let buf = last.take_last();
     *array = Some(last);
     Some(buf)
-}
-
-// Whether an array names no buffer, or isn't there.
-fn names_none(array: &Option<Vec<Buf<'_>>>) -> bool
-    ensures { IsTrue result ↔ (named_in array.now ≡ []) }
-{
-    match array {
-        None => true,
-        Some(array) => array.is_empty(),
-    }
 }
 
 // The buffers are counted, and not printed.

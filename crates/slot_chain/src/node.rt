@@ -20,14 +20,10 @@ pub(crate) struct Node<'r> {
     pub(crate) class: Class,
     pub(crate) owner: u16,
     pub(crate) lease: Lease<'r>,
-    // Nothing reads it. `below` changes from list to list, and what stands before is read by each thread
-    // that has the buffer. `below` stands 128 bytes behind the beginning, so that a cache line of 64 lies
-    // between the two lines, wherever a box lies: a core that reads a line fetches the next one as well.
-    pub(crate) apart: [u64; 12],
+    // Written where the buffer is linked alone. What stands before is read by each thread that has the
+    // buffer, and other boxes lie in the same cache line. So lists that are long or cross threads are
+    // arrays first.
     pub(crate) below: Below<'r>,
-    // Nothing reads it. With it a box takes 192 bytes from the C library, whole lines, so that no box
-    // begins where the link of another lies.
-    pub(crate) behind: [u64; 5],
     // by which the box goes back. It takes no bytes
     pub(crate) alloc: Global,
 }
@@ -59,9 +55,7 @@ impl<'r> Node<'r> {
             class: _,
             owner: _,
             lease,
-            apart: _,
             below,
-            behind: _,
             alloc: _,
         } = self;
         (lease, below)

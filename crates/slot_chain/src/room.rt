@@ -33,7 +33,7 @@ impl<'r> Model for Room<'r> {
 }
 
 impl<'r> Room<'r> {
-    /// Makes an empty room: a box of 176 bytes. [`NoMemory`] is answered only where the allocator
+    /// Makes an empty room: a box of 40 bytes. [`NoMemory`] is answered only where the allocator
     /// refused it.
     pub fn new(alloc: Global) -> Result<Room<'r>, NoMemory> {
         let node = Node {
@@ -43,9 +43,7 @@ impl<'r> Room<'r> {
             class: Class::FIRST,
             owner: 0,
             lease: Lease::new(Default::default()),
-            apart: [0; 12],
             below: Below::new(),
-            behind: [0; 5],
             alloc,
         };
         Ok(Room {

@@ -1,6 +1,7 @@
 //! What is dropped gives its boxes back: behind each drop as many blocks are lent as before what was
 //! dropped was made. `.ci/no_memory.py` counts them. No clause says it: a drop that forgets its
 //! buffers would meet all of them.
+use crate::tests::stacks::stacked;
 use crate::tests::{filled, same};
 use chain_uses::turned;
 use memory_marks::{Mark, set};
@@ -55,6 +56,24 @@ fn parcel(rt: &impl Abort, alloc: Global) -> Result<(), NoMemory> {
 fn by_a_full_parcel(rt: HostRuntime) {
     if parcel(&rt, rt.alloc()).is_err() {
         assert!(rt; parcel(&rt, rt.alloc()).is_ok());
+    }
+}
+
+// Of 256 buffers one lies in the stack's word, some in its array, and some are linked.
+fn stack(rt: &impl Abort, alloc: Global) -> Result<(), NoMemory> {
+    let mut region = Vec::from_elem(alloc, 0u8, CHUNK)?;
+    set(alloc, Mark::Lent);
+    let full = stacked(rt, alloc, &mut region)?;
+    same(rt, "the slots", full.len(), 256);
+    drop(full);
+    set(alloc, Mark::GivenBack);
+    Ok(())
+}
+
+#[test]
+fn by_a_full_stack(rt: HostRuntime) {
+    if stack(&rt, rt.alloc()).is_err() {
+        assert!(rt; stack(&rt, rt.alloc()).is_ok());
     }
 }
 

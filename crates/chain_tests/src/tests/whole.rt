@@ -4,7 +4,7 @@ use crate::tests::{filled, same};
 use chain_uses::mark;
 use region_cut::endings::Endings;
 use region_cut::{CHUNK, Slot, class_for};
-use slot_chain::{Arrays, Buf, Chain, Magazine, NoMemory, Portion};
+use slot_chain::{Arrays, Buf, Chain, Magazine, NoMemory, Portion, Stack};
 use std::alloc::Global;
 use std::process::Abort;
 
@@ -402,8 +402,8 @@ fn depot(rt: &impl Abort, alloc: Global) -> Result<(), NoMemory> {
     let last = arrays.take_fitting(2, PLACES).expect(rt, "the last one");
     same(rt, "its buffers", last.len() as u64, 2);
     let mut slots = Vec::new(alloc);
-    chain.list_slots_with(&arrays, &mut slots)?;
-    same(rt, "those left", slots.len() as u64, 253);
+    Stack::new().list_slots_with(&arrays, &mut slots)?;
+    same(rt, "those left", slots.len() as u64, 3);
     let mut endings = Endings::new();
     arrays.end(&mut endings);
     Ok(())

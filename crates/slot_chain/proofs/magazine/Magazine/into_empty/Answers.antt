@@ -1,4 +1,4 @@
-use Rattle.std.proofs.Common.{◌≡◌, ◌∙◌}
+use Rattle.std.proofs.Common.{◌∙◌}
 use Rattle.slot_chain.specs.Magazines.{named_in}
 use Rattle.slot_chain.proofs.Tops.{fronts_are_none}
 use Rattle.slot_chain.proofs.magazine.Magazine.into_empty.Goals as goal
