@@ -16,6 +16,7 @@ ghost use Rattle.pool_desk.specs.Slots.{slots_in};
 ghost use Rattle.pool_desk.specs.Steps.{Claims, NotNeededFor, Allocs, AllocsClass, Frees, FreesAll};
 ghost use Rattle.pool_desk.specs.Steps.{IsFilledUp, LendsWhole};
 
+use crate::home::Placing;
 use crate::homes::Homes;
 use crate::spares::Spares;
 use crate::{DeskError, Freed, IdleDesk};
@@ -184,7 +185,7 @@ impl<'r> Desk<'r> {
         let mut buf = buf;
         buf.reset();
         if buf.owner() == self.cache.number() {
-            self.homes.keep(buf);
+            self.homes.keep(buf, Placing::Linked);
             return Freed::Home;
         }
         self.cache.put(buf);

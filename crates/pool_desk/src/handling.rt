@@ -6,6 +6,7 @@ ghost use Rattle.pool_desk.specs.Steps.{Handles, CountsOf};
 
 use crate::Counts;
 use crate::desk::Desk;
+use crate::home::Placing;
 use digit_route::Batch;
 use digit_route::laws::shared_at_most_all;
 use slot_chain::{Buf, Chain, EmptyMagazine, Magazine, Portion};
@@ -92,7 +93,7 @@ impl<'r> Desk<'r> {
         let mut on = 0;
         while let Some(buf) = array.pop() {
             if self.owns(&buf) {
-                self.take_home(buf);
+                self.take_home(buf, Placing::Named);
             } else {
                 self.pass_on(buf);
                 on += 1;
@@ -101,7 +102,8 @@ impl<'r> Desk<'r> {
         (counts.plus(all - on, on), array)
     }
 
-    // Handles the buffers of a chain, and counts them on.
+    // Handles the buffers of a chain, and counts them on. Who linked them has written to their boxes, so
+    // they stay linked.
     fn handle_chain(&mut self, chain: Chain<'r>, counts: Counts) -> Counts
         requires { All (IsPassed self.old.digits self.old.number) chain }
         ensures parts { Handles self.old chain.entry self.new }
@@ -111,7 +113,7 @@ impl<'r> Desk<'r> {
         let mut counts = counts;
         while let Some(buf) = chain.pop() {
             if self.owns(&buf) {
-                self.take_home(buf);
+                self.take_home(buf, Placing::Linked);
                 counts = counts.plus(1, 0);
             } else {
                 self.pass_on(buf);
@@ -129,13 +131,14 @@ impl<'r> Desk<'r> {
     }
 
     // Takes an own buffer of a batch home.
-    fn take_home(&mut self, buf: Buf<'r>)
+    #[inline(always)]
+    fn take_home(&mut self, buf: Buf<'r>, placing: Placing)
         requires { buf.owner ≡ self.old.number }
         ensures { GoesHome self.old buf.entry self.new }
     {
         let mut buf = buf;
         buf.clear();
-        self.homes.keep(buf);
+        self.homes.keep(buf, placing);
     }
 
     // Puts another's buffer of a batch into the cache with one more forward. It isn't inlined, so that

@@ -24,24 +24,32 @@ const LEAST: usize = 16;
 
 const MOST: usize = 1024;
 
+/// How a buffer is put to those at home: linked, which writes to its box, or named by an array, which
+/// doesn't, since other threads may read what lies beside the box.
+#[derive(Clone, Copy)]
+pub(crate) enum Placing {
+    Linked,
+    Named,
+}
+
 /// The buffers of one class that came home, and the slots of the chunk drawn last that were never
 /// handed out.
 // It takes 128 bytes, so that its place in a row is a shift away.
 #[derive(Drop)]
 pub(crate) struct Home<'r> {
+    list: Stack<'r>,
     owner: u16,
     class: Class,
     // Whether an array found no place among the whole ones.
     wants_room: bool,
     // How many slots were claimed: all may be at home at once.
     claimed: u32,
-    list: Stack<'r>,
     // Arrays in which buffers came home, to be lent as they lie.
     whole: Arrays<'r>,
     bump: Option<Bump<'r>>,
     ties: Ties,
     // Nothing reads it: with it a home takes 128 bytes.
-    apart: [u64; 3],
+    apart: [u64; 4],
 }
 
 impl<'r> Model for Home<'r> {
@@ -83,15 +91,15 @@ impl<'r> Home<'r> {
         ensures { result ≡ record { owner = owner; class = class; slots = []; drawn = [] } }
     {
         Home {
+            list: Stack::new(),
             owner,
             class,
             wants_room: false,
             claimed: 0,
-            list: Stack::new(),
             whole: Arrays::new(),
             bump: None,
             ties: Ties::new(),
-            apart: [0; 3],
+            apart: [0; 4],
         }
     }
 
@@ -156,12 +164,15 @@ impl<'r> Home<'r> {
 
     /// Takes an own buffer home, of which nothing is filled.
     #[inline(always)]
-    pub(crate) fn keep(&mut self, buf: Buf<'r>)
+    pub(crate) fn keep(&mut self, buf: Buf<'r>, placing: Placing)
         requires { LiesIn self.old.owner self.old.class buf }
         ensures same { self.new ≡ record self.old { slots = self.new.slots } }
         ensures slots { IsPermutation (Kept buf.entry ∷ self.old.slots) self.new.slots }
     {
-        self.list.push(buf);
+        match placing {
+            Placing::Linked => self.list.push(buf),
+            Placing::Named => self.list.store(buf),
+        }
     }
 
     /// Whether there is a place for an array of buffers. Where there is none, [`Home::make_room`] makes some
@@ -184,7 +195,7 @@ impl<'r> Home<'r> {
         ensures slots { IsPermutation (map Kept array.entry.items ++ self.old.slots) self.new.slots }
     {
         if let Some(mut array) = self.whole.put(array) {
-            link_all(&mut self.list, &mut array);
+            store_all(&mut self.list, &mut array);
         }
     }
 
@@ -242,11 +253,11 @@ impl<'r> Home<'r> {
         } }
     {
         let Home {
+            list,
             owner: _,
             class: _,
             wants_room: _,
             claimed: _,
-            list,
             whole,
             bump,
             ties,
@@ -288,18 +299,18 @@ fn take_apart<'r>(
 {
     let mut array = whole.take()?;
     let buf = array.take_last();
-    link_all(list, &mut array);
+    store_all(list, &mut array);
     spares.keep(array);
     Some(buf)
 }
 
 // Puts the buffers that an array names into the list, and leaves it empty.
-fn link_all<'r>(list: &mut Stack<'r>, array: &mut Vec<Buf<'r>>)
+fn store_all<'r>(list: &mut Stack<'r>, array: &mut Vec<Buf<'r>>)
     ensures list { IsPermutation (list.old ++ array.old.items) list.new }
     ensures emptied { array.new.items ≡ [] }
 {
     while let Some(buf) = array.pop() {
-        list.push(buf);
+        list.store(buf);
     }
 }
 

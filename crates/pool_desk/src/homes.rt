@@ -14,6 +14,7 @@ ghost use Rattle.pool_desk.specs.HomesState.{HasClass, LacksClass, IsWanting};
 
 use crate::DeskError;
 use crate::by_class::{ByClass, add_all, count_all, empty_homes, end_all};
+use crate::home::Placing;
 use crate::spares::Spares;
 use region_cut::endings::Endings;
 use region_cut::{Class, Part, Slot};
@@ -109,14 +110,15 @@ impl<'r> Homes<'r> {
     }
 
     /// Takes an own buffer home, of which nothing is filled.
-    pub(crate) fn keep(&mut self, buf: Buf<'r>)
+    #[inline(always)]
+    pub(crate) fn keep(&mut self, buf: Buf<'r>, placing: Placing)
         requires owner { buf.owner ≡ self.old.owner }
         requires empty { buf.filled ≡ 0 }
         ensures same { self.new ≡ record self.old { slots = self.new.slots } }
         ensures slots { IsPermutation (Kept buf.entry ∷ self.old.slots) self.new.slots }
     {
         let class = buf.class();
-        self.by_class[class.number() as usize].keep(buf);
+        self.by_class[class.number() as usize].keep(buf, placing);
     }
 
     /// Takes own buffers home, each emptied, and leaves their array empty.
@@ -129,7 +131,7 @@ impl<'r> Homes<'r> {
     {
         while let Some(mut buf) = array.pop() {
             buf.clear();
-            self.keep(buf);
+            self.keep(buf, Placing::Linked);
         }
     }
 

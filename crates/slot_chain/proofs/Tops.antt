@@ -4,7 +4,7 @@ use denote.RawPtr.{Ptr, null_ptr, block_ptr}
 use Rattle.slot_chain.specs.declared.link.Link.{Link}
 use Rattle.slot_chain.specs.declared.node.Node.{Node}
 use Rattle.slot_chain.specs.Buffer.{Buffer}
-use Rattle.slot_chain.specs.Chains.{buffer_of, buffers_at, buffers_of, below_at, below_of, held, is_list, one_at, one_of}
+use Rattle.slot_chain.specs.Chains.{buffer_of, buffers_at, buffers_of, below_at, below_of, held, is_list}
 
 abbrev is_cons : List Buffer → Type 0
 is_cons [] = ⊥
@@ -24,14 +24,6 @@ none_at (Some n) e = absurd (not_empty (held n.below) (buffer_of n) [] e)
 
 pub empty_is_none : (l : Link Node) → buffers_of l ≡ [] → l.value ≡ None
 empty_is_none l e = none_at l.value e
-
-none_alone : (m : Option Node) → one_at m ≡ [] → m ≡ None
-none_alone None e = refl
-none_alone (Some n) e = absurd (subst is_cons e tt)
-
--- there is no node where there is no buffer
-pub single_is_none : (l : Link Node) → one_of l ≡ [] → l.value ≡ None
-single_is_none l e = none_alone l.value e
 
 moved_at : (m : Option Node) (p : Ptr) → held (below_at m p) ≡ [] → m ≡ None
 moved_at None p e = refl

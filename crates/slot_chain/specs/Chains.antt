@@ -51,22 +51,6 @@ top_is_listed l = node_is_listed l.value
 abbrev pub is_list : Link Node → Type 0
 is_list l = ((l.value ≡ None) → (l.at ≡ null_ptr)) × top_is_listed l
 
--- the buffer of a node that is in no chain, or none
-abbrev pub one_at : Option Node → List Buffer
-one_at None = []
-one_at (Some n) = buffer_of n ∷ []
-
-abbrev pub one_of : Link Node → List Buffer
-one_of l = one_at l.value
-
-abbrev pub node_is_alone : Option Node → Type 0
-node_is_alone None = Unit {0}
-node_is_alone (Some n) = IsAlone n
-
--- a node that is in no chain, or null
-abbrev pub is_single : Link Node → Type 0
-is_single l = ((l.value ≡ None) → (l.at ≡ null_ptr)) × node_is_alone l.value
-
 -- the chain of a top, which was moved out where neither a box nor null is left
 abbrev pub below_at : Option Node → Ptr → Option (List Buffer)
 below_at None null_ptr = Some []

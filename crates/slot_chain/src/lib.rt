@@ -27,7 +27,6 @@ mod node;
 mod parcel;
 mod portion;
 mod room;
-mod single;
 mod stack;
 mod walk;
 

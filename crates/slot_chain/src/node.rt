@@ -21,8 +21,8 @@ pub(crate) struct Node<'r> {
     pub(crate) owner: u16,
     pub(crate) lease: Lease<'r>,
     // Written where the buffer is linked alone. What stands before is read by each thread that has the
-    // buffer, and other boxes lie in the same cache line. So lists that are long or cross threads are
-    // arrays first.
+    // buffer, and other boxes lie in the same cache line. So what comes from another thread is named by
+    // an array, and only what its own thread frees is linked.
     pub(crate) below: Below<'r>,
     // by which the box goes back. It takes no bytes
     pub(crate) alloc: Global,

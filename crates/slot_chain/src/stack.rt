@@ -11,7 +11,6 @@ use crate::buf::Buf;
 use crate::chain::Chain;
 use crate::error::NoMemory;
 use crate::parcel::end_each;
-use crate::single::Single;
 use crate::walk::add_slots;
 use region_cut::Slot;
 use region_cut::endings::Endings;
@@ -19,20 +18,19 @@ use std::alloc::Global;
 use std::fmt;
 use std::marker::Model;
 
-/// A list of buffers, of which the one that came last is taken first. In contracts it is that list.
+/// Buffers that stay in one thread. In contracts it is the list of them, whose last is taken first.
 ///
-/// It is an array of pointers to the buffers' boxes, and writes to none of them, as a [`Chain`] does:
-/// other threads may read what lies beside a box. What finds no place in the array is linked. The
-/// buffer that came last stands in a word of its own.
+/// A buffer is linked, which writes to its box, or named by an array of pointers, which doesn't: other
+/// threads may read what lies beside the box. So [`Stack::push`] is for what this thread used last, and
+/// [`Stack::store`] for what another thread did. What is linked is taken first.
 ///
 /// Only [`Stack::make_room`] and [`Stack::list_slots_with`] take memory; no other call can fail. A stack
 /// may be dropped, with all its buffers.
 #[must_use]
 #[derive(Drop)]
 pub struct Stack<'r> {
-    last: Single<'r>,
-    array: Option<Vec<Buf<'r>>>,
     linked: Chain<'r>,
+    array: Option<Vec<Buf<'r>>>,
 }
 
 impl<'r> Model for Stack<'r> {
@@ -42,7 +40,7 @@ impl<'r> Model for Stack<'r> {
 
     ghost Value = { List Buffer };
 
-    ghost view = { λ s. s.linked ++ (named_in s.array ++ s.last) };
+    ghost view = { λ s. named_in s.array ++ s.linked };
 }
 
 impl<'r> Stack<'r> {
@@ -51,34 +49,38 @@ impl<'r> Stack<'r> {
         ensures { result ≡ [] }
     {
         Stack {
-            last: Single::new(),
-            array: None,
             linked: Chain::new(),
+            array: None,
         }
     }
 
-    /// Puts a buffer to the others, to be taken next. Takes constant time.
-    #[inline(always)]
+    /// Links a buffer to the others, to be taken next. Takes constant time.
     pub fn push(&mut self, buf: Buf<'r>)
+        ensures { self.new ≡ self.old ++ buf.entry ∷ [] }
+    {
+        self.linked.push(buf);
+    }
+
+    /// Puts a buffer into the array, or links it where that has no place for it. Takes constant time.
+    #[inline]
+    pub fn store(&mut self, buf: Buf<'r>)
         ensures { IsPermutation (self.old ++ buf.entry ∷ []) self.new }
     {
-        if let Some(before) = self.last.replace(buf) {
-            store(&mut self.array, &mut self.linked, before);
+        if let Some(buf) = offer(&mut self.array, buf) {
+            link(&mut self.linked, buf);
         }
     }
 
-    /// Takes the buffer that came last, or `None` where there is none. Takes constant time.
+    /// Takes the buffer that was linked last, else the last of the array, or `None` where there is none.
+    /// Takes constant time.
     #[inline(always)]
     pub fn pop(&mut self) -> Option<Buf<'r>>
         ensures { MatchOption result ((self.old ≡ []) × (self.new ≡ [])) (λ b. self.old ≡ self.new ++ b ∷ []) }
     {
-        if let Some(buf) = self.last.take() {
+        if let Some(buf) = self.linked.pop() {
             return Some(buf);
         }
-        if let Some(buf) = pop_named(&mut self.array) {
-            return Some(buf);
-        }
-        pop_linked(&mut self.linked)
+        pop_named(&mut self.array)
     }
 
     /// For how many buffers its array has places.
@@ -89,12 +91,12 @@ impl<'r> Stack<'r> {
         }
     }
 
-    /// Makes room for the pointers to so many buffers, where there is less, and no buffer. Where memory is
-    /// refused, all stays as it is.
+    /// Makes room in the array for pointers to so many buffers, where it has less and names none. Where
+    /// memory is refused, all stays as it is.
     pub fn make_room(&mut self, alloc: Global, places: usize)
         ensures { self.new ≡ self.old }
     {
-        if self.places() >= places || !self.is_empty() {
+        if self.places() >= places || !names_none(&self.array) {
             return;
         }
         if let Ok(array) = Vec::with_capacity(alloc, places) {
@@ -103,12 +105,12 @@ impl<'r> Stack<'r> {
     }
 
     /// Whether there is no buffer. Takes constant time.
-    #[tactic(auto, using(crate::proofs::Stacked::all_are_none))]
+    #[tactic(auto, using(crate::proofs::Stacked::both_are_none))]
     #[inline]
     pub fn is_empty(&self) -> bool
         ensures { IsTrue result ↔ (self.now ≡ []) }
     {
-        self.last.is_empty() && names_none(&self.array) && self.linked.is_empty()
+        self.linked.is_empty() && names_none(&self.array)
     }
 
     /// The number of buffers, or the greatest `u64` where that is less. Those that are linked are
@@ -116,8 +118,7 @@ impl<'r> Stack<'r> {
     pub fn len(&self) -> u64
         ensures { result ≡ capped (length self.now) }
     {
-        let stored = self.linked.len().saturating_add(len_of(&self.array));
-        stored.saturating_add(self.last.len())
+        self.linked.len().saturating_add(len_of(&self.array))
     }
 
     /// Adds the slots of its buffers and of those that the arrays name to the end of `slots`, in no order.
@@ -130,63 +131,32 @@ impl<'r> Stack<'r> {
         ensures ok { OnOk result (AddsSlots (map slot_of (arrays.now ++ self.now)) slots.old.items slots.new.items) }
         ensures err { OnErr result (slots.new.items ≡ slots.old.items) }
     {
-        let start = slots.len();
         add_slots(
             self.linked
                 .walk_behind(arrays.as_slice(), slice_of(&self.array)),
             slots,
-        )?;
-        if let Some(slot) = self.last.slot() {
-            if slots.push(slot).is_err() {
-                slots.truncate(start);
-                return Err(NoMemory);
-            }
-        }
-        Ok(())
+        )
     }
 
     /// Lets go all buffers: it is then known what each ends as. Takes a walk over them.
     pub fn end(self, endings: &mut Endings<'r>)
         ensures { endings.new ≡ record endings.old { known = map ended_of self.entry ++ endings.old.known } }
     {
-        let Stack {
-            last,
-            array,
-            linked,
-        } = self;
-        last.end(endings);
+        let Stack { linked, array } = self;
+        linked.end(endings);
         if let Some(array) = array {
             end_each(array, endings);
         }
-        linked.end(endings);
     }
 }
 
-// Puts a buffer into the array, or links it where that has no place for it.
-#[inline]
-fn store<'r>(array: &mut Option<Vec<Buf<'r>>>, linked: &mut Chain<'r>, buf: Buf<'r>)
-    ensures { IsPermutation ((linked.old ++ named_in array.old) ++ buf.entry ∷ []) (linked.new ++ named_in array.new) }
-{
-    if let Some(buf) = offer(array, buf) {
-        link(linked, buf);
-    }
-}
-
-// By itself, as the other one below, so that the short ways stand inline at who frees and lends.
+// By itself, so that the short way stands inline at who stores.
 #[cold]
 #[inline(never)]
 fn link<'r>(linked: &mut Chain<'r>, buf: Buf<'r>)
     ensures { linked.new ≡ linked.old ++ buf.entry ∷ [] }
 {
     linked.push(buf);
-}
-
-#[cold]
-#[inline(never)]
-fn pop_linked<'r>(linked: &mut Chain<'r>) -> Option<Buf<'r>>
-    ensures { MatchOption result ((linked.old ≡ []) × (linked.new ≡ [])) (λ b. linked.old ≡ linked.new ++ b ∷ []) }
-{
-    linked.pop()
 }
 
 // The buffers are counted, and not printed.

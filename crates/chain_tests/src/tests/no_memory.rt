@@ -135,11 +135,11 @@ fn a_magazine_takes_none(rt: HostRuntime) {
     }
 }
 
-// Eight buffers go to a stack with five places, and come back.
+// Eight buffers are stored in a stack with five places, and come back.
 fn stack_up<'r>(rt: &impl Abort, mut chain: Chain<'r>, mut stack: Stack<'r>) {
     for _ in 0..8 {
         if let Some(buf) = chain.pop() {
-            stack.push(buf);
+            stack.store(buf);
         }
     }
     same(rt, "the slots", stack.len(), 8);

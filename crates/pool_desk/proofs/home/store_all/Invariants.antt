@@ -1,5 +1,5 @@
 use Rattle.std.proofs.Common.{◌++◌, length, IsPermutation}
-use Rattle.pool_desk.proofs.home.link_all.Given as goal
+use Rattle.pool_desk.proofs.home.store_all.Given as goal
 
 abbrev pub invariant-loop-buf : goal.invariant-loop-buf
 invariant-loop-buf l = IsPermutation (l.initial.list ++ l.initial.array.items) (l.list ++ l.array.items)
