@@ -3,7 +3,7 @@
 use crate::batch_row::BatchRow;
 use crate::tests::rounds::{Want, check_all, check_left, put_third_back, set_first_aside};
 use crate::tests::samples::{filled_in, next_of_1, put_each, same, take, turned};
-use digit_route::{Batch, Cache, RouteError};
+use digit_route::{Batch, Cache, Refused, RouteError};
 use memory_marks::{Mark, set};
 use slot_chain::{Buf, BufParcel, Magazine, NoMemory, Portion};
 use std::alloc::Global;
@@ -183,6 +183,45 @@ fn refused(rt: &impl Abort, alloc: Global) -> Result<(), NoMemory> {
 fn what_was_refused_takes_none(rt: HostRuntime) {
     if refused(&rt, rt.alloc()).is_err() {
         assert!(rt; refused(&rt, rt.alloc()).is_ok());
+    }
+}
+
+// The batch of a posting is refused, and goes back.
+fn set_aside<'r>(rt: &impl Abort, cache: Cache<'r>) -> Cache<'r> {
+    let mut posting = cache.posting();
+    let batch = posting.next_batch().expect(rt, "a batch");
+    let mut refused = Refused::new(batch.sender(), batch.digits());
+    refused.add(batch);
+    assert!(rt; posting.next_batch().is_none());
+    let mut cache = posting.end();
+    cache.take_back(refused);
+    cache
+}
+
+// A batch that was refused has its array again.
+fn in_its_array(rt: &impl Abort, alloc: Global) -> Result<(), NoMemory> {
+    let mut region = Vec::from_elem(alloc, 0u8, 4096)?;
+    let mut cache = filled_in(rt, alloc, &mut region, 0, 2, &[1; 40])?;
+    let parcel = packed(rt, alloc, &mut cache)?;
+    cache.make_room(alloc);
+    cache.make_room(alloc);
+    put_parcel(rt, &mut cache, parcel);
+    set(alloc, Mark::TakesNone);
+    let mut cache = set_aside(rt, cache);
+    set(alloc, Mark::MayTake);
+    let mut magazine = next_of_1(rt, &mut cache, 40).into_magazine();
+    let array = magazine
+        .pop_portion()
+        .and_then(Portion::into_array)
+        .expect(rt, "the parcel's array");
+    same(rt, "the array's buffers", array.len() as u64, 40);
+    Ok(())
+}
+
+#[test]
+fn what_was_refused_has_its_array(rt: HostRuntime) {
+    if in_its_array(&rt, rt.alloc()).is_err() {
+        assert!(rt; in_its_array(&rt, rt.alloc()).is_ok());
     }
 }
 
