@@ -202,10 +202,12 @@ fn set_aside<'r>(rt: &impl Abort, cache: Cache<'r>) -> Cache<'r> {
 fn in_its_array(rt: &impl Abort, alloc: Global) -> Result<(), NoMemory> {
     let mut region = Vec::from_elem(alloc, 0u8, 4096)?;
     let mut cache = filled_in(rt, alloc, &mut region, 0, 2, &[1; 40])?;
-    let parcel = packed(rt, alloc, &mut cache)?;
+    let first = packed(rt, alloc, &mut cache)?;
+    put_parcel(rt, &mut cache, first);
+    let second = packed(rt, alloc, &mut cache)?;
     cache.make_room(alloc);
     cache.make_room(alloc);
-    put_parcel(rt, &mut cache, parcel);
+    put_parcel(rt, &mut cache, second);
     set(alloc, Mark::TakesNone);
     let mut cache = set_aside(rt, cache);
     set(alloc, Mark::MayTake);
