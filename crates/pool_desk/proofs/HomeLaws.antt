@@ -92,24 +92,12 @@ pub behind_none : (xs ys : List Buffer) → xs ++ ys ≡ [] → ys ≡ []
 behind_none [] ys e = e
 behind_none (x ∷ xs) ys e = absurd (cc)
 
-pub kept_push : (bs : List Buffer) (b : Buffer) (us : List AtHome)
-    → IsPermutation (Kept b ∷ (map {A = Buffer} {B = AtHome} (λ x. Kept x) bs ++ us)) (map {A = Buffer} {B = AtHome} (λ x. Kept x) (bs ++ b ∷ []) ++ us)
-kept_push [] b us = IsPermutation-refl _
-kept_push (x ∷ bs) b us =
-    IsPermutation-trans _ (Kept x ∷ (Kept b ∷ (map {A = Buffer} {B = AtHome} (λ y. Kept y) bs ++ us))) _
-    (IsPermutation-append_left _ (Kept b ∷ Kept x ∷ []) (Kept x ∷ Kept b ∷ []) (IsPermutation-append_comm (Kept b ∷ []) (Kept x ∷ [])))
-    (IsPermutation-append_right (Kept x ∷ []) _ _ (kept_push bs b us))
-
 pub unused_all : (chunk class : ℕ) (part : GName) (n i : ℕ) (bs : List ℕ) → All IsUnused (unused_from chunk class part n i bs)
 unused_all chunk class part zero i bs = All-nil _
 unused_all chunk class part (suc n) i bs = All-cons IsUnused _ _ tt (unused_all chunk class part n (i + 1) (drop (size_of class) bs))
 
 pub unused_some : (chunk class : ℕ) (part : GName) (n i : ℕ) (bs : List ℕ) → n ≢ 0 → unused_from chunk class part n i bs ≢ []
 unused_some chunk class part n i bs h e = h (sym (unused_length chunk class part n i bs) ∙ ap length e)
-
-pub kept_pop : (bs : List Buffer) (b : Buffer) (us : List AtHome)
-    → IsPermutation (map {A = Buffer} {B = AtHome} (λ x. Kept x) (bs ++ b ∷ []) ++ us) (Kept b ∷ (map {A = Buffer} {B = AtHome} (λ x. Kept x) bs ++ us))
-kept_pop bs b us = IsPermutation-sym _ _ (kept_push bs b us)
 
 pub All-end : {X : Type 0} (P : X → Type 0) (xs : List X) (x : X) → All P (xs ++ x ∷ []) → P x
 All-end P xs x h = All-contains P (xs ++ x ∷ []) x h (Contains-push xs x)
@@ -132,6 +120,11 @@ pub second_more : (ws xs ls ls' : List Buffer) → IsPermutation (ls ++ xs) ls' 
 second_more ws xs ls ls' p =
     IsPermutation-trans _ _ _ (IsPermutation-append_comm xs (ws ++ ls))
     (rw append_assoc (IsPermutation-append_right ws (ls ++ xs) ls' p))
+
+-- one buffer more in a list of which each is so
+pub all_one_more : (P : Buffer → Type 0) (ls ls' : List Buffer) (b : Buffer) → All P ls → P b → IsPermutation (ls ++ b ∷ []) ls' → All P ls'
+all_one_more P ls ls' b each one p =
+    All-permutation P _ _ p (All-append P ls (b ∷ []) each (All-cons P b [] one (All-nil P)))
 
 -- a buffer that came home is given out
 pub gives_one : (owner class : ℕ) (old new : List Buffer) (b : Buffer) (us : List AtHome) (drawn : List Carved)

@@ -2,9 +2,6 @@
 use denote.Ref.{NamedLft}
 use denote.Param.Send.{IsSend, sendable}
 use Rattle.std.proofs.Crossing.{crosses}
-use Rattle.slot_chain.proofs.below.Below.TheLaws.TheKnot.{send-Below, send-Node}
-use Rattle.slot_chain.proofs.lease.Lease.TheSendSync.{the_send as lease_send}
-use Rattle.slot_chain.proofs.link.Link.TheSendSync.{the_send as link_send}
 use Rattle.digit_route.proofs.Travels.{arrays_send, buf_send, chain_send, cache_send}
 use Rattle.pool_desk.specs.contracts.desk.Desk as Desk
 use Rattle.pool_desk.specs.contracts.home.Home as Home
@@ -15,7 +12,7 @@ use Rattle.region_cut.proofs.part.Bump.TheSendSync.{the_send as bump_send}
 use Rattle.region_cut.proofs.endings.ties.Ties.TheSendSync.{the_send as ties_send}
 
 pub stack_send : (a : NamedLft) → IsSend (Stack.the_row a)
-stack_send a = search (sendable, crosses, send-Node, send-Below, link_send, lease_send, chain_send, buf_send) depth 40 fits 6000
+stack_send a = search (sendable, crosses, chain_send, buf_send) depth 40 fits 6000
 
 pub home_send : (a : NamedLft) → IsSend (Home.the_row a)
 home_send a = search (sendable, crosses, arrays_send, stack_send, bump_send, ties_send) depth 40 fits 6000

@@ -1,19 +1,39 @@
--- Stacks: what an array names, then what is linked.
-use Rattle.std.proofs.Common.{◌≡◌, List, [], ◌∷◌, ◌++◌, sym, subst, append_assoc, IsPermutation}
-use Rattle.std.proofs.lemmas.List.Sorted.{IsPermutation-append_comm, IsPermutation-append_right}
+-- Stacks: what is linked, then what an array names.
+use Rattle.std.proofs.Common.{◌≡◌, List, [], ◌∷◌, ◌++◌, map, sym, subst, append_assoc, IsPermutation}
+use Rattle.std.proofs.lemmas.List.Sorted.{IsPermutation-append_comm, IsPermutation-append_right, IsPermutation-map, IsPermutation-trans}
+use Rattle.std.specs.Prelude.{Result, Ok, Err, OnOk}
+use Rattle.region_cut.specs.declared.slot.Slot.{Slot}
 use Rattle.slot_chain.specs.Buffer.{Buffer}
+use Rattle.slot_chain.specs.Slots.{AddsSlots, slot_of}
 use Rattle.slot_chain.proofs.Tops.{front_is_none}
 
--- the array names one more
-pub named_more : (ns ls : List Buffer) (b : Buffer) → IsPermutation ((ns ++ ls) ++ b ∷ []) ((ns ++ b ∷ []) ++ ls)
-named_more ns ls b =
-    subst (λ l. IsPermutation l ((ns ++ b ∷ []) ++ ls)) (sym (append_assoc ns ls (b ∷ [])))
-    (subst (λ l. IsPermutation (ns ++ (ls ++ b ∷ [])) l) (sym (append_assoc ns (b ∷ []) ls))
-    (IsPermutation-append_right ns _ _ (IsPermutation-append_comm ls (b ∷ []))))
+-- one more is linked
+pub linked_more : (ls ns : List Buffer) (b : Buffer) → IsPermutation ((ls ++ ns) ++ b ∷ []) ((ls ++ b ∷ []) ++ ns)
+linked_more ls ns b =
+    subst (λ l. IsPermutation l ((ls ++ b ∷ []) ++ ns)) (sym (append_assoc ls ns (b ∷ [])))
+    (subst (λ l. IsPermutation (ls ++ (ns ++ b ∷ [])) l) (sym (append_assoc ls (b ∷ []) ns))
+    (IsPermutation-append_right ls _ _ (IsPermutation-append_comm ns (b ∷ []))))
 
-behind_is_none : (ns ls : List Buffer) → ns ≡ [] → ns ++ ls ≡ [] → ls ≡ []
-behind_is_none ns ls n e = rw n at e
+behind_is_none : (ls ns : List Buffer) → ls ≡ [] → ls ++ ns ≡ [] → ns ≡ []
+behind_is_none ls ns l e = rw l at e
 
 -- nothing is there where nothing stands in either place
-pub both_are_none : (ns ls : List Buffer) → ns ++ ls ≡ [] → (ns ≡ []) × (ls ≡ [])
-both_are_none ns ls e = let n = front_is_none ns ls e in (n, behind_is_none ns ls n e)
+pub both_are_none : (ls ns : List Buffer) → ls ++ ns ≡ [] → (ls ≡ []) × (ns ≡ [])
+both_are_none ls ns e = let l = front_is_none ls ns e in (l, behind_is_none ls ns l e)
+
+swapped : (ws ns ls : List Buffer) → IsPermutation (map slot_of (ws ++ (ls ++ ns))) (map slot_of ((ws ++ ns) ++ ls))
+swapped ws ns ls =
+    subst (λ l. IsPermutation (map slot_of (ws ++ (ls ++ ns))) (map slot_of l)) (sym (append_assoc ws ns ls))
+    (IsPermutation-map slot_of _ _ (IsPermutation-append_right ws _ _ (IsPermutation-append_comm ls ns)))
+
+-- a walk shows what the array names before what is linked
+pub listed : {E : Type 0} (r : Result (Unit {0}) E) (walked ws ns ls : List Buffer) (old new : List Slot)
+    → walked ≡ (ws ++ ns) ++ ls → OnOk r (AddsSlots (map slot_of walked) old new)
+    → OnOk r (AddsSlots (map slot_of (ws ++ (ls ++ ns))) old new)
+listed (Ok _) walked ws ns ls old new e h =
+    record {
+      added = h.added;
+      appended = h.appended;
+      each = IsPermutation-trans _ _ _ (swapped ws ns ls) (subst (λ l. IsPermutation (map slot_of l) h.added) e h.each);
+    }
+listed (Err _) walked ws ns ls old new e h = h

@@ -22,7 +22,7 @@ use std::marker::Model;
 ///
 /// A buffer is linked, which writes to its box, or named by an array of pointers, which doesn't: other
 /// threads may read what lies beside the box. So [`Stack::push`] is for what this thread used last, and
-/// [`Stack::store`] for what another thread did. What is linked is taken first.
+/// [`Stack::store`] for what another thread did. What is named is taken first.
 ///
 /// Only [`Stack::make_room`] and [`Stack::list_slots_with`] take memory; no other call can fail. A stack
 /// may be dropped, with all its buffers.
@@ -40,7 +40,7 @@ impl<'r> Model for Stack<'r> {
 
     ghost Value = { List Buffer };
 
-    ghost view = { λ s. named_in s.array ++ s.linked };
+    ghost view = { λ s. s.linked ++ named_in s.array };
 }
 
 impl<'r> Stack<'r> {
@@ -54,9 +54,9 @@ impl<'r> Stack<'r> {
         }
     }
 
-    /// Links a buffer to the others, to be taken next. Takes constant time.
+    /// Links a buffer to the others, to be taken next where the array names none. Takes constant time.
     pub fn push(&mut self, buf: Buf<'r>)
-        ensures { self.new ≡ self.old ++ buf.entry ∷ [] }
+        ensures { IsPermutation (self.old ++ buf.entry ∷ []) self.new }
     {
         self.linked.push(buf);
     }
@@ -71,16 +71,16 @@ impl<'r> Stack<'r> {
         }
     }
 
-    /// Takes the buffer that was linked last, else the last of the array, or `None` where there is none.
+    /// Takes the last buffer of the array, else the one that was linked last, or `None` where there is none.
     /// Takes constant time.
     #[inline(always)]
     pub fn pop(&mut self) -> Option<Buf<'r>>
         ensures { MatchOption result ((self.old ≡ []) × (self.new ≡ [])) (λ b. self.old ≡ self.new ++ b ∷ []) }
     {
-        if let Some(buf) = self.linked.pop() {
+        if let Some(buf) = pop_named(&mut self.array) {
             return Some(buf);
         }
-        pop_named(&mut self.array)
+        self.linked.pop()
     }
 
     /// For how many buffers its array has places.
@@ -143,10 +143,10 @@ impl<'r> Stack<'r> {
         ensures { endings.new ≡ record endings.old { known = map ended_of self.entry ++ endings.old.known } }
     {
         let Stack { linked, array } = self;
-        linked.end(endings);
         if let Some(array) = array {
             end_each(array, endings);
         }
+        linked.end(endings);
     }
 }
 

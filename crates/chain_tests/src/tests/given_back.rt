@@ -59,7 +59,7 @@ fn by_a_full_parcel(rt: HostRuntime) {
     }
 }
 
-// Of 256 buffers one lies in the stack's word, some in its array, and some are linked.
+// Of 256 buffers some lie in the stack's array, and the others are linked.
 fn stack(rt: &impl Abort, alloc: Global) -> Result<(), NoMemory> {
     let mut region = Vec::from_elem(alloc, 0u8, CHUNK)?;
     set(alloc, Mark::Lent);

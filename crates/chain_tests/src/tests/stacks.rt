@@ -33,7 +33,7 @@ fn pops(rt: &impl Abort, stack: &mut Stack<'_>, first: u16, end: u16) {
     }
 }
 
-// What found no place in the array comes out first, then what that names.
+// What the array names comes out first, then what found no place there, and of each the last before the others.
 fn in_turn(rt: &impl Abort, alloc: Global) -> Result<(), NoMemory> {
     let mut region = Vec::from_elem(alloc, 0u8, CHUNK)?;
     let mut stack = stacked(rt, alloc, &mut region)?;
@@ -41,7 +41,8 @@ fn in_turn(rt: &impl Abort, alloc: Global) -> Result<(), NoMemory> {
         return Err(NoMemory);
     }
     same(rt, "the buffers", stack.len(), 256);
-    pops(rt, &mut stack, 0, 256);
+    pops(rt, &mut stack, 156, 256);
+    pops(rt, &mut stack, 0, 156);
     assert!(rt; stack.is_empty() && stack.pop().is_none());
     Ok(())
 }
@@ -53,27 +54,29 @@ fn the_last_comes_out_first(rt: HostRuntime) {
     }
 }
 
-// What was pushed comes out before what was stored later.
-fn linked_first(rt: &impl Abort, alloc: Global) -> Result<(), NoMemory> {
+// What was stored comes out before what was pushed later.
+fn named_first(rt: &impl Abort, alloc: Global) -> Result<(), NoMemory> {
     let mut region = Vec::from_elem(alloc, 0u8, CHUNK)?;
     let mut stack = stacked(rt, alloc, &mut region)?;
     if stack.places() < PLACES {
         return Err(NoMemory);
     }
-    pops(rt, &mut stack, 0, 156);
+    pops(rt, &mut stack, 156, 256);
     let first = stack.pop().expect(rt, "a buffer");
     let second = stack.pop().expect(rt, "another");
-    stack.push(first);
     stack.store(second);
-    pops(rt, &mut stack, 156, 256);
+    stack.push(first);
+    pops(rt, &mut stack, 1, 2);
+    pops(rt, &mut stack, 0, 1);
+    pops(rt, &mut stack, 2, 156);
     assert!(rt; stack.is_empty());
     Ok(())
 }
 
 #[test]
-fn what_is_linked_comes_first(rt: HostRuntime) {
-    if linked_first(&rt, rt.alloc()).is_err() {
-        assert!(rt; linked_first(&rt, rt.alloc()).is_ok());
+fn what_is_named_comes_first(rt: HostRuntime) {
+    if named_first(&rt, rt.alloc()).is_err() {
+        assert!(rt; named_first(&rt, rt.alloc()).is_ok());
     }
 }
 

@@ -1,0 +1,8 @@
+use Rattle.slot_chain.specs.Magazines.{named_in}
+use Rattle.slot_chain.proofs.Stacked.{linked_more}
+use Rattle.slot_chain.proofs.stack.Stack.push.Goals as goal
+
+pub returns : goal.returns
+returns c =
+    let s = c.self.inside in
+    rw (← c.self.view_is, c.push.ensures) (linked_more s.linked (named_in s.array) c.args.buf)
