@@ -290,8 +290,8 @@ uint32_t fv_alloc(fv_allocator *FV_RESTRICT allocator, fv_buf *FV_RESTRICT buf, 
 uint32_t fv_free(fv_allocator *FV_RESTRICT allocator, fv_buf *FV_RESTRICT buf) FV_NOEXCEPT;
 
 /* Takes what came home, at most 64 batches, then posts all that is cached. Where the inbox of another
- * allocator is full (15 or 16 batches of this one that it has not taken), what is left stays cached:
- * FV_ALLOCATOR_CACHED tells how much.
+ * allocator is full (15 or 16 batches of this one that it has not taken), what goes there stays cached, and
+ * holds back nothing else: FV_ALLOCATOR_CACHED tells how much.
  *
  * FV_OK
  * FV_EMPTY  `allocator` holds none */

@@ -1,5 +1,7 @@
 -- What a call keeps of an allocator.
 use Rattle.std.specs.Prelude.{◌≡◌, ℕ, Option, Some, None}
+use Rattle.digit_route.specs.States.{RefusedState}
+use Rattle.pool_desk.specs.Desks.{DeskState}
 use Rattle.seated_desk.specs.Answers.{refusal_number}
 use Rattle.seated_desk.specs.Claims.{IsSameDesk}
 use Rattle.seated_desk.specs.declared.refusal.Refusal.TheVariants.{Empty}
@@ -17,6 +19,11 @@ pub record KeepsStation (old new : Station) : Type 0 where
   pub pool : new.pool ≡ old.pool
   pub lent : new.lent ≡ old.lent
   pub freed : new.freed ≡ old.freed
+
+-- what was refused is of this desk
+pub record IsRefusedOf (desk : DeskState) (refused : RefusedState) : Type 0 where
+  pub number : refused.number ≡ desk.number
+  pub digits : refused.digits ≡ desk.digits
 
 -- the same of what a handle holds
 abbrev pub IsSameIn : Option Station → Option Station → Type 0

@@ -93,7 +93,8 @@ impl<'r> AllocatorHandle<'r> {
         0
     }
 
-    /// Takes what came home, and posts all that is cached, until an inbox has no room.
+    /// Takes what came home, and posts all that is cached. What an inbox has no room for stays cached, and holds
+    /// back nothing else.
     pub fn flush(&mut self) -> u32
         ensures { Flushes result self.old self.new }
     {

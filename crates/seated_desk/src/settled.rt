@@ -14,12 +14,12 @@ use std::alloc::Global;
 const ROUNDS: u32 = 4096;
 
 // All stations take what came and post what is cached, once. Says how many batches moved.
-fn move_once(shelf: &mut [Station<'_>]) -> u32
+fn move_once(shelf: &mut [Station<'_>]) -> u64
     ensures { AreSettled shelf.old shelf.new }
 {
-    let mut moved = 0u32;
+    let mut moved = 0u64;
     for station in shelf.iter_mut() {
-        moved = moved.saturating_add(station.take());
+        moved = moved.saturating_add(station.take() as u64);
         moved = moved.saturating_add(station.post());
     }
     moved

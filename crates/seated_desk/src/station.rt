@@ -5,7 +5,7 @@ ghost use Rattle.seated_desk.specs.Claims.{AreNoted, IsSameDesk};
 
 use crate::ends::{PostingEnd, TakingEnd};
 use chunk_stock::Drawer;
-use digit_route::Batch;
+use digit_route::{Batch, Refused};
 use pool_desk::Desk;
 use region_cut::Slot;
 use slot_chain::NoMemory;
@@ -55,7 +55,7 @@ fn next_of<'r>(desk: &mut Desk<'r>) -> Option<Batch<'r>>
 }
 
 impl<'r> Station<'r> {
-    ghost use Rattle.seated_desk.specs.Kept.{KeepsStation};
+    ghost use Rattle.seated_desk.specs.Kept.{IsRefusedOf, KeepsStation};
     ghost use Rattle.seated_desk.specs.Settled.{station_slots};
     ghost use Rattle.seated_desk.specs.Stats.{IsStatOf, most_taken};
 
@@ -111,41 +111,63 @@ impl<'r> Station<'r> {
         MOST_TAKEN
     }
 
-    // Posts one batch. Says whether there was one, and it was not refused.
-    fn post_one(&mut self) -> bool
-        ensures { KeepsStation self.old self.new }
+    // Posts a batch to its address. It comes back where it is refused.
+    fn send(&mut self, batch: Batch<'r>) -> Option<Batch<'r>>
+        ensures keeps { KeepsStation self.old self.new }
+        ensures back { IfSome result (λ b. b ≡ batch.entry) }
     {
-        let Some(batch) = next_of(&mut self.desk) else {
-            return false;
-        };
         let address = batch.address();
         let Some(end) = self.outward.get_mut(address as usize) else {
-            self.desk.refused(batch);
-            return false;
+            return Some(batch);
         };
         match end.post(batch) {
             Ok(empty) => {
                 self.desk.reuse(address, empty);
                 self.posted = self.posted.wrapping_add(1);
-                true
+                None
             }
-            Err(batch) => {
-                self.desk.refused(batch);
-                false
+            Err(batch) => Some(batch),
+        }
+    }
+
+    // Posts one batch, or sets it aside where it is refused. Says whether there was one.
+    fn post_one(&mut self, refused: &mut Refused<'r>) -> bool
+        requires { IsRefusedOf self.old.desk refused.old }
+        ensures keeps { KeepsStation self.old self.new }
+        ensures refused { IsRefusedOf self.new.desk refused.new }
+    {
+        let Some(batch) = next_of(&mut self.desk) else {
+            return false;
+        };
+        if let Some(batch) = self.send(batch) {
+            refused.add(batch);
+        }
+        true
+    }
+
+    // Posts all that is cached, and sets aside what is refused.
+    fn post_each(&mut self, refused: &mut Refused<'r>)
+        requires { IsRefusedOf self.old.desk refused.old }
+        ensures keeps { KeepsStation self.old self.new }
+        ensures refused { IsRefusedOf self.new.desk refused.new }
+    {
+        for _ in 0..MOST_POSTED {
+            if !self.post_one(refused) {
+                return;
             }
         }
     }
 
-    /// Posts all that is cached, until a batch is refused. Says how many batches.
-    pub(crate) fn post(&mut self) -> u32
+    /// Posts all that is cached. What an inbox refuses stays cached, and holds back no other batch. Says how
+    /// many were posted.
+    pub(crate) fn post(&mut self) -> u64
         ensures { KeepsStation self.old self.new }
     {
-        for count in 0..MOST_POSTED {
-            if !self.post_one() {
-                return count;
-            }
-        }
-        MOST_POSTED
+        let before = self.posted;
+        let mut refused = Refused::new(self.desk.number(), self.desk.digits());
+        self.post_each(&mut refused);
+        self.desk.take_back(refused);
+        self.posted.wrapping_sub(before)
     }
 
     /// Adds the slots that are there to a list.
