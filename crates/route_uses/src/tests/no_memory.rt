@@ -107,6 +107,16 @@ fn put_parcel<'r>(rt: &impl Abort, cache: &mut Cache<'r>, parcel: BufParcel<'r>)
     same(rt, "the buffers", cache.len(), 40);
 }
 
+// All that is cached comes out as it lies in the parcel's array.
+fn check_array(rt: &impl Abort, cache: &mut Cache<'_>) {
+    let mut magazine = next_of_1(rt, cache, 40).into_magazine();
+    let array = magazine
+        .pop_portion()
+        .and_then(Portion::into_array)
+        .expect(rt, "the parcel's array");
+    same(rt, "the array's buffers", array.len() as u64, 40);
+}
+
 // A parcel that finds no room is linked. Behind `make_room` the next one is kept as it is.
 fn parcel(rt: &impl Abort, alloc: Global) -> Result<(), NoMemory> {
     let mut region = Vec::from_elem(alloc, 0u8, 4096)?;
@@ -121,12 +131,7 @@ fn parcel(rt: &impl Abort, alloc: Global) -> Result<(), NoMemory> {
     set(alloc, Mark::TakesNone);
     put_parcel(rt, &mut cache, second);
     set(alloc, Mark::MayTake);
-    let mut magazine = next_of_1(rt, &mut cache, 40).into_magazine();
-    let array = magazine
-        .pop_portion()
-        .and_then(Portion::into_array)
-        .expect(rt, "the parcel's array");
-    same(rt, "the array's buffers", array.len() as u64, 40);
+    check_array(rt, &mut cache);
     Ok(())
 }
 
@@ -211,12 +216,7 @@ fn in_its_array(rt: &impl Abort, alloc: Global) -> Result<(), NoMemory> {
     set(alloc, Mark::TakesNone);
     let mut cache = set_aside(rt, cache);
     set(alloc, Mark::MayTake);
-    let mut magazine = next_of_1(rt, &mut cache, 40).into_magazine();
-    let array = magazine
-        .pop_portion()
-        .and_then(Portion::into_array)
-        .expect(rt, "the parcel's array");
-    same(rt, "the array's buffers", array.len() as u64, 40);
+    check_array(rt, &mut cache);
     Ok(())
 }
 
