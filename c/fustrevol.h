@@ -53,8 +53,9 @@
  * one pool are one at a time. A program whose threads come and go has a lock around them. The allocators of
  * the pool may be used meanwhile.
  *
- * WAITING. An allocator caches what it frees for others, until its cache has more than the pool's limit. A
- * thread that is about to wait for another one calls fv_flush first: the other may need just these buffers.
+ * WAITING. An allocator caches what it frees for others, until its cache has more than the pool's limit, and
+ * for 1,024 buffers at most. A thread that is about to wait for another one calls fv_flush first: the other
+ * may need just these buffers.
  * A thread that is answered FV_USED_UP calls fv_collect from time to time, or waits until another thread
  * tells it that it flushed. Chunks of 4,096 bytes stay with the allocator and the size class that drew
  * them, until the pool is closed.
@@ -282,7 +283,8 @@ uint64_t fv_pool_stat(const fv_pool *pool, uint32_t which) FV_NOEXCEPT;
 uint32_t fv_alloc(fv_allocator *FV_RESTRICT allocator, fv_buf *FV_RESTRICT buf, size_t size) FV_NOEXCEPT;
 
 /* Frees a buffer of any allocator of the pool. One that this allocator lent is at home at once. One of
- * another allocator is cached, and posted with others once the cache has more than the limit.
+ * another allocator is cached, and posted with others once the cache has more than the limit, and at the
+ * latest after 1,024 buffers that were freed here.
  *
  * FV_OK
  * FV_EMPTY     `allocator` holds none, or `buf` holds none: it was freed, pushed or never lent

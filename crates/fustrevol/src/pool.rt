@@ -106,7 +106,7 @@ impl<'r> Pool<'r> {
 
     /// Sets how many bytes of others' buffers a thread keeps before it posts them, at most
     /// [`LARGEST_LIMIT`]. A greater limit means fewer posts, and more slots on their way home. With 0 each
-    /// free of another's buffer posts.
+    /// free of another's buffer posts. A thread posts at the latest after 1,024 frees, whatever the limit.
     ///
     /// Where it isn't set, all threads together keep at most a quarter of the region, and each at most
     /// 262,144 bytes.

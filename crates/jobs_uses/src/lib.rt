@@ -45,7 +45,7 @@ pub use fixed::Fixed;
 #[cfg(test)]
 pub use handing::{Handed, hand_parcels};
 #[cfg(test)]
-pub use looking::{Looked, look_after};
+pub use looking::{Looked, Trial, look_after};
 #[cfg(test)]
 pub use over_counting::work_counting;
 #[cfg(test)]

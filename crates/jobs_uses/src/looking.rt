@@ -1,4 +1,4 @@
-//! A worker looks into its inbox though it never runs out of slots.
+//! What comes to a worker's inbox, and when the worker looks there though it never runs out of slots.
 ghost use Rattle.std.specs.Prelude.{◌≡◌, IfOk};
 ghost use Rattle.pool_jobs.specs.Ends.{IsAccounted};
 
@@ -14,6 +14,15 @@ use std::sync::Wait;
 const SIZE: usize = 16;
 
 const FREED_SIZE: usize = 512;
+
+/// What an owner and a stranger do.
+#[derive(Clone, Copy)]
+pub enum Trial {
+    /// The stranger frees a buffer of 512 bytes and posts. The owner lends so many of 16 bytes, one after the other.
+    Look(u32),
+    /// The stranger frees so many buffers of 16 bytes, one after the other.
+    Post(u32),
+}
 
 /// What there is when both workers have ended.
 #[derive(Drop)]
@@ -37,18 +46,45 @@ fn go_on<'a, 'r, J: Naming, R: Wait>(
 }
 
 // The owner draws a chunk for each size. The stranger frees one of its buffers, and the owner goes on
-// without the size of that one: how many batches it finds then.
-fn both_work<'a, 'r, J: Naming, R: Wait>(
+// without the size of that one.
+fn look<'a, 'r, J: Naming, R: Wait>(
     rt: &R,
     owner: &mut Worker<'a, 'r, J>,
     stranger: &mut Worker<'a, 'r, J>,
     loans: u32,
-) -> Result<u32, PoolError> {
+) -> Result<(), PoolError> {
     go_on(rt, owner, 1)?;
     let buffer = owner.alloc(rt, FREED_SIZE)?;
     stranger.free(rt, buffer);
     let _all = stranger.flush(rt);
-    go_on(rt, owner, loans)?;
+    go_on(rt, owner, loans)
+}
+
+// The stranger frees what the owner lends.
+fn post<'a, 'r, J: Naming, R: Wait>(
+    rt: &R,
+    owner: &mut Worker<'a, 'r, J>,
+    stranger: &mut Worker<'a, 'r, J>,
+    frees: u32,
+) -> Result<(), PoolError> {
+    for _ in 0..frees {
+        let buffer = owner.alloc(rt, SIZE)?;
+        stranger.free(rt, buffer);
+    }
+    Ok(())
+}
+
+// How many batches the owner finds behind it.
+fn both_work<'a, 'r, J: Naming, R: Wait>(
+    rt: &R,
+    owner: &mut Worker<'a, 'r, J>,
+    stranger: &mut Worker<'a, 'r, J>,
+    trial: Trial,
+) -> Result<u32, PoolError> {
+    match trial {
+        Trial::Look(loans) => look(rt, owner, stranger, loans)?,
+        Trial::Post(frees) => post(rt, owner, stranger, frees)?,
+    }
     Ok(owner.collect(rt))
 }
 
@@ -58,10 +94,10 @@ fn at_work<'a, 'r, J: Naming, R: Wait>(
     alloc: Global,
     fabric: &'a Over<'r, J>,
     gate: &'a NoGate,
-    loans: u32,
+    trial: Trial,
 ) -> Option<(Result<u32, PoolError>, Vec<Held<'r, J>>)> {
     let (mut owner, mut stranger) = two_workers(rt, alloc, fabric, gate)?;
-    let batches = both_work(rt, &mut owner, &mut stranger, loans);
+    let batches = both_work(rt, &mut owner, &mut stranger, trial);
     let held = both_retire(rt, alloc, owner, stranger).ok()?;
     Some((batches, held))
 }
@@ -71,32 +107,31 @@ fn at_fabric<'r, J: Naming, R: Wait>(
     rt: &R,
     alloc: Global,
     opening: Opening<'r, LinkInbox<'r>, TakeSeat<'r>, SendSeat<'r>>,
-    loans: u32,
+    trial: Trial,
 ) -> Result<Looked<'r>, JobError>
     requires { J.names ≡ opening }
     ensures accounted { let n = opening.entry in
         IfOk result (λ t. IsAccounted n.chunks n.count t.report.found t.report.tally) }
 {
     let fabric = Over::<'r, J>::open(alloc, opening)?;
-    let Some((batches, held)) = at_work(rt, alloc, &fabric, &NoGate, loans) else {
+    let Some((batches, held)) = at_work(rt, alloc, &fabric, &NoGate, trial) else {
         return Err(JobError::NoMemory);
     };
     let report = settle(rt, alloc, fabric, held)?;
     Ok(Looked { batches, report })
 }
 
-/// An owner lends a buffer of 16 bytes, which comes back at once, and one of 512 bytes, which another
-/// worker frees. Then it lends so many buffers of 16 bytes, one after the other, and looks into its inbox.
+/// An owner and a stranger do what `trial` says, and the owner looks into its inbox.
 ///
-/// It wants two desks and two chunks.
+/// It wants two desks, and two chunks, or one for each 256 buffers that are freed.
 pub fn look_after<'r, R: Wait>(
     rt: &R,
     alloc: Global,
     opening: Opening<'r, LinkInbox<'r>, TakeSeat<'r>, SendSeat<'r>>,
-    loans: u32,
+    trial: Trial,
 ) -> Result<Looked<'r>, JobError>
     ensures accounted { let n = opening.entry in
         IfOk result (λ t. IsAccounted n.chunks n.count t.report.found t.report.tally) }
 {
-    at_fabric::<Brand, R>(rt, alloc, opening, loans)
+    at_fabric::<Brand, R>(rt, alloc, opening, trial)
 }

@@ -57,7 +57,10 @@ module _ (a r : NamedLft) (M T S G J : RattleType) (m : Mailbox.Ghosts M.Denot) 
         search (sendable, crosses) depth 40 fits 6000,
         (
           search (sendable, crosses) depth 40 fits 6000,
-          (search (sendable, crosses) depth 40 fits 6000, (search (sendable, crosses) depth 40 fits 6000, (held_send r T S J t s j x y, tt))),
+          (
+            search (sendable, crosses) depth 40 fits 6000,
+            (search (sendable, crosses) depth 40 fits 6000, (search (sendable, crosses) depth 40 fits 6000, (held_send r T S J t s j x y, tt))),
+          ),
         ),
       ),
     ),

@@ -24,6 +24,10 @@ use std::{fmt, io};
 // the while.
 const LOOK_EVERY: u64 = 64;
 
+// After so many buffers that were freed there is a post, whatever their size: a cache of many small ones would
+// outgrow the processor's, and so would the slots that take their place meanwhile.
+const POST_EVERY: u64 = 1024;
+
 /// The allocator of one worker: a station of the fabric that all workers share.
 ///
 /// Only these take memory: [`Allocator::alloc`] and [`Allocator::fill`] at a slot's first use,
@@ -40,6 +44,8 @@ pub struct Allocator<'a, 'r, M: Mailbox, T: Receiver, S: Sender, G: Gate, J: Nam
     // While fewer bytes are cached, nothing is posted: 0 but after a post that was refused, until
     // the next claim.
     post_from: u64,
+    // After how many more buffers that are freed there is a post. It is never 0 between two calls.
+    until_post: u64,
     pub(crate) station: HeldStation<'r, T, S, J>,
 }
 
@@ -83,6 +89,7 @@ impl<'a, 'r, M: Mailbox, T: Receiver, S: Sender, G: Gate, J: Naming> Allocator<
             worker,
             calls: 0,
             post_from: 0,
+            until_post: POST_EVERY,
             station,
         }
     }
@@ -320,6 +327,7 @@ impl<
         ensures keeps { Keeps J.names self.old self.new }
         ensures all { IsTrue result → self.new.desk.cached ≡ [] }
     {
+        self.until_post = POST_EVERY;
         let all = self.station.post(rt, self.fabric);
         // there is room again for the pointers to what will be freed
         self.station.make_room(self.alloc);
@@ -336,14 +344,17 @@ impl<
     fn post_again<R: Wait>(&mut self, rt: &R)
         ensures { Keeps J.names self.old self.new }
     {
-        if self.station.cached_bytes() < self.post_from {
+        self.until_post = POST_EVERY;
+        let cached = self.station.cached_bytes();
+        if cached == 0 || cached < self.post_from {
             return;
         }
         let _taken = self.collect(rt);
         let _all = self.flush(rt);
     }
 
-    /// Takes a buffer back, and posts all that is cached where that is due.
+    /// Takes a buffer back, and posts all that is cached where that is due: where it has more bytes than the
+    /// limit, and at the latest after 1,024 buffers that were freed here.
     ///
     /// Where an inbox refuses a batch, its buffers stay cached, and the worker goes on. It tries again
     /// when the cache is due and has grown by a quarter, or once [`Allocator::alloc`] found no slot at
@@ -357,7 +368,8 @@ impl<
         let call = self.before();
         let freed = self.station.free(buffer);
         self.after(call);
-        if let Freed::Due = freed {
+        self.until_post = self.until_post.wrapping_sub(1);
+        if freed == Freed::Due || self.until_post == 0 {
             self.post_again(rt);
         }
     }
@@ -385,9 +397,11 @@ impl<
         ensures freed { self.new.freed ≡ self.old.freed ++ parcel.entry.items }
     {
         let call = self.before();
+        let count = parcel.len() as u64;
         let freed = self.station.free_all(parcel);
         self.after(call);
-        if let Freed::Due = freed {
+        self.until_post = self.until_post.saturating_sub(count);
+        if freed == Freed::Due || self.until_post == 0 {
             self.post_again(rt);
         }
     }
@@ -407,6 +421,7 @@ impl<
             worker,
             calls: _,
             post_from: _,
+            until_post: _,
             mut station,
         } = self;
         let _all = station.post(rt, fabric);

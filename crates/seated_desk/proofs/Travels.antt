@@ -76,7 +76,7 @@ drawer_field a = struct_send (shape (Drawer.the_type a)) (drawer_all a)
 pub station_send : (a : NamedLft) → IsSend (Station.the_row a)
 station_send a =
     let n = number_send in
-    send_fields (Station.the_type a) (heap_field, (n, (desk_send a, (in_field a, (Vec-send (PostingEnd.the_row a) (out_send a), (drawer_field a, (n, (n, (n, (n, (n, (n, (n, tt)))))))))))))
+    send_fields (Station.the_type a) (heap_field, (n, (desk_send a, (in_field a, (Vec-send (PostingEnd.the_row a) (out_send a), (drawer_field a, (n, (n, (n, (n, (n, (n, (n, (n, tt))))))))))))))
 
 pub seated_send : (a : NamedLft) → IsSend (AllocatorHandle.the_row a)
 seated_send a = search (sendable, crosses, option_send, station_send) depth 40 fits 6000

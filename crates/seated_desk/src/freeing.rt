@@ -7,7 +7,7 @@ ghost use Rattle.seated_desk.specs.Kept.{IsSameStation, KeepsStation};
 use crate::buf_handle::BufHandle;
 use crate::burst_handle::BurstHandle;
 use crate::refusal::Refusal;
-use crate::station::{MOST_DESKS, Station};
+use crate::station::{MOST_DESKS, POST_EVERY, Station};
 use pool_desk::Freed;
 use std::mem;
 
@@ -18,7 +18,9 @@ impl<'r> Station<'r> {
     fn post_again(&mut self)
         ensures { KeepsStation self.old self.new }
     {
-        if self.desk.cached_bytes() < self.post_from {
+        self.until_post = POST_EVERY;
+        let cached = self.desk.cached_bytes();
+        if cached == 0 || cached < self.post_from {
             return;
         }
         self.take();
@@ -45,7 +47,8 @@ impl<'r> Station<'r> {
         };
         self.since = self.since.wrapping_add(1);
         self.freed = self.freed.wrapping_add(1);
-        if let Freed::Due = self.desk.free(buf) {
+        self.until_post = self.until_post.wrapping_sub(1);
+        if self.desk.free(buf) == Freed::Due || self.until_post == 0 {
             self.post_again();
         }
         Ok(())
@@ -65,9 +68,11 @@ impl<'r> Station<'r> {
         let Some(parcel) = mem::replace(&mut burst.parcel, None) else {
             return Err(Refusal::Empty);
         };
+        let count = parcel.len() as u64;
         self.since = self.since.wrapping_add(1);
-        self.freed = self.freed.wrapping_add(parcel.len() as u64);
-        if let Freed::Due = self.desk.free_all(parcel) {
+        self.freed = self.freed.wrapping_add(count);
+        self.until_post = self.until_post.saturating_sub(count);
+        if self.desk.free_all(parcel) == Freed::Due || self.until_post == 0 {
             self.post_again();
         }
         Ok(())

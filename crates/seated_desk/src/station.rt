@@ -17,6 +17,10 @@ const MOST_TAKEN: u32 = 64;
 /// The most desks of a pool, whose numbers have 6 bits.
 pub(crate) const MOST_DESKS: u16 = 64;
 
+/// After so many buffers that were freed there is a post, whatever their size: a cache of many small ones would
+/// outgrow the processor's, and so would the slots that take their place meanwhile.
+pub(crate) const POST_EVERY: u64 = 1024;
+
 // How many batches are posted at a time.
 const MOST_POSTED: u32 = 4096;
 
@@ -34,6 +38,8 @@ pub(crate) struct Station<'r> {
     pub(crate) since: u64,
     // From how many cached bytes on a post is tried again.
     pub(crate) post_from: u64,
+    // After how many more buffers that are freed there is a post. It is never 0 between two calls.
+    pub(crate) until_post: u64,
     pub(crate) lent: u64,
     pub(crate) freed: u64,
     pub(crate) posted: u64,
@@ -82,6 +88,7 @@ impl<'r> Station<'r> {
             drawer,
             since: 0,
             post_from: 0,
+            until_post: POST_EVERY,
             lent: 0,
             freed: 0,
             posted: 0,

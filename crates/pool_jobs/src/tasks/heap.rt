@@ -68,7 +68,8 @@ pub trait Heap: Drop {
         ensures largest { largest self.new ≡ largest self.old };
 
     /// Takes a buffer back, whichever allocator of the pool lent it. An own one can be lent again at once.
-    /// Another's is cached here, and all that is cached is posted once that is more than the pool's limit.
+    /// Another's is cached here, and all that is cached is posted once that is more than the pool's limit, and
+    /// at the latest after 1,024 buffers that were freed here.
     /// It doesn't wait for other tasks, and can't fail.
     fn free<R: Wait>(&mut self, rt: &R, buffer: Self::Buffer);
 

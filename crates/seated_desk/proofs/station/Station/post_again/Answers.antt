@@ -3,5 +3,5 @@ use Rattle.pool_desk.specs.Desks.{DeskState}
 use Rattle.seated_desk.proofs.Claimed.{noted_same}
 use Rattle.seated_desk.proofs.station.Station.post_again.Goals as goal
 
-pub invariant_of-self-clause-noted : goal.invariant_of-self-clause-noted
-invariant_of-self-clause-noted c = noted_same _ _ _ (ap (λ (d : DeskState). d.drawn) c.make_room.ensures) c.post.new.self.noted
+pub invariant_of-self-2-clause-noted : goal.invariant_of-self-2-clause-noted
+invariant_of-self-2-clause-noted c = noted_same _ _ _ (ap (λ (d : DeskState). d.drawn) c.make_room.ensures) c.post-self.new.self.noted
