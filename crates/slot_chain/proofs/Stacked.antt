@@ -1,7 +1,7 @@
 -- Stacks: what is linked, then what an array names.
-use Rattle.std.proofs.Common.{◌≡◌, List, [], ◌∷◌, ◌++◌, map, sym, subst, append_assoc, IsPermutation}
-use Rattle.std.proofs.lemmas.List.Sorted.{IsPermutation-append_comm, IsPermutation-append_right, IsPermutation-map, IsPermutation-trans}
-use Rattle.std.specs.Prelude.{Result, Ok, Err, OnOk}
+use Rattle.std.proofs.Common.{◌≡◌, ◌∙◌, List, [], ◌∷◌, ◌++◌, map, sym, ap, subst, append_assoc, append-nil, IsPermutation}
+use Rattle.std.proofs.lemmas.List.{map-append}
+use Rattle.std.proofs.lemmas.List.Sorted.{IsPermutation-append_comm, IsPermutation-append_left, IsPermutation-append_right}
 use Rattle.region_cut.specs.declared.slot.Slot.{Slot}
 use Rattle.slot_chain.specs.Buffer.{Buffer}
 use Rattle.slot_chain.specs.Slots.{AddsSlots, slot_of}
@@ -21,19 +21,14 @@ behind_is_none ls ns l e = rw l at e
 pub both_are_none : (ls ns : List Buffer) → ls ++ ns ≡ [] → (ls ≡ []) × (ns ≡ [])
 both_are_none ls ns e = let l = front_is_none ls ns e in (l, behind_is_none ls ns l e)
 
-swapped : (ws ns ls : List Buffer) → IsPermutation (map slot_of (ws ++ (ls ++ ns))) (map slot_of ((ws ++ ns) ++ ls))
-swapped ws ns ls =
-    subst (λ l. IsPermutation (map slot_of (ws ++ (ls ++ ns))) (map slot_of l)) (sym (append_assoc ws ns ls))
-    (IsPermutation-map slot_of _ _ (IsPermutation-append_right ws _ _ (IsPermutation-append_comm ls ns)))
-
--- a walk shows what the array names before what is linked
-pub listed : {E : Type 0} (r : Result (Unit {0}) E) (walked ws ns ls : List Buffer) (old new : List Slot)
-    → walked ≡ (ws ++ ns) ++ ls → OnOk r (AddsSlots (map slot_of walked) old new)
-    → OnOk r (AddsSlots (map slot_of (ws ++ (ls ++ ns))) old new)
-listed (Ok _) walked ws ns ls old new e h =
+-- what the array names is added behind what a walk showed
+pub listed : (ws ls ns walked : List Buffer) (old mid new : List Slot) → walked ≡ (ws ++ []) ++ ls
+    → AddsSlots (map slot_of walked) old mid → new ≡ mid ++ map slot_of ns → AddsSlots (map slot_of (ws ++ (ls ++ ns))) old new
+listed ws ls ns walked old mid new e h a =
+    let all : map slot_of (ws ++ (ls ++ ns)) ≡ map slot_of walked ++ map slot_of ns =
+    ap (map slot_of) (sym (append_assoc ws ls ns) ∙ sym (ap (λ l. l ++ ns) (e ∙ ap (λ l. l ++ ls) (append-nil ws)))) ∙ map-append slot_of walked ns in
     record {
-      added = h.added;
-      appended = h.appended;
-      each = IsPermutation-trans _ _ _ (swapped ws ns ls) (subst (λ l. IsPermutation (map slot_of l) h.added) e h.each);
+      added = h.added ++ map slot_of ns;
+      appended = a ∙ (ap (λ l. l ++ map slot_of ns) h.appended ∙ append_assoc old h.added (map slot_of ns));
+      each = subst (λ l. IsPermutation l (h.added ++ map slot_of ns)) (sym all) (IsPermutation-append_left (map slot_of ns) _ _ h.each);
     }
-listed (Err _) walked ws ns ls old new e h = h

@@ -25,8 +25,10 @@ mod link;
 mod magazine;
 mod node;
 mod parcel;
+mod pointers;
 mod portion;
 mod room;
+mod spot;
 mod stack;
 mod walk;
 

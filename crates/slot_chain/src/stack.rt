@@ -2,15 +2,13 @@
 ghost use Rattle.std.specs.Prelude.{◌≡◌, ◌↔◌, [], ◌∷◌, ◌++◌, length, map, IsTrue, IsPermutation, MatchOption, OnOk, OnErr};
 ghost use Rattle.slot_chain.specs.Buffer.{Buffer, ended_of};
 ghost use Rattle.slot_chain.specs.Counts.{capped};
-ghost use Rattle.slot_chain.specs.Magazines.{named_in};
 ghost use Rattle.slot_chain.specs.Slots.{AddsSlots, slot_of};
 
-use crate::array::{len_of, names_none, offer, pop_named, slice_of};
 use crate::arrays::Arrays;
 use crate::buf::Buf;
 use crate::chain::Chain;
 use crate::error::NoMemory;
-use crate::parcel::end_each;
+use crate::pointers::Pointers;
 use crate::walk::add_slots;
 use region_cut::Slot;
 use region_cut::endings::Endings;
@@ -30,17 +28,16 @@ use std::marker::Model;
 #[derive(Drop)]
 pub struct Stack<'r> {
     linked: Chain<'r>,
-    array: Option<Vec<Buf<'r>>>,
+    named: Pointers<'r>,
 }
 
 impl<'r> Model for Stack<'r> {
     ghost use Rattle.std.specs.Prelude.{List, ◌++◌};
     ghost use Rattle.slot_chain.specs.Buffer.{Buffer};
-    ghost use Rattle.slot_chain.specs.Magazines.{named_in};
 
     ghost Value = { List Buffer };
 
-    ghost view = { λ s. s.linked ++ named_in s.array };
+    ghost view = { λ s. s.linked ++ s.named };
 }
 
 impl<'r> Stack<'r> {
@@ -50,7 +47,7 @@ impl<'r> Stack<'r> {
     {
         Stack {
             linked: Chain::new(),
-            array: None,
+            named: Pointers::new(),
         }
     }
 
@@ -66,7 +63,7 @@ impl<'r> Stack<'r> {
     pub fn store(&mut self, buf: Buf<'r>)
         ensures { IsPermutation (self.old ++ buf.entry ∷ []) self.new }
     {
-        if let Some(buf) = offer(&mut self.array, buf) {
+        if let Some(buf) = self.named.offer(buf) {
             link(&mut self.linked, buf);
         }
     }
@@ -77,7 +74,7 @@ impl<'r> Stack<'r> {
     pub fn pop(&mut self) -> Option<Buf<'r>>
         ensures { MatchOption result ((self.old ≡ []) × (self.new ≡ [])) (λ b. self.old ≡ self.new ++ b ∷ []) }
     {
-        if let Some(buf) = pop_named(&mut self.array) {
+        if let Some(buf) = self.named.pop() {
             return Some(buf);
         }
         self.linked.pop()
@@ -85,10 +82,7 @@ impl<'r> Stack<'r> {
 
     /// For how many buffers its array has places.
     pub fn places(&self) -> usize {
-        match &self.array {
-            None => 0,
-            Some(array) => array.capacity(),
-        }
+        self.named.places()
     }
 
     /// Makes room in the array for pointers to so many buffers, where it has less and names none. Where
@@ -96,11 +90,8 @@ impl<'r> Stack<'r> {
     pub fn make_room(&mut self, alloc: Global, places: usize)
         ensures { self.new ≡ self.old }
     {
-        if self.places() >= places || !names_none(&self.array) {
-            return;
-        }
-        if let Ok(array) = Vec::with_capacity(alloc, places) {
-            self.array = Some(array);
+        if self.places() < places && self.named.is_empty() {
+            self.named.make_room(alloc, places);
         }
     }
 
@@ -110,7 +101,7 @@ impl<'r> Stack<'r> {
     pub fn is_empty(&self) -> bool
         ensures { IsTrue result ↔ (self.now ≡ []) }
     {
-        self.linked.is_empty() && names_none(&self.array)
+        self.linked.is_empty() && self.named.is_empty()
     }
 
     /// The number of buffers, or the greatest `u64` where that is less. Those that are linked are
@@ -118,7 +109,7 @@ impl<'r> Stack<'r> {
     pub fn len(&self) -> u64
         ensures { result ≡ capped (length self.now) }
     {
-        self.linked.len().saturating_add(len_of(&self.array))
+        self.linked.len().saturating_add(self.named.len() as u64)
     }
 
     /// Adds the slots of its buffers and of those that the arrays name to the end of `slots`, in no order.
@@ -131,21 +122,24 @@ impl<'r> Stack<'r> {
         ensures ok { OnOk result (AddsSlots (map slot_of (arrays.now ++ self.now)) slots.old.items slots.new.items) }
         ensures err { OnErr result (slots.new.items ≡ slots.old.items) }
     {
-        add_slots(
-            self.linked
-                .walk_behind(arrays.as_slice(), slice_of(&self.array)),
-            slots,
-        )
+        let start = slots.len();
+        let walk = self
+            .linked
+            .walk_behind(arrays.as_slice(), Default::default());
+        add_slots(walk, slots)?;
+        if let Err(NoMemory) = self.named.list_slots(slots) {
+            slots.truncate(start);
+            return Err(NoMemory);
+        }
+        Ok(())
     }
 
     /// Lets go all buffers: it is then known what each ends as. Takes a walk over them.
     pub fn end(self, endings: &mut Endings<'r>)
         ensures { endings.new ≡ record endings.old { known = map ended_of self.entry ++ endings.old.known } }
     {
-        let Stack { linked, array } = self;
-        if let Some(array) = array {
-            end_each(array, endings);
-        }
+        let Stack { linked, named } = self;
+        named.end(endings);
         linked.end(endings);
     }
 }

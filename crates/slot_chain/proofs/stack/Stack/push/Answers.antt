@@ -1,8 +1,7 @@
-use Rattle.slot_chain.specs.Magazines.{named_in}
 use Rattle.slot_chain.proofs.Stacked.{linked_more}
 use Rattle.slot_chain.proofs.stack.Stack.push.Goals as goal
 
 pub returns : goal.returns
 returns c =
     let s = c.self.inside in
-    rw (← c.self.view_is, c.push.ensures) (linked_more s.linked (named_in s.array) c.args.buf)
+    rw (← c.self.view_is, c.push.ensures) (linked_more s.linked s.named c.args.buf)
