@@ -291,7 +291,7 @@ uint32_t fv_alloc(fv_allocator *FV_RESTRICT allocator, fv_buf *FV_RESTRICT buf, 
  * FV_STRANGER  the buffer is of another pool */
 uint32_t fv_free(fv_allocator *FV_RESTRICT allocator, fv_buf *FV_RESTRICT buf) FV_NOEXCEPT;
 
-/* Takes what came home, at most 64 batches, then posts all that is cached. Where the inbox of another
+/* Takes what came home, as fv_collect does, then posts all that is cached. Where the inbox of another
  * allocator is full (15 or 16 batches of this one that it has not taken), what goes there stays cached, and
  * holds back nothing else: FV_ALLOCATOR_CACHED tells how much.
  *
@@ -299,8 +299,8 @@ uint32_t fv_free(fv_allocator *FV_RESTRICT allocator, fv_buf *FV_RESTRICT buf) F
  * FV_EMPTY  `allocator` holds none */
 uint32_t fv_flush(fv_allocator *allocator) FV_NOEXCEPT;
 
-/* Takes what came home, at most 64 batches. fv_alloc does so by itself where it finds no slot, and once in
- * 64 calls.
+/* Takes what came home, at most 64 batches, and no further one once 1,024 buffers came. fv_alloc does so by
+ * itself where it finds no slot, and once in 64 calls.
  *
  * FV_OK     something came; with fewer than 6 bits, it may be what is to be passed on
  * FV_EMPTY  nothing came, or `allocator` holds none */

@@ -1,5 +1,6 @@
 //! Tests of a fabric: posts that are refused, and desks and stations that are missing.
 
+mod bounded;
 mod given_back;
 mod going_on;
 mod lacking;

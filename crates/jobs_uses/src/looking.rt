@@ -15,6 +15,9 @@ const SIZE: usize = 16;
 
 const FREED_SIZE: usize = 512;
 
+// How many buffers of that size a chunk has.
+const IN_A_CHUNK: usize = 8;
+
 /// What an owner and a stranger do.
 #[derive(Clone, Copy)]
 pub enum Trial {
@@ -22,6 +25,9 @@ pub enum Trial {
     Look(u32),
     /// The stranger frees so many buffers of 16 bytes, one after the other.
     Post(u32),
+    /// The owner lends all eight buffers of 512 bytes. The stranger frees so many of 16 bytes and posts, and then
+    /// those eight. The owner asks for one of them.
+    Search(u32),
 }
 
 /// What there is when both workers have ended.
@@ -74,6 +80,25 @@ fn post<'a, 'r, J: Naming, R: Wait>(
     Ok(())
 }
 
+// What the owner asks for in the end comes behind all else that the stranger freed.
+fn search<'a, 'r, J: Naming, R: Wait>(
+    rt: &R,
+    owner: &mut Worker<'a, 'r, J>,
+    stranger: &mut Worker<'a, 'r, J>,
+    frees: u32,
+) -> Result<(), PoolError> {
+    let mut parcel = owner.parcel(IN_A_CHUNK)?;
+    let filled = owner.fill(rt, &mut parcel, FREED_SIZE, IN_A_CHUNK);
+    let posted = post(rt, owner, stranger, frees);
+    stranger.free_all(rt, parcel);
+    let _all = stranger.flush(rt);
+    filled?;
+    posted?;
+    let again = owner.alloc(rt, FREED_SIZE)?;
+    owner.free(rt, again);
+    Ok(())
+}
+
 // How many batches the owner finds behind it.
 fn both_work<'a, 'r, J: Naming, R: Wait>(
     rt: &R,
@@ -84,6 +109,7 @@ fn both_work<'a, 'r, J: Naming, R: Wait>(
     match trial {
         Trial::Look(loans) => look(rt, owner, stranger, loans)?,
         Trial::Post(frees) => post(rt, owner, stranger, frees)?,
+        Trial::Search(frees) => search(rt, owner, stranger, frees)?,
     }
     Ok(owner.collect(rt))
 }
@@ -123,7 +149,7 @@ fn at_fabric<'r, J: Naming, R: Wait>(
 
 /// An owner and a stranger do what `trial` says, and the owner looks into its inbox.
 ///
-/// It wants two desks, and two chunks, or one for each 256 buffers that are freed.
+/// It wants two desks, and two chunks, or one for each 256 buffers that are freed, and for a search one more.
 pub fn look_after<'r, R: Wait>(
     rt: &R,
     alloc: Global,

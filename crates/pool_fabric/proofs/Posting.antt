@@ -1,6 +1,6 @@
 -- One more batch is posted, or taken.
 use Rattle.std.proofs.Common.{◌≡◌, ℕ, zero, suc, ◌+◌, ◌<◌, List, [], ◌∷◌, ◌++◌, length, map, refl, sym, ap, ◌∙◌, arith, subst, Some, length-append, append_assoc, IsPermutation, ⊎_elim, inl, inr}
-use Rattle.std.specs.Prelude.{slice_get, slice_set, All, slice_index_or, take, drop}
+use Rattle.std.specs.Prelude.{slice_get, slice_set, All, slice_index_or, take, drop, Bool, true, false, eqb}
 use Rattle.std.proofs.lemmas.List.{append-nil}
 use Rattle.std.proofs.lemmas.List.Elements.{All-append}
 use Rattle.std.proofs.lemmas.List.Sorted.{IsPermutation-trans, IsPermutation-append_left, IsPermutation-append_right, IsPermutation-append_comm, IsPermutation-refl}
@@ -11,13 +11,16 @@ use Rattle.digit_route.specs.Route.{GivesBucket}
 use Rattle.digit_route.specs.States.{BatchState}
 use Rattle.region_cut.specs.declared.slot.Slot.{Slot}
 use Rattle.pool_desk.specs.Desks.{DeskState}
-use Rattle.pool_desk.specs.Steps.{Handles}
+use Rattle.pool_desk.specs.declared.counts.Counts.{Counts}
+use Rattle.pool_desk.specs.Steps.{CountsOf, Handles, others, own}
+use Rattle.slot_chain.specs.Counts.{capped}
 use Rattle.batch_inbox.specs.States.{TakeState}
 use Rattle.pool_fabric.specs.Weights.{weigh}
 use Rattle.pool_fabric.specs.Names.{Names}
 use Rattle.pool_fabric.specs.Seats.{SeatState, AreSeatsBy}
 use Rattle.pool_fabric.specs.Accounts.{of_buffer, of_batch, of_seats, held}
-use Rattle.pool_fabric.specs.Posts.{buffers_in, sent_at, sent_all, Posts, SendsOrKeeps, HandlesAll, TakesSome}
+use Rattle.pool_fabric.specs.Limits.{most_handled}
+use Rattle.pool_fabric.specs.Posts.{before_last, buffers_in, sent_at, sent_all, Posts, SendsOrKeeps, HandlesAll, TakesSome}
 use Rattle.pool_fabric.proofs.Sums.{weigh-append, weigh-snoc, weigh-permutation}
 use Rattle.pool_fabric.proofs.DeskSums.{handled}
 
@@ -294,13 +297,19 @@ handled_sum h old (b ∷ bs) new (m, one, i) =
     omega arith
 
 -- nothing was taken yet
-pub takes_none : (d : DeskState) (t : TakeState) → TakesSome d t 0 d t
-takes_none d t = record { batches = []; count = refl; taken = ap (λ l. record t { taken = l }) (sym (append-nil t.taken)); handled = refl }
+takes_none : (d : DeskState) (t : TakeState) → TakesSome d t 0 d t
+takes_none d t = record { batches = []; count = refl; taken = ap (λ l. record t { taken = l }) (sym (append-nil t.taken)); handled = refl; bounded = omega arith }
+
+before_last_of : (bs : List BatchState) (b : BatchState) → before_last (bs ++ b ∷ []) ≡ bs
+before_last_of [] b = refl
+before_last_of (c ∷ []) b = refl
+before_last_of (c ∷ (d ∷ bs)) b = ap (λ l. c ∷ l) (before_last_of (d ∷ bs) b)
 
 -- one more batch was taken
-pub takes_more : (old mid new : DeskState) (t t' t'' : TakeState) (n : ℕ) (b : BatchState) → TakesSome old t n mid t'
-    → (t''.inbox ≡ t'.inbox) × (t''.senders ≡ t'.senders) → t''.taken ≡ t'.taken ++ b ∷ [] → Handles mid b.items new → TakesSome old t (n + 1) new t''
-takes_more old mid new t t' t'' n b s same more h = record {
+pub takes_more : (old mid new : DeskState) (t t' t'' : TakeState) (n : ℕ) (b : BatchState) (s : TakesSome old t n mid t')
+    → (t''.inbox ≡ t'.inbox) × (t''.senders ≡ t'.senders) → t''.taken ≡ t'.taken ++ b ∷ [] → Handles mid b.items new → length (buffers_in s.batches) < most_handled
+    → TakesSome old t (n + 1) new t''
+takes_more old mid new t t' t'' n b s same more h few = record {
   batches = s.batches ++ b ∷ [];
   count = length-append s.batches (b ∷ []) ∙ ap (λ k. k + 1) s.count;
   taken =
@@ -311,13 +320,53 @@ takes_more old mid new t t' t'' n b s same more h = record {
         taken = l i;
       });
   handled = handles_more old s.batches mid b new s.handled h;
+  bounded = subst (λ l. length (buffers_in l) < most_handled) (sym (before_last_of s.batches b)) few;
 }
 
--- the last take gave nothing
-pub takes_end : (old mid : DeskState) (t t' t'' : TakeState) (n : ℕ) → TakesSome old t n mid t' → (t''.inbox ≡ t'.inbox) × (t''.senders ≡ t'.senders) → t''.taken ≡ t'.taken → TakesSome old t n mid t''
-takes_end old mid t t' t'' n s same more =
-    let e : t'' ≡ t' = λ i. record { inbox = same.0 i; senders = same.1 i; taken = more i } in
-    record { batches = s.batches; count = s.count; taken = e ∙ s.taken; handled = s.handled }
+-- a batch more has its buffers more
+buffers_more : (bs : List BatchState) (b : BatchState) → length (buffers_in (bs ++ b ∷ [])) ≡ length (buffers_in bs) + length b.items
+buffers_more [] b = let e = ap (λ (l : List Buffer). length l) (append-nil b.items) in omega (arith, e)
+buffers_more (c ∷ bs) b =
+    let h = buffers_more bs b in
+    let p = length-append c.items (buffers_in (bs ++ b ∷ [])) in
+    let q = length-append c.items (buffers_in bs) in
+    omega (arith, h, p, q)
+
+-- a count that is below the bound is exact
+exact : (x : ℕ) → capped x < most_handled → capped x ≡ x
+exact x l = omega (arith, l)
+
+-- each buffer is the desk's own, or it isn't
+own_or_not_one : (a : ℕ) (b : Buffer) (bs : List Buffer) (r : Bool) → eqb b.owner a ≡ r → length (own a bs) + length (others a bs) ≡ length bs
+    → length (own a (b ∷ bs)) + length (others a (b ∷ bs)) ≡ length (b ∷ bs)
+own_or_not_one a b bs true e h = rw e (omega (arith, h))
+own_or_not_one a b bs false e h = rw e (omega (arith, h))
+
+own_or_not : (a : ℕ) (bs : List Buffer) → length (own a bs) + length (others a bs) ≡ length bs
+own_or_not a [] = refl
+own_or_not a (b ∷ bs) = own_or_not_one a b bs (eqb b.owner a) refl (own_or_not a bs)
+
+-- the count of the buffers that were handled, with those of a batch more, where it is below the bound
+counted_on : (a n r : ℕ) (c : Counts) (bs : List BatchState) (b : BatchState) → CountsOf a b.items c → n ≡ length (buffers_in bs)
+    → r ≡ capped (n + capped (c.home + c.on)) → r < most_handled → r ≡ length (buffers_in (bs ++ b ∷ []))
+counted_on a n r c bs b k e is few =
+    let first : capped (n + capped (c.home + c.on)) ≡ n + capped (c.home + c.on) = exact _ (subst (λ (x : ℕ). x < most_handled) is few) in
+    let second : capped (c.home + c.on) ≡ c.home + c.on = exact _ (omega (arith, first, is, few)) in
+    let home : capped (length (own a b.items)) ≡ length (own a b.items) = exact _ (omega (arith, first, second, is, few, k.home)) in
+    let on : capped (length (others a b.items)) ≡ length (others a b.items) = exact _ (omega (arith, first, second, is, few, k.on)) in
+    omega (arith, is, first, second, home, on, k.home, k.on, e, own_or_not a b.items, buffers_more bs b)
+
+pub counts_none : (d : DeskState) (t : TakeState) → (s : TakesSome d t 0 d t) × (0 ≡ length (buffers_in s.batches))
+unfolding takes_none
+counts_none d t = (takes_none d t, refl)
+
+pub counts_more : (old mid new : DeskState) (t t' t'' : TakeState) (k n r : ℕ) (c : Counts) (b : BatchState) (s : TakesSome old t k mid t')
+    → n ≡ length (buffers_in s.batches) → n < most_handled → (t''.inbox ≡ t'.inbox) × (t''.senders ≡ t'.senders) → t''.taken ≡ t'.taken ++ b ∷ []
+    → Handles mid b.items new → CountsOf mid.number b.items c → r ≡ capped (n + capped (c.home + c.on)) → r < most_handled
+    → (s' : TakesSome old t (k + 1) new t'') × (r ≡ length (buffers_in s'.batches))
+unfolding takes_more
+counts_more old mid new t t' t'' k n r c b s e few same more h counts is below =
+    (takes_more old mid new t t' t'' k b s same more h (rw (← e) few), counted_on mid.number n r c s.batches b counts e is below)
 
 -- a batch has a buffer
 some_items : (h : Buffer → ℕ) → ((b : Buffer) → h b ≡ 1) → (xs : List Buffer) → 0 < length xs → 0 < weigh h xs

@@ -7,6 +7,7 @@ use Rattle.digit_route.specs.States.{BatchState}
 use Rattle.pool_desk.specs.Desks.{DeskState}
 use Rattle.pool_desk.specs.Steps.{Handles}
 use Rattle.batch_inbox.specs.States.{TakeState}
+use Rattle.pool_fabric.specs.Limits.{most_handled}
 use Rattle.pool_fabric.specs.Seats.{SeatState}
 
 -- the buffers of several batches
@@ -49,9 +50,16 @@ abbrev pub HandlesAll : DeskState → List BatchState → DeskState → Type 0
 HandlesAll old [] new = new ≡ old
 HandlesAll old (b ∷ bs) new = (between : DeskState) × Handles old b.items between × HandlesAll between bs new
 
--- n batches were taken, and handled in turn
+-- all batches but the last
+abbrev pub before_last : List BatchState → List BatchState
+before_last [] = []
+before_last (b ∷ []) = []
+before_last (b ∷ (c ∷ bs)) = b ∷ before_last (c ∷ bs)
+
+-- n batches were taken, and handled in turn; those before the last have fewer buffers together than bound the call
 pub record TakesSome (old : DeskState) (seat : TakeState) (n : ℕ) (new : DeskState) (seat' : TakeState) : Type 0 where
   pub batches : List BatchState
   pub count : length batches ≡ n
   pub taken : seat' ≡ record seat { taken = seat.taken ++ batches }
   pub handled : HandlesAll old batches new
+  pub bounded : length (buffers_in (before_last batches)) < most_handled

@@ -21,8 +21,11 @@ use slot_chain::EmptyMagazine;
 use std::fmt;
 use std::sync::{Mutex, Wait};
 
-/// How many batches a worker takes at a time.
+/// How many batches a worker takes at a time, at most.
 pub const MOST_TAKEN: u32 = 64;
+
+/// Of how many buffers a worker takes no further batch at a time.
+pub const MOST_HANDLED: u64 = 1024;
 
 /// The inboxes, that of each desk at its number, beside the shelf and the stock.
 #[derive(Drop)]
@@ -293,8 +296,10 @@ impl<'r, T: Receiver, S: Sender, M: Mail<'r, TakeSeat = T, SendSeat = S>, J: Nam
         }
     }
 
-    /// Takes batches from the desk's inbox and handles each, until it is given none, but not more
-    /// than [`MOST_TAKEN`]. Says how many. The emptied magazines go back to those who sent them.
+    /// Takes batches from the desk's inbox and handles each, until it is given none, has handled
+    /// [`MOST_HANDLED`] buffers or more, or has taken [`MOST_TAKEN`] batches. Says how many it took. So the
+    /// steps of a call are bounded by these numbers and the last batch. The emptied magazines go back to those
+    /// who sent them.
     pub fn take_some<R: Wait>(&self, rt: &R, desk: &mut Desk<'r>, seat: &mut T) -> u32
         requires digits { desk.old.digits ≡ J.names.digits }
         requires seat { T.inbox seat.old ≡ box_at J.names desk.old.number }
@@ -310,12 +315,17 @@ impl<'r, T: Receiver, S: Sender, M: Mail<'r, TakeSeat = T, SendSeat = S>, J: Nam
             return 0;
         }
         let inbox = &inboxes[at];
+        let mut handled = 0u64;
         for taken in 0..MOST_TAKEN {
             let Some(batch) = inbox.take(rt, seat) else {
                 return taken;
             };
-            let (_counts, empty) = desk.handle_and_empty(batch);
+            let (counts, empty) = desk.handle_and_empty(batch);
             inbox.return_empty(rt, seat, empty);
+            handled = handled.saturating_add(counts.home.saturating_add(counts.on));
+            if handled >= MOST_HANDLED {
+                return taken + 1;
+            }
         }
         MOST_TAKEN
     }

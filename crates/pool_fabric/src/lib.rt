@@ -39,7 +39,7 @@ mod work;
 pub use buffer::Buffer;
 pub use counted_notes::CountedNotes;
 pub use error::GatherError;
-pub use fabric::{Fabric, MOST_TAKEN};
+pub use fabric::{Fabric, MOST_HANDLED, MOST_TAKEN};
 pub use found::{Found, gather};
 pub use held::HeldStation;
 pub use in_part::FoundInPart;

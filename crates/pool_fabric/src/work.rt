@@ -15,8 +15,8 @@ use region_cut::Class;
 use std::sync::Wait;
 
 impl<'r, T: Receiver, S: Sender, J: Naming> HeldStation<'r, T, S, J> {
-    /// Takes what is in the desk's inbox, at most [`MOST_TAKEN`](crate::MOST_TAKEN) batches, and handles it.
-    /// Says how many.
+    /// Takes what is in the desk's inbox, as far as [`Fabric::take_some`] goes, and handles it. Says how many
+    /// batches it took.
     pub fn take<M: Mail<'r, TakeSeat = T, SendSeat = S>, R: Wait>(
         &mut self,
         rt: &R,

@@ -24,6 +24,9 @@ use std::{fmt, io};
 // the while.
 const LOOK_EVERY: u64 = 64;
 
+// How often it looks again where the stock is empty.
+const MOST_LOOKS: u32 = 64;
+
 // After so many buffers that were freed there is a post, whatever their size: a cache of many small ones would
 // outgrow the processor's, and so would the slots that take their place meanwhile.
 const POST_EVERY: u64 = 1024;
@@ -157,8 +160,8 @@ impl<
         self.station.digits().profile().largest()
     }
 
-    /// Takes what came home in batches, at most 64 of them, and says how many it took. What goes on to
-    /// another allocator is cached here, to be posted.
+    /// Takes what came home in batches, at most 64 of them, and no further one once 1,024 buffers came. Says
+    /// how many it took. What goes on to another allocator is cached here, to be posted.
     pub fn collect<R: Wait>(&mut self, rt: &R) -> u32
         ensures keeps { Keeps J.names self.old self.new }
         ensures most { result ≤ most_taken }
@@ -177,10 +180,28 @@ impl<
         ensures { Keeps J.names self.old self.new }
     {
         let _taken = self.collect(rt);
-        if !self.station.has_home(class) {
-            self.post_from = 0;
-            let _claimed = self.station.claim(rt, self.fabric, class);
+        if self.station.has_home(class) {
+            return;
         }
+        self.post_from = 0;
+        if !self.station.claim(rt, self.fabric, class) {
+            self.collect_on(rt, class);
+        }
+    }
+
+    // Takes what else came, as long as no slot of the class is among it: a look ends at its bound, and the stock
+    // is empty.
+    #[cold]
+    #[inline(never)]
+    fn collect_on<R: Wait>(&mut self, rt: &R, class: Class)
+        ensures { Keeps J.names self.old self.new }
+    {
+        for _ in 0..MOST_LOOKS {
+            if self.collect(rt) == 0 || self.station.has_home(class) {
+                return;
+            }
+        }
+        recall(&self.station);
     }
 
     // Lends a buffer of the class where one is at home and wants no memory that isn't there.
@@ -224,9 +245,10 @@ impl<
 
     /// Lends a buffer of at least `size` bytes. Nothing of it is cleared.
     ///
-    /// It lends a slot at home. Where its class has none there, it takes at most 64 batches from its
-    /// inbox, and draws a chunk of the stock where they bring none. After each 64 buffers that it lends it
-    /// looks into the inbox, so that no sender waits until this allocator runs out of a class.
+    /// It lends a slot at home. Where its class has none there, it takes what came, as [`Allocator::collect`]
+    /// does, and draws a chunk of the stock where that brings none; where the stock is empty it takes on.
+    /// After each 64 buffers that it lends it looks into the inbox, so that no sender waits until this
+    /// allocator runs out of a class.
     ///
     /// [`PoolError::TooLarge`]: no class is large enough. [`PoolError::UsedUp`]: no slot of the class
     /// was at home, none came, and the stock was empty. [`PoolError::NoMemory`]: the system refused the

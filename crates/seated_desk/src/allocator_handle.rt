@@ -80,7 +80,8 @@ impl<'r> AllocatorHandle<'r> {
         }
     }
 
-    /// Takes what came home, at most 64 batches: 0 where a batch came, and `Empty` where none did.
+    /// Takes what came home, at most 64 batches, and no further one once 1,024 buffers came: 0 where a batch came, and
+    /// `Empty` where none did.
     pub fn collect(&mut self) -> u32
         ensures { Collects result self.old self.new }
     {

@@ -18,7 +18,24 @@ use slot_chain::{Buf, BufParcel};
 // How many calls go by between two looks into the inbox.
 const LOOK_EVERY: u64 = 64;
 
+// How often it looks again where the stock is empty.
+const MOST_LOOKS: u32 = 64;
+
 impl<'r> Station<'r> {
+    // Takes what else came, as long as no slot of the class is among it: a look ends at its bound, and the stock is
+    // empty.
+    #[cold]
+    #[inline(never)]
+    fn take_on(&mut self, class: Class)
+        ensures { IsSameStation self.old self.new }
+    {
+        for _ in 0..MOST_LOOKS {
+            if self.take() == 0 || self.desk.has_home(class) {
+                return;
+            }
+        }
+    }
+
     // Takes what came, and draws a chunk where no slot of the class is among it.
     #[cold]
     #[inline(never)]
@@ -33,6 +50,7 @@ impl<'r> Station<'r> {
         }
         self.post_from = 0;
         let Some(part) = self.drawer.draw(class) else {
+            self.take_on(class);
             return;
         };
         self.desk.claim_needed(part, class);

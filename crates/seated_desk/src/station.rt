@@ -14,6 +14,9 @@ use std::alloc::Global;
 // How many batches are taken at a time.
 const MOST_TAKEN: u32 = 64;
 
+// Of how many buffers no further batch is taken at a time.
+const MOST_HANDLED: u64 = 1024;
+
 /// The most desks of a pool, whose numbers have 6 bits.
 pub(crate) const MOST_DESKS: u16 = 64;
 
@@ -97,13 +100,14 @@ impl<'r> Station<'r> {
         }
     }
 
-    /// Takes what came in batches, at most 64. Says how many.
+    /// Takes what came in batches, at most 64, and none once 1,024 buffers came. Says how many.
     pub(crate) fn take(&mut self) -> u32
         ensures keeps { KeepsStation self.old self.new }
         ensures none { result ≡ 0 → self.new.desk ≡ self.old.desk }
         ensures most { result ≤ most_taken }
         ensures counted { self.new.taken % 2 ^ 64 ≡ (self.old.taken + result) % 2 ^ 64 }
     {
+        let mut handled = 0u64;
         for count in 0..MOST_TAKEN {
             let Some(batch) = self.inward.take() else {
                 return count;
@@ -111,9 +115,13 @@ impl<'r> Station<'r> {
             if batch.address() != self.desk.number() || batch.digits() != self.desk.digits() {
                 return count;
             }
-            let (_counts, empty) = self.desk.handle_and_empty(batch);
+            let (counts, empty) = self.desk.handle_and_empty(batch);
             self.inward.return_empty(empty);
             self.taken = self.taken.wrapping_add(1);
+            handled = handled.saturating_add(counts.home.saturating_add(counts.on));
+            if handled >= MOST_HANDLED {
+                return count + 1;
+            }
         }
         MOST_TAKEN
     }

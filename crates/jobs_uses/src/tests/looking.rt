@@ -42,3 +42,10 @@ fn the_1024th_posts_all(rt: HostRuntime) -> Result<(), Fail> {
     assert_eq!(rt; batches_left(&rt, Trial::Post(1_024))?, 1);
     Ok(())
 }
+
+// The first look ends behind 1,024 buffers, and the stock is empty. Refuses an allocator that is used up then.
+#[test]
+fn what_comes_behind_a_look_is_found(rt: HostRuntime) -> Result<(), Fail> {
+    assert_eq!(rt; batches_left(&rt, Trial::Search(1_024))?, 0);
+    Ok(())
+}

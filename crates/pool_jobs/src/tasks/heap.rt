@@ -132,7 +132,8 @@ pub trait Heap: Drop {
     fn flush<R: Wait>(&mut self, rt: &R) -> bool
         ensures largest { largest self.new ≡ largest self.old };
 
-    /// Takes what came home, at most 64 batches, and says how many it took.
+    /// Takes what came home, at most 64 batches, and no further one once 1,024 buffers came. Says how many it
+    /// took.
     fn collect<R: Wait>(&mut self, rt: &R) -> u32
         ensures largest { largest self.new ≡ largest self.old };
 }

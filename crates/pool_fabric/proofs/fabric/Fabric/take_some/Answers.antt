@@ -3,7 +3,7 @@ use Rattle.std.proofs.lemmas.Option.{slice_get_read}
 use Rattle.batch_inbox.specs.declared.place.Place.{Place}
 use Rattle.pool_desk.specs.Desks.{DeskState}
 use Rattle.pool_fabric.specs.Names.{box_at}
-use Rattle.pool_fabric.proofs.Posting.{get_map, takes_more}
+use Rattle.pool_fabric.proofs.Posting.{counts_more, counts_none, get_map, takes_more}
 use Rattle.pool_fabric.proofs.fabric.Fabric.take_some.Goals as goal
 
 pub take-requires : goal.take-requires
@@ -37,14 +37,31 @@ return_empty-requires g c κs =
     let number = c.from-at.ensures ∙ c.number.ensures.value in
     ((refl, tt), c.in-Some.ensures.seat.0 ∙ (c.loop-taken.invariant.inbox ∙ (c.requires.seat ∙ (ap (box_at g.J.Naming.names) (sym number) ∙ sym box.0))))
 
+pub loop-taken-init : goal.loop-taken-init
+loop-taken-init g c =
+    let none = counts_none c.args.desk.now (record { inbox = g.T.Receiver.inbox c.args.seat.now; senders = g.T.Receiver.senders c.args.seat.now; taken = g.T.Receiver.taken c.args.seat.now }) in
+    record { taken = none.0; counted = none.1; few = omega arith; number = refl; digits = refl; inbox = refl }
+
+pub returns-then-handled-ge-MOST_HANDLED-clause-takes : goal.returns-then-handled-ge-MOST_HANDLED-clause-takes
+returns-then-handled-ge-MOST_HANDLED-clause-takes g c =
+    let i = c.loop-taken.invariant in
+    let e = c.in-Some.ensures in
+    let back = c.return_empty.ensures in
+    takes_more _ _ _ _ _ _ _ c.in-Some.batch i.taken (back.0 ∙ e.seat.0, back.1 ∙ e.seat.1) (back.2 ∙ e.batch.0) c.handle_and_empty-empty.ensures.parts
+    (rw (← i.counted) i.few)
+
 pub loop-taken-preserved : goal.loop-taken-preserved
 loop-taken-preserved g c =
     let i = c.loop-taken.invariant in
     let e = c.in-Some.ensures in
     let h = c.handle_and_empty-empty.ensures.parts in
     let back = c.return_empty.ensures in
+    let more = counts_more _ _ _ _ _ _ _ _ _ c.handle_and_empty-empty.result.0 c.in-Some.batch i.taken i.counted i.few (back.0 ∙ e.seat.0, back.1 ∙ e.seat.1) (back.2 ∙ e.batch.0) h
+    c.handle_and_empty-empty.ensures.counts (rw c.saturating_add.ensures at c.saturating_add-handled.ensures) c.if-handled-ge-MOST_HANDLED.false in
     record {
-      taken = takes_more _ _ _ _ _ _ _ c.in-Some.batch i.taken (back.0 ∙ e.seat.0, back.1 ∙ e.seat.1) (back.2 ∙ e.batch.0) h;
+      taken = more.0;
+      counted = more.1;
+      few = c.if-handled-ge-MOST_HANDLED.false;
       number = ap (λ (d : DeskState). d.number) h.same ∙ i.number;
       digits = ap (λ (d : DeskState). d.digits) h.same ∙ i.digits;
       inbox = back.0 ∙ (e.seat.0 ∙ i.inbox);
