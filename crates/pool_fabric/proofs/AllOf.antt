@@ -2,11 +2,11 @@
 use Rattle.std.proofs.Common.{◌≡◌, ℕ, ◌+◌, List, [], ◌∷◌, ◌++◌, sym, ap, ◌∙◌, arith, append-nil, IsPermutation}
 use Rattle.slot_chain.specs.Buffer.{Buffer}
 use Rattle.pool_desk.specs.Desks.{DeskState}
-use Rattle.pool_fabric.specs.Weights.{weigh}
+use Rattle.slot_balance.specs.Weights.{weigh}
 use Rattle.pool_fabric.specs.Stations.{StationState}
 use Rattle.pool_fabric.specs.Gathered.{GatheredState, AddsEach, AddsStation}
 use Rattle.pool_fabric.specs.Whole.{IsAllOf}
-use Rattle.pool_fabric.proofs.Sums.{weigh-append, weigh-snoc, weigh-permutation}
+use Rattle.slot_balance.proofs.Sums.{weigh-append, weigh-snoc, weigh-permutation}
 
 -- what was gathered is all of the stations but of those that are left
 pub record IsAllBut (stations left : List StationState) (desks : List DeskState) (lent freed : List Buffer) : Type 0 where

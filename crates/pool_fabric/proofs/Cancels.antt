@@ -1,8 +1,8 @@
 -- What the senders sent, in all, is what the receiver took and what was left.
 use Rattle.std.proofs.Common.{◌≡◌, ◌≢◌, ℕ, zero, suc, ◌+◌, ◌<◌, ◌≤◌, List, [], ◌∷◌, ◌++◌, length, refl, sym, ap, ◌∙◌, arith, subst, Some, ⊎_elim, cond, eq-eqb, ne_eqb}
 use Rattle.std.specs.Prelude.{slice_get}
-use Rattle.pool_fabric.specs.Weights.{weigh}
-use Rattle.pool_fabric.proofs.Sums.{weigh-append}
+use Rattle.slot_balance.specs.Weights.{weigh}
+use Rattle.slot_balance.proofs.Sums.{weigh-append}
 use Rattle.region_cut.specs.declared.slot.Slot.{Slot}
 use Rattle.digit_route.specs.States.{BatchState}
 use Rattle.batch_inbox.specs.Views.{batches_of}

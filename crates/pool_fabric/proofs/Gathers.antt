@@ -6,7 +6,7 @@ use Rattle.region_cut.specs.declared.part.Part.{Part}
 use Rattle.slot_chain.specs.Buffer.{Buffer}
 use Rattle.digit_route.specs.States.{BatchState}
 use Rattle.batch_inbox.specs.States.{InboxId, TakeState}
-use Rattle.pool_fabric.specs.Weights.{weigh}
+use Rattle.slot_balance.specs.Weights.{weigh}
 use Rattle.pool_fabric.specs.Names.{Names, box_at}
 use Rattle.pool_fabric.specs.Pages.{PageState}
 use Rattle.pool_fabric.specs.Seats.{SeatState, AreSeatsBy}
@@ -16,7 +16,7 @@ use Rattle.pool_fabric.specs.Accounts.{of_buffer, of_batch, of_seats, of_part, o
 use Rattle.pool_fabric.specs.Stations.{StationState, KeepsLoans, IsStation}
 use Rattle.pool_fabric.specs.Gathered.{GatheredState, AreRows, AreTakes, AreOf, IsGathered}
 use Rattle.pool_fabric.specs.Whole.{IsWhole, FreesNoMore, IsEachDesk}
-use Rattle.pool_fabric.proofs.Sums.{weigh-append, weigh-snoc, weigh-map}
+use Rattle.slot_balance.proofs.Sums.{weigh-append, weigh-snoc, weigh-map}
 use Rattle.slot_chain.specs.Slots.{slot_of}
 use Rattle.std.proofs.lemmas.List.{map-append}
 use Rattle.pool_fabric.proofs.Columns.{each_more, get_front, get_seam}

@@ -6,10 +6,10 @@ use Rattle.crossbeam_queue.specs.Fifo.{Forks, Merges, Learns}
 use Rattle.crossbeam_queue.proofs.Lists.{at_set, at_snoc}
 use Rattle.pool_fabric.specs.declared.ledger.Hand.{Hand}
 use Rattle.pool_fabric.specs.declared.ledger.DrawnChunk.{DrawnChunk}
-use Rattle.pool_fabric.specs.Weights.{weigh}
+use Rattle.slot_balance.specs.Weights.{weigh}
 use Rattle.pool_fabric.specs.Ledgers.{hand, whole, parts_of, gave_of, got_of, IdleIsEmpty, IsBalanced, IsTotal, IsWithin}
 use Rattle.loan_ledger.proofs.Views.{weigh_set, weighs_less, weighs_all}
-use Rattle.pool_fabric.proofs.Sums.{weigh-append, weigh-snoc}
+use Rattle.slot_balance.proofs.Sums.{weigh-append, weigh-snoc}
 
 idle_set : (views : List Hand) (page : ℕ) (w : Hand) → (w.parts ≡ 0 → (w.gave ≡ []) × (w.got ≡ [])) → IdleIsEmpty views → IdleIsEmpty (set views page w)
 idle_set views page w mine others j u e nil =

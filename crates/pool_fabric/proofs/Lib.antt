@@ -1,8 +1,6 @@
-pub mod Walks
-pub mod Sums
 pub mod KeepsLedger
 pub mod DeskSums
-pub mod Posting
+pub mod Seated
 pub mod Steps
 pub mod Cancels
 pub mod Columns

@@ -18,13 +18,13 @@ use Rattle.pool_desk.specs.Desks.{DeskState}
 use Rattle.slot_audit.specs.Audit.{IsDrawnSlot, slots_for, class_noted}
 use Rattle.slot_audit.specs.declared.fault.Fault.{Fault}
 use Rattle.slot_audit.specs.declared.fault.Fault.TheVariants.{Stranger, Doubled, Missing, NoMemory}
-use Rattle.pool_fabric.specs.Weights.{weigh}
+use Rattle.slot_balance.specs.Weights.{weigh}
 use Rattle.pool_fabric.specs.Accounts.{of_buffer, of_batch, of_chunk, of_number, of_part, held, owed, drawn_by}
 use Rattle.pool_fabric.specs.Audited.{Audited, listed, held_slots, batch_slots, slots_found}
 use Rattle.pool_fabric.specs.Stocks.{AreApart}
 use Rattle.pool_fabric.specs.Whole.{IsWhole, FreesNoMore, AreNoted}
 use Rattle.pool_fabric.specs.Losses.{is_number, AreOnce, FindsAtMostOnce, times_among, TellsLosses, TellsNone}
-use Rattle.pool_fabric.proofs.Sums.{weigh-append, weigh-map, weigh-ones, weigh-permutation}
+use Rattle.slot_balance.proofs.Sums.{weigh-append, weigh-map, weigh-ones, weigh-permutation}
 
 -- 1 of one slot, and else 0
 abbrev pub one : Slot → Slot → ℕ

@@ -12,12 +12,12 @@ use Rattle.pool_fabric.specs.Names.{box_at}
 use Rattle.digit_route.specs.Limits.{largest_limit}
 use Rattle.pool_fabric.specs.Ledgers.{whole}
 use Rattle.pool_fabric.specs.Pages.{PageState, new_page}
-use Rattle.pool_fabric.specs.Weights.{weigh}
+use Rattle.slot_balance.specs.Weights.{weigh}
 use Rattle.pool_fabric.specs.Accounts.{of_part}
 use Rattle.pool_fabric.specs.Seats.{SeatState, seat_of, AreBoxes, NoneSent}
 use Rattle.pool_fabric.specs.Stocks.{StockState, IsFull}
 use Rattle.pool_fabric.specs.Opened.{AreColumns, AreNewTakes, AreOpened, IsOpening, names_of, most_desks}
-use Rattle.pool_fabric.proofs.Sums.{weigh-map, weigh-permutation}
+use Rattle.slot_balance.proofs.Sums.{weigh-map, weigh-permutation}
 use Rattle.pool_fabric.proofs.Columns.{get_front, get_seam, each_more, get_mapped}
 
 pub opened_none : (d : Scheme) (n : ℕ) → AreOpened d n [] [] []

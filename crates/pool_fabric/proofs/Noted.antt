@@ -6,7 +6,7 @@ use Rattle.std.specs.Prelude.{Option, true, false, slice_get, ◌==◌}
 use Rattle.pool_desk.specs.Desks.{DeskState}
 use Rattle.slot_audit.specs.Audit.{class_noted}
 use Rattle.pool_fabric.specs.declared.ledger.DrawnChunk.{DrawnChunk}
-use Rattle.pool_fabric.specs.Weights.{weigh}
+use Rattle.slot_balance.specs.Weights.{weigh}
 use Rattle.pool_fabric.specs.Pages.{drawn_for}
 use Rattle.pool_fabric.specs.Accounts.{of_drawn, drew}
 use Rattle.pool_fabric.specs.Stocks.{AreTold}

@@ -2,35 +2,22 @@
 use Rattle.std.proofs.Common.{◌≡◌, ℕ, suc, ◌+◌, List, [], ◌∷◌, ◌++◌, length, refl, sym, ap, ◌∙◌, arith, Some, length-append, map}
 use Rattle.slot_chain.specs.Slots.{slot_of}
 use Rattle.std.specs.Prelude.{slice_get, true}
-use Rattle.region_cut.specs.declared.slot.Slot.{Slot}
 use Rattle.batch_inbox.specs.States.{TakeState}
-use Rattle.pool_fabric.specs.Weights.{weigh}
+use Rattle.slot_balance.specs.Weights.{weigh}
 use Rattle.pool_fabric.specs.Names.{Names, box_at}
 use Rattle.pool_fabric.specs.Seats.{SeatState, NoneSent}
-use Rattle.pool_fabric.specs.Accounts.{of_buffer, of_batch, of_home, of_chunk, of_drawn, of_seats}
+use Rattle.pool_fabric.specs.Accounts.{of_drawn}
+use Rattle.slot_balance.proofs.Balanced.{new_balances}
 use Rattle.pool_fabric.specs.Stations.{StationState, IsSeated, IsStation, IsFresh}
 use Rattle.pool_fabric.specs.Opened.{IsColumn, AreColumns, AreNewTakes}
 use Rattle.pool_fabric.proofs.Columns.{get_front, get_seam}
-
-none_sent : (h : Slot → ℕ) (xs : List SeatState) → NoneSent xs → of_seats h xs ≡ 0
-none_sent h [] new = refl
-none_sent h (x ∷ xs) new =
-    let one = ap (weigh (of_batch h)) (new 0 x refl) in
-    let rest = none_sent h xs (λ k s at. new (suc k) s at) in omega arith
 
 nothing : {A : Type 0} (f : A → ℕ) (xs : List A) → xs ≡ [] → weigh f xs ≡ 0
 nothing f xs e = ap (weigh f) e
 
 pub fresh_keeps : (n : Names) (s : StationState) → IsFresh s → IsSeated n s → IsStation n s
 fresh_keeps n s f i = record {
-  slots = λ h.
-      let home = nothing (of_home h) s.desk.home f.home in
-      let cached = nothing (of_buffer h) s.desk.cached f.cached in
-      let seats = none_sent h s.seats f.seats in
-      let lent = nothing (of_buffer h) s.lent f.lent in
-      let drawn = nothing (of_chunk h) s.desk.drawn f.drawn in
-      let taken = nothing (of_batch h) s.take.taken f.taken in
-      let freed = nothing (of_buffer h) s.freed f.freed in omega arith;
+  slots = new_balances s.desk s.seats s.take.taken s.lent s.freed f.home f.cached f.drawn f.seats f.taken f.lent f.freed;
   chunks = λ g.
       let drawn = nothing (of_drawn g) s.desk.drawn f.drawn in
       let got = nothing g s.page.got f.got in omega arith;

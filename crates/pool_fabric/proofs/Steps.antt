@@ -8,21 +8,23 @@ use Rattle.pool_desk.specs.Desks.{DeskState}
 use Rattle.slot_chain.specs.Parcels.{ParcelState}
 use Rattle.pool_desk.specs.Steps.{Claims, AllocsClass, Frees, FreesAll, LendsWhole}
 use Rattle.pool_desk.specs.declared.freed.Freed.{Freed}
-use Rattle.pool_fabric.specs.Weights.{weigh}
+use Rattle.slot_balance.specs.Weights.{weigh}
 use Rattle.pool_fabric.specs.Names.{Names, box_at}
 use Rattle.pool_fabric.specs.Pages.{PageState, drawn_for, lent_on, lent_all_on, freed_on}
 use Rattle.pool_fabric.specs.Seats.{SeatState, AreSeatsBy}
 use Rattle.batch_inbox.specs.States.{TakeState}
 use Rattle.pool_fabric.specs.Accounts.{of_buffer, of_batch, of_home, of_chunk, of_drawn}
-use Rattle.pool_fabric.specs.Posts.{Posts, TakesSome}
+use Rattle.slot_balance.specs.Posts.{Posts, TakesSome}
 use Rattle.pool_fabric.specs.Calls.{ClaimsPart}
 use Rattle.pool_fabric.specs.Stations.{StationState, KeepsLoans, IsSeated, IsStation}
 use Rattle.slot_chain.specs.Slots.{slot_of}
-use Rattle.pool_fabric.proofs.Sums.{weigh-append, weigh-snoc}
+use Rattle.slot_balance.proofs.Sums.{weigh-append, weigh-snoc}
 use Rattle.pool_fabric.proofs.Columns.{map-snoc}
 use Rattle.std.proofs.lemmas.List.{map-append}
-use Rattle.pool_fabric.proofs.DeskSums.{claimed, claimed_chunk, gave, gave_owed, gave_chunks, gave_whole, got_all_back, got_all_back_drawn, got_back, got_back_drawn}
-use Rattle.pool_fabric.proofs.Posting.{length-sent_all, handled_stays, handled_sum, posted_sum}
+use Rattle.pool_fabric.proofs.DeskSums.{claimed_chunk, gave_chunks}
+use Rattle.slot_balance.proofs.DeskSums.{got_all_back_drawn, got_back_drawn}
+use Rattle.slot_balance.proofs.Balanced.{lends_balances, lends_whole_balances, frees_balances, frees_all_balances, takes_balances, posts_balances, claims_balances}
+use Rattle.slot_balance.proofs.Posting.{length-sent_all, handled_stays}
 
 -- the pages are of the same holder
 pub record AreOfOne (p q : PageState) : Type 0 where
@@ -68,13 +70,7 @@ reseat n s d page lent freed number digits limit same i = record {
 pub lends_keeps : (n : Names) (s : StationState) (class : ℕ) (b : Buffer) (d : DeskState) (page : PageState) (lent : List Buffer) → IsStation n s → AllocsClass s.desk class (Ok b) d
     → page ≡ lent_on s.page b.slot → lent ≡ s.lent ++ b ∷ [] → IsStation n (record s { desk = d; page = page; lent = lent })
 lends_keeps n s class b d page lent i a on more = record {
-  slots = λ h.
-      let p = i.slots h in
-      let e = gave h s.desk class b d a in
-      let o = gave_owed h s.desk class b d a in
-      let q = weigh-snoc (of_buffer h) s.lent b in
-      let z = ap (weigh (of_buffer h)) more in
-      omega arith;
+  slots = lends_balances s.desk s.seats s.take.taken s.lent s.freed lent class b d i.slots a more;
   chunks = λ g. gave_chunks g s.desk class b d a ∙ i.chunks g ∙ ap (λ (p : PageState). weigh g p.got) (sym on);
   loans = keeps_lent s.page page s.lent lent s.freed b i.loans on more;
   seated = reseat n s d page lent s.freed (ap (λ (x : DeskState). x.number) a.1) (ap (λ (x : DeskState). x.digits) a.1) (ap (λ (x : DeskState). x.limit) a.1)
@@ -91,13 +87,7 @@ keeps_lent_all p q lent more freed bs i e f = (
 pub lends_whole_keeps : (n : Names) (s : StationState) (class : ℕ) (bs : List Buffer) (d : DeskState) (page : PageState) (lent : List Buffer) → IsStation n s → LendsWhole s.desk class bs d
     → page ≡ lent_all_on s.page (map slot_of bs) → lent ≡ s.lent ++ bs → IsStation n (record s { desk = d; page = page; lent = lent })
 lends_whole_keeps n s class bs d page lent i a on more = record {
-  slots = λ h.
-      let p = i.slots h in
-      let e = gave_whole h s.desk class bs d a in
-      let o = ap (λ (x : DeskState). weigh (of_chunk h) x.drawn) a.same in
-      let q = weigh-append (of_buffer h) s.lent bs in
-      let z = ap (weigh (of_buffer h)) more in
-      omega arith;
+  slots = lends_whole_balances s.desk s.seats s.take.taken s.lent s.freed lent class bs d i.slots a more;
   chunks = λ g. ap (λ (x : DeskState). weigh (of_drawn g) x.drawn) a.same ∙ i.chunks g ∙ ap (λ (p : PageState). weigh g p.got) (sym on);
   loans = keeps_lent_all s.page page s.lent lent s.freed bs i.loans on more;
   seated = reseat n s d page lent s.freed (ap (λ (x : DeskState). x.number) a.same) (ap (λ (x : DeskState). x.digits) a.same) (ap (λ (x : DeskState). x.limit) a.same)
@@ -114,13 +104,7 @@ pub frees_keeps : (n : Names) (s : StationState) (b : Buffer) (f : Freed) (d : D
 frees_keeps n s b f d page freed i on more a =
     let same = got_back_drawn s.desk b f d a in
     record {
-      slots = λ h.
-          let p = i.slots h in
-          let e = got_back h s.desk b f d a in
-          let o = ap (λ l. weigh (of_chunk h) l) same.0 in
-          let q = weigh-snoc (of_buffer h) s.freed b in
-          let z = ap (weigh (of_buffer h)) more in
-          omega arith;
+      slots = frees_balances s.desk s.seats s.take.taken s.lent s.freed freed b f d i.slots a more;
       chunks = λ g. ap (λ l. weigh (of_drawn g) l) same.0 ∙ i.chunks g ∙ ap (λ (p : PageState). weigh g p.got) (sym on);
       loans = keeps_freed s.page page s.lent s.freed freed (b ∷ []) i.loans on more;
       seated = reseat n s d page s.lent freed same.1 same.2 same.3 (freed_holder s.page page _ on) i.seated;
@@ -132,13 +116,7 @@ pub frees_all_keeps : (n : Names) (s : StationState) (p : ParcelState) (f : Free
 frees_all_keeps n s p f d page freed i on more a =
     let same = got_all_back_drawn s.desk p f d a in
     record {
-      slots = λ h.
-          let w = i.slots h in
-          let e = got_all_back h s.desk p f d a in
-          let o = ap (λ l. weigh (of_chunk h) l) same.0 in
-          let q = weigh-append (of_buffer h) s.freed p.items in
-          let z = ap (weigh (of_buffer h)) more in
-          omega arith;
+      slots = frees_all_balances s.desk s.seats s.take.taken s.lent s.freed freed p f d i.slots a more;
       chunks = λ g. ap (λ l. weigh (of_drawn g) l) same.0 ∙ i.chunks g ∙ ap (λ (x : PageState). weigh g x.got) (sym on);
       loans = keeps_freed s.page page s.lent s.freed freed p.items i.loans on more;
       seated = reseat n s d page s.lent freed same.1 same.2 same.3 (freed_holder s.page page _ on) i.seated;
@@ -150,13 +128,7 @@ takes_keeps n s k d t i a =
     let same = handled_stays s.desk a.batches d a.handled in
     let r = reseat n s d s.page s.lent s.freed same.number same.digits same.limit (same_holder s.page) i.seated in
     record {
-      slots = λ h.
-          let p = i.slots h in
-          let e = handled_sum h s.desk a.batches d a.handled in
-          let o = ap (weigh (of_chunk h)) same.drawn in
-          let q = weigh-append (of_batch h) s.take.taken a.batches in
-          let z = ap (λ (x : TakeState). weigh (of_batch h) x.taken) a.taken in
-          omega arith;
+      slots = takes_balances s.desk s.seats s.take s.lent s.freed k d t i.slots a;
       chunks = λ g. ap (weigh (of_drawn g)) same.drawn ∙ i.chunks g;
       loans = i.loans;
       seated = record {
@@ -180,12 +152,7 @@ pub posts_keeps : (n : Names) (s : StationState) (d : DeskState) (seats : List S
 posts_keeps n s d seats i same are a =
     let r = reseat n s d s.page s.lent s.freed (ap (λ (x : DeskState). x.number) same) (ap (λ (x : DeskState). x.digits) same) (ap (λ (x : DeskState). x.limit) same) (same_holder s.page) i.seated in
     record {
-      slots = λ h.
-          let p = i.slots h in
-          let e = posted_sum h s.desk.digits s.desk.number s.desk.cached s.seats [] d.cached seats a in
-          let o = ap (λ (x : DeskState). weigh (of_chunk h) x.drawn) same in
-          let q = ap (λ (x : DeskState). weigh (of_home h) x.home) same in
-          omega arith;
+      slots = posts_balances s.desk s.seats s.take.taken s.lent s.freed d seats i.slots same a;
       chunks = λ g. ap (λ (x : DeskState). weigh (of_drawn g) x.drawn) same ∙ i.chunks g;
       loans = i.loans;
       seated = record {
@@ -209,7 +176,7 @@ pub claims_keeps : (n : Names) (s : StationState) (p : Part) (class : ℕ) (d : 
 claims_keeps n s p class d page i a more =
     let r = reseat n s d s.page s.lent s.freed (ap (λ (z : DeskState). z.number) a.same) (ap (λ (z : DeskState). z.digits) a.same) (ap (λ (z : DeskState). z.limit) a.same) (same_holder s.page) i.seated in
     record {
-      slots = λ h. let q = i.slots h in let e = claimed h s.desk p class d a in omega arith;
+      slots = claims_balances s.desk s.seats s.take.taken s.lent s.freed p class d i.slots a;
       chunks = λ g.
           let q = i.chunks g in
           let e = claimed_chunk g s.desk p class d a in

@@ -15,6 +15,7 @@ use Rattle.slot_chain.specs.contracts.buf.Buf as Buf
 use Rattle.digit_route.proofs.Travels.{buf_send, batch_send, empty_send, parcel_send as packed_send}
 use Rattle.pool_desk.proofs.Travels.{desk_send}
 use Rattle.pool_desk.specs.contracts.desk.Desk as Desk
+use Rattle.slot_balance.proofs.Travels.{notes_send}
 use Rattle.slot_audit.specs.contracts.drawn.Drawn as Drawn
 use Rattle.batch_inbox.specs.declared.mail.Mailbox as Mailbox
 use Rattle.batch_inbox.specs.declared.mail.Receiver as Receiver
@@ -25,8 +26,6 @@ use Rattle.batch_inbox.specs.contracts.seats.SendSeat as SendSeat
 use Rattle.pool_fabric.specs.declared.naming.Naming as Naming
 use Rattle.pool_fabric.specs.contracts.ledger.Ledger as Ledger
 use Rattle.pool_fabric.specs.contracts.ledger.Page as Page
-use Rattle.pool_fabric.specs.contracts.counted_notes.CountedNotes as CountedNotes
-use Rattle.pool_fabric.specs.contracts.counted_notes.CountedNotes.TheInside as InNotes
 use Rattle.pool_fabric.specs.contracts.station.Station as Station
 use Rattle.pool_fabric.specs.contracts.station.Station.TheInside as InStation
 use Rattle.pool_fabric.specs.contracts.held.HeldStation as HeldStation
@@ -38,7 +37,6 @@ use Rattle.pool_fabric.specs.contracts.stock.Stock as Stock
 use Rattle.pool_fabric.specs.contracts.store.Store as Store
 use Rattle.pool_fabric.specs.contracts.fabric.Fabric as Fabric
 use Rattle.pool_fabric.proofs.named.Named.TheSendSync.{the_send as named_send, the_sync as named_sync}
-use Rattle.pool_fabric.proofs.notes.Notes.TheSendSync.{the_send as notes_of}
 
 -- a struct crosses by its fields
 pub send_fields : (D : Declared) → AllSend (fields D) → IsSend (row D)
@@ -67,9 +65,6 @@ parcel_send r X j = view_send _ _ _ _ _ (send_fields (InParcel.the_type r X j) (
 
 page_send : IsSend Page.the_row
 page_send = search (sendable, crosses, pass_send, loans_send) depth 40 fits 6000
-
-notes_send : (a : NamedLft) → IsSend (CountedNotes.the_row (Buf.the_row a))
-notes_send a = view_send _ _ _ _ _ (send_fields (InNotes.the_type (Buf.the_row a)) (notes_of (Buf.the_row a) (buf_send a), (search (sendable, crosses) depth 40 fits 6000, tt)))
 
 -- a desk alone on its cache lines
 padded_send : (a : NamedLft) → IsSend (CachePadded.the_row (Desk.the_row a))

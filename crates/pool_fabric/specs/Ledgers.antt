@@ -4,7 +4,7 @@ use mathlib.Core.Option.{some}
 use lib.ListN.{get_elem?}
 use Rattle.pool_fabric.specs.declared.ledger.Hand.{Hand}
 use Rattle.pool_fabric.specs.declared.ledger.DrawnChunk.{DrawnChunk}
-use Rattle.pool_fabric.specs.Weights.{weigh}
+use Rattle.slot_balance.specs.Weights.{weigh}
 
 abbrev pub hand : ℕ → List DrawnChunk → List DrawnChunk → Hand
 hand parts gave got = record { parts = parts; gave = gave; got = got }

@@ -1,4 +1,3 @@
-pub mod Weights
 pub mod Limits
 pub mod Names
 pub mod Ledgers
@@ -7,7 +6,6 @@ pub mod Seats
 pub mod Accounts
 pub mod Stations
 pub mod Calls
-pub mod Posts
 pub mod Stocks
 pub mod Whole
 pub mod Gathered

@@ -7,7 +7,7 @@ use Rattle.slot_chain.specs.Slots.{slot_of}
 use Rattle.slot_audit.specs.Audit.{IsDrawnSlot}
 use Rattle.slot_audit.specs.declared.fault.Fault.{Fault}
 use Rattle.slot_audit.specs.declared.fault.Fault.TheVariants.{Stranger, Doubled, Missing, NoMemory}
-use Rattle.pool_fabric.specs.Weights.{weigh}
+use Rattle.slot_balance.specs.Weights.{weigh}
 
 -- 1 where the numbers are the same
 abbrev pub is_number : ℕ → ℕ → ℕ

@@ -5,12 +5,13 @@ use Rattle.slot_chain.specs.Buffer.{Buffer}
 use Rattle.slot_chain.specs.Slots.{slot_of}
 use Rattle.pool_desk.specs.Desks.{DeskState, IdleState}
 use Rattle.batch_inbox.specs.States.{TakeState}
-use Rattle.pool_fabric.specs.Weights.{weigh}
+use Rattle.slot_balance.specs.Weights.{weigh}
 use Rattle.pool_fabric.specs.Names.{Names, box_at}
 use Rattle.pool_fabric.specs.Pages.{PageState}
 use Rattle.pool_fabric.specs.Seats.{SeatState, AreSeatsBy, NoneSent}
 use Rattle.pool_fabric.specs.declared.ledger.DrawnChunk.{DrawnChunk}
-use Rattle.pool_fabric.specs.Accounts.{of_buffer, of_batch, of_seats, held, owed, drew}
+use Rattle.slot_balance.specs.Balances.{Balances}
+use Rattle.pool_fabric.specs.Accounts.{drew}
 
 -- the desk, its seats, its page of the ledger, and the buffers that it lent out and that were freed to it
 pub record StationState : Type 0 where
@@ -33,12 +34,9 @@ resting d = record {
   cached = [];
 }
 
--- However slots are weighed: what a station has, sent and lent is all slots of the chunks that it drew,
--- what it took and what was freed to it.
+-- nothing is lost at its desk, and nothing is there twice
 abbrev pub KeepsSlots : StationState → Type 0
-KeepsSlots s = (h : Slot → ℕ)
-    → held h s.desk + of_seats h s.seats + weigh (of_buffer h) s.lent
-    ≡ owed h s.desk + weigh (of_batch h) s.take.taken + weigh (of_buffer h) s.freed
+KeepsSlots s = Balances s.desk s.seats s.take.taken s.lent s.freed
 
 -- However chunks and their classes are weighed: those that it drew are those that it got.
 abbrev pub KeepsChunks : StationState → Type 0

@@ -3,7 +3,7 @@ use Rattle.std.specs.Prelude.{◌≡◌, ◌≢◌, ℕ, ◌+◌, ◌<◌, ◌�
 use Rattle.region_cut.specs.Limits.{chunk_limit}
 use Rattle.region_cut.specs.declared.part.Part.{Part}
 use Rattle.slot_audit.specs.Audit.{class_noted}
-use Rattle.pool_fabric.specs.Weights.{weigh}
+use Rattle.slot_balance.specs.Weights.{weigh}
 use Rattle.pool_fabric.specs.declared.ledger.DrawnChunk.{DrawnChunk}
 use Rattle.pool_fabric.specs.Accounts.{of_part, of_entry}
 use Rattle.pool_fabric.specs.Ledgers.{whole}

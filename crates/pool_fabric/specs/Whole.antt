@@ -7,7 +7,7 @@ use Rattle.slot_chain.specs.Buffer.{Buffer}
 use Rattle.digit_route.specs.States.{BatchState}
 use Rattle.slot_audit.specs.Audit.{class_noted}
 use Rattle.pool_desk.specs.Desks.{DeskState}
-use Rattle.pool_fabric.specs.Weights.{weigh}
+use Rattle.slot_balance.specs.Weights.{weigh}
 use Rattle.pool_fabric.specs.Accounts.{of_buffer, of_batch, of_part, held, owed, drawn_by}
 use Rattle.pool_fabric.specs.Stations.{StationState}
 

@@ -1,7 +1,7 @@
 //! The seats at one inbox.
 ghost use Rattle.std.specs.Prelude.{◌≡◌, ℕ, ◌+◌, length, map, IfOk};
 ghost use Rattle.region_cut.specs.declared.slot.Slot.{Slot};
-ghost use Rattle.pool_fabric.specs.Weights.{weigh};
+ghost use Rattle.slot_balance.specs.Weights.{weigh};
 ghost use Rattle.pool_fabric.specs.Accounts.{of_seats};
 ghost use Rattle.pool_fabric.specs.Seats.{seat_of};
 ghost use Rattle.pool_fabric.specs.Gathered.{AreRows, AreAt};

@@ -3,10 +3,10 @@ ghost use Rattle.std.specs.Prelude.{◌≡◌, ◌<◌, ◌≤◌, [], ◌++◌,
 ghost use Rattle.std.specs.Prelude.{MatchOption, MatchResult};
 ghost use Rattle.slot_chain.specs.Buffer.{Buffer};
 ghost use Rattle.digit_route.specs.Digits.{common};
-ghost use Rattle.pool_fabric.specs.Limits.{most_taken};
+ghost use Rattle.slot_balance.specs.Limits.{most_taken};
 ghost use Rattle.pool_fabric.specs.Names.{box_at};
 ghost use Rattle.pool_fabric.specs.Seats.{seat_of, AreSeatsBy, AreBoxes};
-ghost use Rattle.pool_fabric.specs.Posts.{Posts, SendsOrKeeps, TakesSome, sent_at};
+ghost use Rattle.slot_balance.specs.Posts.{Posts, SendsOrKeeps, TakesSome, sent_at};
 
 use crate::ledger::Ledger;
 use crate::named::Named;

@@ -5,7 +5,6 @@ ghost use Rattle.pool_fabric.specs.Names.{box_at};
 ghost use Rattle.pool_fabric.specs.Gathered.{AddsStation, Closes};
 
 use crate::column::{Column, last_column};
-use crate::counted_notes::CountedNotes;
 use crate::drained::drained;
 use crate::held::HeldStation;
 use crate::ledger::{Ledger, Page};
@@ -15,6 +14,7 @@ use crate::row::Row;
 use batch_inbox::{Mail, Receiver, Sender};
 use digit_route::Batch;
 use pool_desk::Desk;
+use slot_balance::CountedNotes;
 use slot_chain::Buf;
 use std::alloc::{AllocError, Global};
 use std::marker::Model;

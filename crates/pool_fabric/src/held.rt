@@ -7,7 +7,6 @@ ghost use Rattle.pool_desk.specs.HomesState.{HasClass};
 ghost use Rattle.pool_fabric.specs.Calls.{Lends, LendsClass, LendsParcel, TakesAllBack, TakesBack};
 
 use crate::buffer::Buffer;
-use crate::counted_notes::CountedNotes;
 use crate::ledger::Page;
 use crate::named::Named;
 use crate::naming::Naming;
@@ -18,6 +17,7 @@ use crossbeam_utils::CachePadded;
 use digit_route::Digits;
 use pool_desk::{Desk, DeskError, Freed};
 use region_cut::Class;
+use slot_balance::CountedNotes;
 use slot_chain::{Buf, NoMemory};
 use std::alloc::Global;
 use std::fmt;

@@ -2,12 +2,12 @@
 ghost use Rattle.std.specs.Prelude.{◌≡◌, IfOk};
 ghost use Rattle.pool_fabric.specs.Gathered.{AddsEach};
 
-use crate::counted_notes::CountedNotes;
 use crate::gathered::Gathered;
 use crate::held::HeldStation;
 use crate::naming::Naming;
 use batch_inbox::{Receiver, Sender};
 use pool_desk::Desk;
+use slot_balance::CountedNotes;
 use slot_chain::Buf;
 use std::alloc::AllocError;
 use std::fmt;

@@ -10,7 +10,7 @@ ghost use Rattle.slot_chain.specs.Slots.{slot_of};
 ghost use Rattle.pool_fabric.specs.Ledgers.{whole};
 ghost use Rattle.pool_fabric.specs.declared.ledger.DrawnChunk.{DrawnChunk};
 ghost use Rattle.pool_fabric.specs.Pages.{PageState, drawn_for, new_page};
-ghost use Rattle.pool_fabric.specs.Weights.{weigh};
+ghost use Rattle.slot_balance.specs.Weights.{weigh};
 
 use crossbeam_queue::protocol::{Join, Lesson, Protocol, Split};
 use crossbeam_queue::{RuledSegQueue, SegPass};

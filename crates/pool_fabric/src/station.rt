@@ -5,7 +5,6 @@ ghost use Rattle.pool_fabric.specs.Pages.{new_page};
 ghost use Rattle.pool_fabric.specs.Seats.{seat_of, AreSeatsBy, NoneSent};
 ghost use Rattle.pool_fabric.specs.Stations.{resting};
 
-use crate::counted_notes::CountedNotes;
 use crate::held::HeldStation;
 use crate::ledger::Page;
 use crate::named::Named;
@@ -13,6 +12,7 @@ use crate::naming::Naming;
 use batch_inbox::{Receiver, Sender};
 use crossbeam_utils::CachePadded;
 use pool_desk::{Desk, IdleDesk};
+use slot_balance::CountedNotes;
 use slot_chain::{Buf, NoMemory};
 use std::alloc::Global;
 use std::fmt;

@@ -5,7 +5,7 @@ ghost use Rattle.pool_fabric.specs.Losses.{AreOnce};
 ghost use Rattle.pool_fabric.specs.Stocks.{GivesPart, IsFull};
 ghost use Rattle.pool_fabric.specs.Pages.{drawn_for};
 ghost use Rattle.pool_fabric.specs.Accounts.{of_part};
-ghost use Rattle.pool_fabric.specs.Weights.{weigh};
+ghost use Rattle.slot_balance.specs.Weights.{weigh};
 
 use crate::ledger::{Ledger, Page};
 use crate::named::Named;

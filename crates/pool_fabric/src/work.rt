@@ -4,8 +4,8 @@ ghost use Rattle.region_cut.specs.Classes.{classes_of};
 ghost use Rattle.pool_desk.specs.HomesState.{LacksClass};
 ghost use Rattle.pool_desk.specs.Desks.{profile_at};
 ghost use Rattle.pool_fabric.specs.Calls.{ClaimsPart};
-ghost use Rattle.pool_fabric.specs.Limits.{most_taken};
-ghost use Rattle.pool_fabric.specs.Posts.{Posts, TakesSome};
+ghost use Rattle.slot_balance.specs.Limits.{most_taken};
+ghost use Rattle.slot_balance.specs.Posts.{Posts, TakesSome};
 
 use crate::fabric::Fabric;
 use crate::held::HeldStation;

@@ -1,7 +1,7 @@
 -- What a look into the inbox leaves as it was.
 use Rattle.std.proofs.Common.{◌≡◌, ℕ, ap, ◌∙◌}
-use Rattle.pool_fabric.proofs.Posting.{handled_stays}
-use Rattle.pool_fabric.specs.Posts.{TakesSome}
+use Rattle.slot_balance.proofs.Posting.{handled_stays}
+use Rattle.slot_balance.specs.Posts.{TakesSome}
 use Rattle.pool_fabric.specs.Stations.{StationState}
 
 -- a step that lent and freed nothing

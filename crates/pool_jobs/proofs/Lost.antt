@@ -2,7 +2,7 @@
 use Rattle.std.proofs.Common.{◌≡◌, ℕ, suc, ◌+◌, ◌-◌, ◌*◌, ◌/◌, ◌%◌, ◌<◌, ◌≤◌, ap, ap₂, ◌∙◌, suc-mul, List, length, arith}
 use Rattle.slot_chain.specs.Buffer.{Buffer}
 use Rattle.pool_fabric.specs.Whole.{FreesNoMore}
-use Rattle.pool_fabric.proofs.Sums.{weigh-ones}
+use Rattle.slot_balance.proofs.Sums.{weigh-ones}
 use Rattle.std.proofs.Math.Nat.{mod-add-mod, mod-add-div', mod-lt, add-mul-mod_self_right}
 
 shape : (w a f r q m : ℕ) → r + q ≡ f → m ≡ q + w → r < w → f ≤ a → a + (w - r) ≡ (a - f) + m

@@ -1,6 +1,6 @@
 -- What is told when all work has ended.
 use Rattle.std.specs.Prelude.{◌≡◌, ℕ, ◌+◌, List, length}
-use Rattle.pool_fabric.specs.Weights.{weigh}
+use Rattle.slot_balance.specs.Weights.{weigh}
 use Rattle.pool_fabric.specs.Accounts.{owed}
 use Rattle.pool_fabric.specs.Audited.{Audited, slots_found}
 use Rattle.pool_fabric.specs.Losses.{FindsAtMostOnce, TellsLosses, TellsNone}

@@ -2,7 +2,7 @@
 ghost use Rattle.std.specs.Prelude.{◌≡◌, ◌≢◌, ◌<◌, ◌≤◌, ◌^◌, ◌↔◌, [], ◌∷◌, ◌++◌, length, IsTrue, IfSome, IfOk, MatchOption};
 ghost use Rattle.region_cut.specs.Classes.{size_of, classes_of, largest_of, NoClassFor};
 ghost use Rattle.digit_route.specs.Profiles.{profile_of};
-ghost use Rattle.pool_fabric.specs.Limits.{most_taken};
+ghost use Rattle.slot_balance.specs.Limits.{most_taken};
 ghost use Rattle.pool_jobs.specs.Serving.{IsClassFor, Keeps, SameDesk, Serves, ServesClass};
 ghost use Rattle.pool_jobs.specs.declared.error.PoolError.TheVariants.{TooLarge, UsedUp};
 

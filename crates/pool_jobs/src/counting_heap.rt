@@ -2,7 +2,7 @@
 ghost use Rattle.std.specs.Prelude.{◌≡◌, ◌≢◌, ◌<◌, ◌≤◌, ◌↔◌, ◌+◌, [], ◌∷◌, ◌++◌, map, replicate, IsTrue, IfOk, IfSome, MatchResult};
 ghost use Rattle.region_cut.specs.Classes.{size_of, largest_of};
 ghost use Rattle.digit_route.specs.Profiles.{profile_of};
-ghost use Rattle.pool_fabric.specs.Limits.{most_taken};
+ghost use Rattle.slot_balance.specs.Limits.{most_taken};
 ghost use Rattle.pool_jobs.specs.declared.error.PoolError.TheVariants.{TooLarge, UsedUp};
 ghost use Rattle.slot_chain.specs.Counts.{capped};
 ghost use Rattle.slot_chain.specs.Filling.{data_of};

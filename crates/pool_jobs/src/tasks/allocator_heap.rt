@@ -3,7 +3,7 @@ ghost use Rattle.std.specs.Prelude.{◌≡◌, ◌≢◌, ◌<◌, ◌≤◌, �
 ghost use Rattle.region_cut.specs.Classes.{size_of, largest_of};
 ghost use Rattle.digit_route.specs.Profiles.{profile_of};
 ghost use Rattle.slot_chain.specs.Filling.{data_of};
-ghost use Rattle.pool_fabric.specs.Limits.{most_taken};
+ghost use Rattle.slot_balance.specs.Limits.{most_taken};
 ghost use Rattle.pool_jobs.specs.Bursts.{Fills};
 ghost use Rattle.pool_jobs.specs.Serving.{Keeps, SameDesk, Serves};
 ghost use Rattle.pool_jobs.specs.declared.error.PoolError.TheVariants.{TooLarge, UsedUp};

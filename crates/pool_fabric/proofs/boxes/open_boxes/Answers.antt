@@ -1,7 +1,7 @@
 use Rattle.std.proofs.Common.{◌+◌, [], ◌∷◌, map, sym, ap, ◌∙◌, length-append}
 use Rattle.pool_fabric.specs.Gathered.{taking_of}
 use Rattle.pool_fabric.specs.Seats.{seat_of}
-use Rattle.pool_fabric.proofs.Posting.{length-mapped}
+use Rattle.slot_balance.proofs.Posting.{length-mapped}
 use Rattle.pool_fabric.proofs.Columns.{map-snoc}
 use Rattle.pool_fabric.proofs.NewBoxes.{opened_more, new_seats}
 use Rattle.pool_fabric.proofs.boxes.open_boxes.Goals as goal

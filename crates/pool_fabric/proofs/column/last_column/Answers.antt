@@ -3,8 +3,8 @@ use Rattle.pool_fabric.specs.Names.{box_at}
 use Rattle.pool_fabric.specs.Seats.{SeatState, seat_of, AreSeatsBy}
 use Rattle.pool_fabric.specs.Accounts.{of_seat, of_seats}
 use Rattle.pool_fabric.specs.Gathered.{AreAt}
-use Rattle.pool_fabric.proofs.Sums.{weigh-snoc}
-use Rattle.pool_fabric.proofs.Posting.{length-mapped}
+use Rattle.slot_balance.proofs.Sums.{weigh-snoc}
+use Rattle.slot_balance.proofs.Posting.{length-mapped}
 use Rattle.pool_fabric.proofs.Columns.{each_more, row_popped, row_here, map-snoc}
 use Rattle.pool_fabric.proofs.column.last_column.Goals as goal
 

@@ -1,5 +1,5 @@
 use Rattle.std.proofs.Common.{◌≡◌, ℕ, ◌+◌, ◌++◌, length, map}
-use Rattle.pool_fabric.specs.Weights.{weigh}
+use Rattle.slot_balance.specs.Weights.{weigh}
 use Rattle.region_cut.specs.declared.slot.Slot.{Slot}
 use Rattle.pool_fabric.specs.Accounts.{of_seats}
 use Rattle.pool_fabric.specs.Gathered.{AreRows, AreAt}

@@ -4,7 +4,7 @@ use Rattle.std.proofs.lemmas.List.Elements.{filter-append}
 use Rattle.digit_route.specs.States.{BatchState}
 use Rattle.batch_inbox.specs.Views.{batches_of}
 use Rattle.pool_fabric.specs.Seats.{SeatState, seat_of}
-use Rattle.pool_fabric.proofs.Posting.{get_map, length-mapped}
+use Rattle.slot_balance.proofs.Posting.{get_map, length-mapped}
 use Rattle.pool_fabric.proofs.Columns.{get_mapped}
 use Rattle.pool_fabric.proofs.Cancels.{cancels}
 use Rattle.pool_fabric.proofs.drained.drained.Goals as goal

@@ -1,13 +1,13 @@
 use Rattle.std.proofs.Common.{refl, sym, ap, ◌∙◌, arith, subst}
 use Rattle.pool_fabric.specs.Pages.{PageState}
-use Rattle.pool_fabric.specs.Weights.{weigh}
+use Rattle.slot_balance.specs.Weights.{weigh}
 use Rattle.pool_fabric.specs.Accounts.{of_entry}
 use Rattle.pool_fabric.specs.Stocks.{AreTold}
 use Rattle.pool_fabric.specs.Faults.{IsGatherFault}
 use Rattle.pool_fabric.proofs.AllOf.{same_all}
 use Rattle.pool_fabric.proofs.Losses.{at_most_once}
 use Rattle.pool_fabric.proofs.Lacking.{lacks_of, passed_on}
-use Rattle.pool_fabric.proofs.Posting.{get_map, length-mapped}
+use Rattle.slot_balance.proofs.Posting.{get_map, length-mapped}
 use Rattle.pool_fabric.proofs.found.gather.Goals as goal
 
 pub close_all-requires : goal.close_all-requires

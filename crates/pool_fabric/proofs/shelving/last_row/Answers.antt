@@ -3,7 +3,7 @@ use Rattle.std.specs.Prelude.{true}
 use Rattle.pool_fabric.specs.Names.{box_at}
 use Rattle.pool_fabric.specs.Seats.{SeatState, seat_of, AreSeatsBy, NoneSent}
 use Rattle.pool_fabric.specs.Opened.{IsColumn}
-use Rattle.pool_fabric.proofs.Posting.{length-mapped}
+use Rattle.slot_balance.proofs.Posting.{length-mapped}
 use Rattle.pool_fabric.proofs.Columns.{each_more, map-snoc}
 use Rattle.pool_fabric.proofs.Opens.{column_here, column_popped}
 use Rattle.pool_fabric.proofs.shelving.last_row.Goals as goal

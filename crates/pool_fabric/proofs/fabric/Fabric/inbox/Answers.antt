@@ -1,7 +1,7 @@
 use Rattle.std.proofs.Common.{◌≡◌, ◌<◌, length, refl, sym, ap, ◌∙◌, arith, subst}
 use Rattle.std.proofs.lemmas.Option.{slice_get_read}
 use Rattle.pool_fabric.specs.Names.{box_at}
-use Rattle.pool_fabric.proofs.Posting.{get_map, length-mapped}
+use Rattle.slot_balance.proofs.Posting.{get_map, length-mapped}
 use Rattle.pool_fabric.proofs.fabric.Fabric.inbox.Goals as goal
 
 pub returns : goal.returns

@@ -1,6 +1,6 @@
 use Rattle.std.proofs.Common.{sym, ap, ◌∙◌, arith}
 use Rattle.pool_fabric.specs.Names.{Names}
-use Rattle.pool_fabric.specs.Weights.{weigh}
+use Rattle.slot_balance.specs.Weights.{weigh}
 use Rattle.pool_fabric.specs.Losses.{is_number}
 use Rattle.pool_fabric.proofs.Losses.{apart_once}
 use Rattle.pool_fabric.proofs.NewBoxes.{named_chunks}

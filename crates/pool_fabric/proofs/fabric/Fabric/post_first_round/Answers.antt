@@ -5,8 +5,9 @@ use Rattle.digit_route.specs.Route.{GivesBucket}
 use Rattle.digit_route.specs.States.{RefusedState}
 use Rattle.pool_desk.specs.Desks.{DeskState}
 use Rattle.pool_fabric.specs.Seats.{seat_of}
-use Rattle.pool_fabric.specs.Posts.{Posts}
-use Rattle.pool_fabric.proofs.Posting.{posts_none, posts_more, seats_kept, batch_smaller}
+use Rattle.slot_balance.specs.Posts.{Posts}
+use Rattle.slot_balance.proofs.Posting.{posts_none, posts_more, batch_smaller}
+use Rattle.pool_fabric.proofs.Seated.{seats_kept}
 use Rattle.pool_fabric.proofs.fabric.Fabric.post_first_round.Goals as goal
 
 pub loop-batch-init : goal.loop-batch-init

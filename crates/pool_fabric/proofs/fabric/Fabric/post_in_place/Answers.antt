@@ -6,8 +6,8 @@ use Rattle.slot_chain.specs.Buffer.{Buffer}
 use Rattle.digit_route.specs.Digits.{Scheme}
 use Rattle.pool_desk.specs.Desks.{DeskState}
 use Rattle.pool_fabric.specs.Seats.{SeatState, seat_of}
-use Rattle.pool_fabric.specs.Posts.{Posts}
-use Rattle.pool_fabric.proofs.Posting.{posts_end, posts_then}
+use Rattle.slot_balance.specs.Posts.{Posts}
+use Rattle.slot_balance.proofs.Posting.{posts_end, posts_then}
 use Rattle.pool_fabric.proofs.fabric.Fabric.post_in_place.Goals.{then-is_empty, else-is_empty}
 use Rattle.pool_fabric.proofs.fabric.Fabric.post_in_place.Goals as goal
 

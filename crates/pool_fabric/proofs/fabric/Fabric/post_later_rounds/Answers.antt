@@ -2,8 +2,8 @@ use Rattle.std.proofs.Common.{◌≡◌, [], List, map, ap, sym, subst}
 use Rattle.slot_chain.specs.Buffer.{Buffer}
 use Rattle.digit_route.specs.States.{RefusedState}
 use Rattle.pool_fabric.specs.Seats.{seat_of}
-use Rattle.pool_fabric.specs.Posts.{Posts}
-use Rattle.pool_fabric.proofs.Posting.{posts_none}
+use Rattle.slot_balance.specs.Posts.{Posts}
+use Rattle.slot_balance.proofs.Posting.{posts_none}
 use Rattle.pool_fabric.proofs.fabric.Fabric.post_later_rounds.Goals as goal
 
 pub returns-then-is_posted-clause-posts : goal.returns-then-is_posted-clause-posts

@@ -1,8 +1,8 @@
 use Rattle.std.proofs.Common.{◌≡◌, ◌<◌, [], ◌∷◌, ◌++◌, length, map, refl, sym, ap, ◌∙◌, arith, subst}
 use Rattle.std.proofs.lemmas.Option.{slice_get_read}
-use Rattle.pool_fabric.specs.Posts.{sent_at}
+use Rattle.slot_balance.specs.Posts.{sent_at}
 use Rattle.pool_fabric.specs.Seats.{seat_of}
-use Rattle.pool_fabric.proofs.Posting.{get_map, map_sent}
+use Rattle.slot_balance.proofs.Posting.{get_map, map_sent}
 use Rattle.pool_fabric.proofs.fabric.Fabric.post_one.Goals as goal
 
 pub post-requires : goal.post-requires

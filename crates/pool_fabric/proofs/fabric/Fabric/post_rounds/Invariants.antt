@@ -1,8 +1,8 @@
 use Rattle.std.proofs.Common.{◌≡◌, map}
 use Rattle.slot_chain.specs.Buffer.{Buffer}
 use Rattle.pool_fabric.specs.Seats.{seat_of, AreSeatsBy}
-use Rattle.pool_fabric.specs.Posts.{Posts}
-use Rattle.pool_fabric.specs.Weights.{weigh}
+use Rattle.slot_balance.specs.Posts.{Posts}
+use Rattle.slot_balance.specs.Weights.{weigh}
 use Rattle.pool_fabric.proofs.fabric.Fabric.post_rounds.Given as goal
 
 abbrev pub invariant-loop-batch : goal.invariant-loop-batch

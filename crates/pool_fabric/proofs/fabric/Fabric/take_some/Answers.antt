@@ -3,7 +3,7 @@ use Rattle.std.proofs.lemmas.Option.{slice_get_read}
 use Rattle.batch_inbox.specs.declared.place.Place.{Place}
 use Rattle.pool_desk.specs.Desks.{DeskState}
 use Rattle.pool_fabric.specs.Names.{box_at}
-use Rattle.pool_fabric.proofs.Posting.{counts_more, counts_none, get_map, takes_more}
+use Rattle.slot_balance.proofs.Posting.{counts_more, counts_none, get_map, takes_more}
 use Rattle.pool_fabric.proofs.fabric.Fabric.take_some.Goals as goal
 
 pub take-requires : goal.take-requires

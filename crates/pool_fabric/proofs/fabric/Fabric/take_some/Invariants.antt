@@ -1,6 +1,6 @@
 use Rattle.std.proofs.Common.{◌≡◌, ◌<◌, length}
-use Rattle.pool_fabric.specs.Limits.{most_handled}
-use Rattle.pool_fabric.specs.Posts.{TakesSome, buffers_in}
+use Rattle.slot_balance.specs.Limits.{most_handled}
+use Rattle.slot_balance.specs.Posts.{TakesSome, buffers_in}
 use Rattle.pool_fabric.proofs.fabric.Fabric.take_some.Given as goal
 
 abbrev pub invariant-loop-taken : goal.invariant-loop-taken

@@ -1,8 +1,8 @@
 use Rattle.std.proofs.Common.{[], length, map, ap, ◌∙◌, subst}
 use Rattle.crossbeam_utils.specs.Padded.{padded_value}
 use Rattle.pool_fabric.specs.Seats.{seat_of}
-use Rattle.pool_fabric.specs.Posts.{Posts}
-use Rattle.pool_fabric.proofs.Posting.{written}
+use Rattle.slot_balance.specs.Posts.{Posts}
+use Rattle.slot_balance.proofs.Posting.{written}
 use Rattle.pool_fabric.proofs.Steps.{posts_written}
 use Rattle.pool_fabric.proofs.held.HeldStation.post.Goals as goal
 

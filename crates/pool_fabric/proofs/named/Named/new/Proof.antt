@@ -28,7 +28,7 @@ use denote.Triple.Spec.{Meets, triple_of}
 use denote.Triple.Table.{entered}
 use denote.Triple.Walked.{Stays, walk_of, ends_at, walk_Meets}
 use Rattle.std.specs.contracts.marker.PhantomData as Mark
-use Rattle.pool_fabric.proofs.Walks.{none, one, one_made}
+use Rattle.slot_balance.proofs.Walks.{none, one, one_made}
 use Rattle.pool_fabric.specs.contracts.named.Named as Named
 use Rattle.pool_fabric.specs.contracts.named.Named.new as F
 use Rattle.pool_fabric.specs.contracts.named.Named.new.Key.{name as #self}

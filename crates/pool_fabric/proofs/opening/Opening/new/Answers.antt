@@ -1,6 +1,6 @@
 use Rattle.std.proofs.Common.{map, ◌∙◌}
 use Rattle.pool_fabric.specs.Gathered.{taking_of}
-use Rattle.pool_fabric.proofs.Posting.{length-mapped}
+use Rattle.slot_balance.proofs.Posting.{length-mapped}
 use Rattle.pool_fabric.proofs.Stocked.{rises, are_chunks, is_full}
 use Rattle.pool_fabric.proofs.NewBoxes.{opening_of}
 use Rattle.pool_fabric.proofs.opening.Opening.new.Goals as goal

@@ -2,7 +2,7 @@ use Rattle.std.proofs.Common.{refl, ap, ◌∙◌}
 use Rattle.crossbeam_utils.specs.Padded.{padded_value}
 use Rattle.pool_fabric.specs.Pages.{PageState}
 use Rattle.pool_fabric.specs.Seats.{seat_of}
-use Rattle.pool_fabric.proofs.Posting.{length-mapped}
+use Rattle.slot_balance.proofs.Posting.{length-mapped}
 use Rattle.pool_fabric.proofs.Opens.{fresh_keeps}
 use Rattle.pool_fabric.proofs.station.Station.new.Goals as goal
 

@@ -3,9 +3,9 @@ use Rattle.pool_fabric.specs.declared.ledger.DrawnChunk.{DrawnChunk}
 use Rattle.pool_fabric.specs.Pages.{PageState, drawn_for}
 use Rattle.pool_fabric.specs.Stocks.{AreTold}
 use Rattle.pool_fabric.proofs.Stocked.{gives_apart, gives_undrawn, gives_told}
-use Rattle.pool_fabric.specs.Weights.{weigh}
+use Rattle.slot_balance.specs.Weights.{weigh}
 use Rattle.pool_fabric.specs.Accounts.{of_part, of_entry}
-use Rattle.pool_fabric.proofs.Sums.{weigh-snoc}
+use Rattle.slot_balance.proofs.Sums.{weigh-snoc}
 use Rattle.pool_fabric.proofs.store.Store.deal.Goals as goal
 
 pub invariant_of-self-2 : goal.invariant_of-self-2

@@ -7,8 +7,8 @@ use Rattle.digit_route.specs.States.{BatchState}
 use Rattle.pool_desk.specs.Desks.{DeskState}
 use Rattle.pool_desk.specs.Steps.{Handles}
 use Rattle.batch_inbox.specs.States.{TakeState}
-use Rattle.pool_fabric.specs.Limits.{most_handled}
-use Rattle.pool_fabric.specs.Seats.{SeatState}
+use Rattle.slot_balance.specs.Limits.{most_handled}
+use Rattle.slot_balance.specs.Seats.{SeatState}
 
 -- the buffers of several batches
 abbrev pub buffers_in : List BatchState → List Buffer

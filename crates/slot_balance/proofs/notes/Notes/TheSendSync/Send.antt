@@ -1,7 +1,7 @@
 -- Notes own nothing, so they may go to another thread.
 use denote.RattleType.{RattleType}
 use denote.Param.Send.{IsSend, owning_send, sendable}
-use Rattle.pool_fabric.specs.contracts.notes.Notes.{the_row, the_type}
+use Rattle.slot_balance.specs.contracts.notes.Notes.{the_row, the_type}
 
 pub send : (A : RattleType) → IsSend A → IsSend (the_row A)
 send A a = owning_send (the_type A) (search sendable, tt) (λ d. tt) (λ k x w. tt)

@@ -15,14 +15,13 @@ use Rattle.pool_desk.specs.declared.counts.Counts.{Counts}
 use Rattle.pool_desk.specs.Steps.{CountsOf, Handles, others, own}
 use Rattle.slot_chain.specs.Counts.{capped}
 use Rattle.batch_inbox.specs.States.{TakeState}
-use Rattle.pool_fabric.specs.Weights.{weigh}
-use Rattle.pool_fabric.specs.Names.{Names}
-use Rattle.pool_fabric.specs.Seats.{SeatState, AreSeatsBy}
-use Rattle.pool_fabric.specs.Accounts.{of_buffer, of_batch, of_seats, held}
-use Rattle.pool_fabric.specs.Limits.{most_handled}
-use Rattle.pool_fabric.specs.Posts.{before_last, buffers_in, sent_at, sent_all, Posts, SendsOrKeeps, HandlesAll, TakesSome}
-use Rattle.pool_fabric.proofs.Sums.{weigh-append, weigh-snoc, weigh-permutation}
-use Rattle.pool_fabric.proofs.DeskSums.{handled}
+use Rattle.slot_balance.specs.Weights.{weigh}
+use Rattle.slot_balance.specs.Seats.{SeatState}
+use Rattle.slot_balance.specs.Accounts.{of_buffer, of_batch, of_seats, held}
+use Rattle.slot_balance.specs.Limits.{most_handled}
+use Rattle.slot_balance.specs.Posts.{before_last, buffers_in, sent_at, sent_all, Posts, SendsOrKeeps, HandlesAll, TakesSome}
+use Rattle.slot_balance.proofs.Sums.{weigh-append, weigh-snoc, weigh-permutation}
+use Rattle.slot_balance.proofs.DeskSums.{handled}
 
 module _ {A B : Type 0} where
   -- an item of a list that is mapped
@@ -44,6 +43,14 @@ map_sent f (z ∷ zs) zero x y b at e =
     ap (λ (w : SeatState). w ∷ map f zs) (e ∙ ap (λ w. record (f w) { sent = (f w).sent ++ b ∷ [] }) (sym same))
 map_sent f (z ∷ zs) (suc k) x y b at e = ap (λ (l : List SeatState). f z ∷ l) (map_sent f zs k x y b at e)
 
+-- the seat at k was changed, and shows the same
+pub map_kept : {S : Type 0} (f : S → SeatState) (xs : List S) (k : ℕ) (x y : S) → slice_get xs k ≡ Some x → f y ≡ f x → map f (slice_set xs k y) ≡ map f xs
+map_kept f [] k x y at e = absurd (cc)
+map_kept f (z ∷ zs) zero x y at e =
+    let same : z ≡ x = cc in
+    ap (λ (w : SeatState). w ∷ map f zs) (e ∙ ap f (sym same))
+map_kept f (z ∷ zs) (suc k) x y at e = ap (λ (l : List SeatState). f z ∷ l) (map_kept f zs k x y at e)
+
 pub length-sent_at : (k : ℕ) (b : BatchState) (ss : List SeatState) → length (sent_at k b ss) ≡ length ss
 length-sent_at k b [] = refl
 length-sent_at zero b (s ∷ ss) = refl
@@ -52,31 +59,6 @@ length-sent_at (suc k) b (s ∷ ss) = ap suc (length-sent_at k b ss)
 pub length-sent_all : (ss : List SeatState) (bs : List BatchState) → length (sent_all ss bs) ≡ length ss
 length-sent_all ss [] = refl
 length-sent_all ss (b ∷ bs) = length-sent_all (sent_at b.address b ss) bs ∙ length-sent_at b.address b ss
-
--- the seats are of the same inboxes and of the same sender, at rest
-abbrev pub Same : SeatState → SeatState → Type 0
-Same x y = (x.inbox ≡ y.inbox) × (x.sender ≡ y.sender) × (x.resting ≡ y.resting)
-
-get_sent : (k : ℕ) (b : BatchState) (ss : List SeatState) (j : ℕ) (x : SeatState) → slice_get (sent_at k b ss) j ≡ Some x → (y : SeatState) × (slice_get ss j ≡ Some y) × Same x y
-get_sent k b [] j x e = absurd (cc)
-get_sent zero b (s ∷ ss) zero x e =
-    let same : record s { sent = s.sent ++ b ∷ [] } ≡ x = cc in
-    (s, refl, (ap (λ (w : SeatState). w.inbox) (sym same), ap (λ (w : SeatState). w.sender) (sym same), ap (λ (w : SeatState). w.resting) (sym same)))
-get_sent zero b (s ∷ ss) (suc j) x e = (x, e, (refl, refl, refl))
-get_sent (suc k) b (s ∷ ss) zero x e = (x, e, (refl, refl, refl))
-get_sent (suc k) b (s ∷ ss) (suc j) x e = get_sent k b ss j x e
-
-pub seats_sent : (n : Names) (a k : ℕ) (b : BatchState) (ss : List SeatState) → AreSeatsBy n a ss → AreSeatsBy n a (sent_at k b ss)
-seats_sent n a k b ss i = record {
-  each = λ j x e.
-      let y = get_sent k b ss j x e in
-      let o = i.each j y.0 y.1 in
-      (y.2.0 ∙ o.0, y.2.1 ∙ o.1, y.2.2 ∙ o.2);
-}
-
-pub seats_sent_all : (n : Names) (a : ℕ) (ss : List SeatState) (bs : List BatchState) → AreSeatsBy n a ss → AreSeatsBy n a (sent_all ss bs)
-seats_sent_all n a ss [] i = i
-seats_sent_all n a ss (b ∷ bs) i = seats_sent_all n a (sent_at b.address b ss) bs (seats_sent n a b.address b ss i)
 
 -- the same from a list in another order
 Gives-before : (s : Scheme) (a : ℕ) (older old : List Buffer) (b : BatchState) (new : List Buffer) → IsPermutation older old
@@ -212,13 +194,6 @@ posts_more s a c l m x y ss ss' ss'' b p g h = ⊎_elim
     (λ (q : (ss'' ≡ ss') × IsPermutation (x ++ b.items) y).
     posts_end s a c m m (x ++ b.items) y ss ss'' (posts_then s a c l m x b.items ss ss' ss'' p (posts_one s a l m b.items b ss' ss'' g (inr (q.0, IsPermutation-refl b.items))))
     (IsPermutation-refl m) q.1)
-    h
-
--- the seats stay this desk's
-pub seats_kept : (n : Names) (a : ℕ) (b : BatchState) (ss ss' : List SeatState) (x y : List Buffer) → AreSeatsBy n a ss → SendsOrKeeps b ss x ss' y → AreSeatsBy n a ss'
-seats_kept n a b ss ss' x y i h = ⊎_elim
-    (λ (q : (b.address < length ss) × (ss' ≡ sent_at b.address b ss) × (y ≡ x)). subst (λ l. AreSeatsBy n a l) (sym q.1) (seats_sent n a b.address b ss i))
-    (λ (q : (ss' ≡ ss) × IsPermutation (x ++ b.items) y). subst (λ l. AreSeatsBy n a l) (sym q.0) i)
     h
 
 weigh-sent_at : (h : Slot → ℕ) (k : ℕ) (b : BatchState) (ss : List SeatState) → k < length ss → of_seats h (sent_at k b ss) ≡ of_seats h ss + of_batch h b

@@ -1,4 +1,4 @@
--- `with` makes the empty struct, with the items that its clause names. Assumes `Logic`.
+-- `and` makes the empty struct, with the items that its clause names. Assumes `Logic`.
 use Rattle.std.proofs.Common.{List, [], ◌∷◌, ◌++◌, refl}
 use seplogic.Ra.Ura.{Ura}
 use mir.Syntax.{Fn, Args, a_type}
@@ -30,12 +30,12 @@ use denote.Triple.Spec.{Meets, triple_of}
 use denote.Triple.Table.{entered}
 use denote.Triple.Walked.{says, Stays, stay_dropped, walk_of, ends_at, walk_Meets, Goes-dropped}
 use Rattle.std.specs.contracts.marker.PhantomData as Mark
-use Rattle.pool_fabric.proofs.Walks.{none, one, one_made}
-use Rattle.pool_fabric.specs.contracts.notes.Notes as Notes
-use Rattle.pool_fabric.specs.contracts.notes.Notes.with as F
-use Rattle.pool_fabric.specs.contracts.notes.Notes.with.Key.{name as #self}
-use Rattle.pool_fabric.proofs.notes.Notes.with.Statement as stated
-use Rattle.pool_fabric.proofs.notes.Notes.with.Code as code
+use Rattle.slot_balance.proofs.Walks.{none, one, one_made}
+use Rattle.slot_balance.specs.contracts.notes.Notes as Notes
+use Rattle.slot_balance.specs.contracts.notes.Notes.and as F
+use Rattle.slot_balance.specs.contracts.notes.Notes.and.Key.{name as #self}
+use Rattle.slot_balance.proofs.notes.Notes.and.Statement as stated
+use Rattle.slot_balance.proofs.notes.Notes.and.Code as code
 
 module _ (A : RattleType) where
   abbrev args : Args
@@ -53,7 +53,7 @@ module _ (A : RattleType) where
   abbrev stayed : Stays ended.signature.params ended.kept
   stayed = (
     stay_dropped (RefOf (0 ∷ []) tt (plain (λ _. Notes.the_row (param 0 A))) (λ _. tt)) yes,
-    (stay_dropped (RefOf (1 ∷ []) tt (plain (λ _. Notes.the_row (param 0 A))) (λ _. tt)) yes, tt),
+    (stay_dropped (RefOf (1 ∷ []) tt (plain (λ _. param 0 A)) (λ _. tt)) yes, tt),
   )
 
   module _ {M : Type 1} {𝓤 : Ura M} (𝓛 : Logic 𝓤) (at_mem : Memory → SProp 𝓤) (run : Routine → Fun 𝓤) where
@@ -74,7 +74,7 @@ module _ (A : RattleType) where
           let a = z.0.3 in
           let vss = z.0.4 in
           let made : (Notes.the_row (param 0 A)).Denot =
-          record { of = record {}; items = a.0.now.items ++ a.1.0.now.items } in
+          record { of = record {}; items = a.0.now.items ++ a.1.0.now ∷ [] } in
           qed 𝓛 ((raw toks ⊛ ‵ (owns (types_at ended.signature.params z.0.0) a vss)) ∷ raw ((held z.0.0 a).requires z.1) ∷ []) ∵
           keep ! (0 ∷ []) $ split ! $ move ! (1 ∷ []) $
           fsplit ! $ fsplit ! $ feq_l ! (λ is₀. drop ! $ fsplit ! $ fsplit ! $ feq_l ! (λ is₁. drop ! $ drop ! $
@@ -96,15 +96,15 @@ module _ (A : RattleType) where
         walk_Meets 𝓛 ended stayed (
           Goes-dropped 𝓛 3 (RefOf (0 ∷ []) tt (plain (λ _. Notes.the_row (param 0 A))) (λ _. tt)) yes (λ κs x f. refl),
           (
-            Goes-dropped 𝓛 3 (RefOf (1 ∷ []) tt (plain (λ _. Notes.the_row (param 0 A))) (λ _. tt)) yes (λ κs x f. refl),
+            Goes-dropped 𝓛 3 (RefOf (1 ∷ []) tt (plain (λ _. param 0 A)) (λ _. tt)) yes (λ κs x f. refl),
             tt,
           ),
         ) held
         (WpFn 𝓤 H 𝓣.C 𝓣.Λ function) (WpFn-mono 𝓤 H 𝓛.laws 𝓣 function) (walks 𝓣.C 𝓣.Λ)
 
-pub with_spec : {M : Type 1} → stated.statement M
+pub and_spec : {M : Type 1} → stated.statement M
 unfolding tables_of
-with_spec 𝓤 𝓛 𝓜 𝓡 wired A LA =
+and_spec 𝓤 𝓛 𝓜 𝓡 wired A LA =
     let 𝓣 : Tables 𝓤 𝓛.H = tables_of 𝓤 𝓛.H 𝓜 (tables 𝓤 𝓛.H 𝓜 𝓡 𝓡.env) in
     entered 𝓤 𝓛.H (triple_of 𝓛 (ended A).signature (closing 𝓛 (ended A) (held A 𝓛 𝓜.mem 𝓡.returns))) 𝓣.C 𝓣.Λ (#self (args A)) (function A)
     (code.unfolded 𝓤 𝓛.H 𝓜 𝓡 wired (A, tt)) (meets A 𝓛 𝓜.mem 𝓡.returns 𝓣)

@@ -1,0 +1,6 @@
+pub mod Weights
+pub mod Limits
+pub mod Seats
+pub mod Accounts
+pub mod Posts
+pub mod Balances
