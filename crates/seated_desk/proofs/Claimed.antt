@@ -125,7 +125,7 @@ notes_next xs k x old new l e a adds own =
     (joined x.drawer.drawn old new (claimed (take k xs)) x.desk.drawn a own adds)
 
 -- stations that were settled have the same chunks
-abbrev claims : List (ℕ × List Carved) → List Carved
+abbrev claims : List (ℕ × List Carved × List Buffer × List Buffer) → List Carved
 claims [] = []
 claims (d ∷ ds) = d.1 ++ claims ds
 

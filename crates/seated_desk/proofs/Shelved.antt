@@ -1,12 +1,12 @@
 -- A shelf of stations gets one more, and one of its stations moves batches.
-use Rattle.std.proofs.Common.{◌≡◌, ◌⊎◌, ℕ, zero, suc, ◌+◌, List, [], ◌∷◌, ◌++◌, length, get_or, set, Some, refl, sym, ap, ap₂, subst, ◌∙◌, inl, inr, ⊎_elim, length-append, arith}
+use Rattle.std.proofs.Common.{◌≡◌, ◌⊎◌, ℕ, zero, suc, ◌+◌, List, [], ◌∷◌, ◌++◌, length, get_or, set, Some, refl, sym, ap, subst, ◌∙◌, inl, inr, ⊎_elim, length-append, arith}
 use Rattle.std.specs.Prelude.{All, slice_get}
 use Rattle.std.proofs.Math.Seq.{map-set_same}
 use Rattle.pool_desk.specs.Desks.{DeskState}
 use Rattle.chunk_stock.specs.Notes.{NotesNone}
 use Rattle.chunk_stock.specs.declared.drawer.Drawer.{Drawer}
 use Rattle.seated_desk.specs.Claims.{IsSameDesk}
-use Rattle.seated_desk.specs.Kept.{IsSameStation, KeepsStation}
+use Rattle.seated_desk.specs.Kept.{IsOfOne, IsSameStation, KeepsStation}
 use Rattle.seated_desk.specs.Settled.{AreSettled, desk_of}
 use Rattle.seated_desk.specs.Shelves.{AreNumbered}
 use Rattle.seated_desk.specs.declared.station.Station.{Station}
@@ -49,12 +49,16 @@ same_again a b c p q = record { number = q.number ∙ p.number; digits = q.digit
 pub keeps_again : (a b c : Station) → KeepsStation a b → KeepsStation b c → KeepsStation a c
 keeps_again a b c p q = record { desk = same_again a.desk b.desk c.desk p.desk q.desk; pool = q.pool ∙ p.pool; lent = q.lent ∙ p.lent; freed = q.freed ∙ p.freed }
 
+pub one_again : (a b c : Station) → IsOfOne a b → IsOfOne b c → IsOfOne a c
+one_again a b c p q = record { number = q.number ∙ p.number; digits = q.digits ∙ p.digits; pool = q.pool ∙ p.pool }
+
 pub same_station_again : (a b c : Station) → IsSameStation a b → IsSameStation b c → IsSameStation a c
-same_station_again a b c p q = record { number = q.number ∙ p.number; digits = q.digits ∙ p.digits; pool = q.pool ∙ p.pool }
+same_station_again a b c p q = record { one = one_again a b c p.one q.one; lent = q.lent ∙ p.lent; freed = q.freed ∙ p.freed }
 
 -- the station at place i moved batches
 pub settled_next : (old now : List Station) (i : ℕ) (d y z : Station) → KeepsStation (get_or now i d) y → KeepsStation y z → AreSettled old now → AreSettled old (set now i z)
 settled_next old now i d y z p q before =
-    let s = same_again (get_or now i d).desk y.desk z.desk p.desk q.desk in
-    let e : desk_of z ≡ desk_of (get_or now i d) = ap₂ (λ n c. (n, c)) s.number s.drawn in
+    let w = get_or now i d in
+    let k = keeps_again w y z p q in
+    let e : desk_of z ≡ desk_of w = (λ j. (k.desk.number j, k.desk.drawn j, k.lent j, k.freed j)) in
     map-set_same desk_of now i z d e ∙ before

@@ -19,6 +19,7 @@ use Rattle.pool_desk.proofs.Travels.{desk_send}
 use Rattle.link_inbox.specs.contracts.inbox.LinkInbox as LinkInbox
 use Rattle.link_inbox.proofs.Travels.{link_inbox_sync, load_send, seat_send, take_send}
 use Rattle.slot_audit.specs.contracts.drawn.Drawn as Drawn
+use Rattle.slot_balance.proofs.Travels.{notes_send}
 use Rattle.chunk_stock.specs.contracts.drawer.Stock as Stock
 use Rattle.chunk_stock.specs.contracts.drawer.Drawer as Drawer
 use Rattle.seated_desk.specs.contracts.buf_handle.BufHandle as BufHandle
@@ -76,7 +77,7 @@ drawer_field a = struct_send (shape (Drawer.the_type a)) (drawer_all a)
 pub station_send : (a : NamedLft) → IsSend (Station.the_row a)
 station_send a =
     let n = number_send in
-    send_fields (Station.the_type a) (heap_field, (n, (desk_send a, (in_field a, (Vec-send (PostingEnd.the_row a) (out_send a), (drawer_field a, (n, (n, (n, (n, (n, (n, (n, (n, tt))))))))))))))
+    send_fields (Station.the_type a) (heap_field, (n, (desk_send a, (in_field a, (Vec-send (PostingEnd.the_row a) (out_send a), (drawer_field a, (n, (n, (n, (notes_send a, (notes_send a, (n, (n, (n, tt))))))))))))))
 
 pub seated_send : (a : NamedLft) → IsSend (AllocatorHandle.the_row a)
 seated_send a = search (sendable, crosses, option_send, station_send) depth 40 fits 6000

@@ -5,12 +5,13 @@ use Rattle.slot_chain.specs.Buffer.{Buffer}
 use Rattle.slot_chain.specs.Parcels.{ParcelState, Packs}
 use Rattle.seated_desk.specs.Answers.{refusal_number}
 use Rattle.seated_desk.specs.Handles.{HasBuffer}
-use Rattle.seated_desk.specs.Kept.{AtStation, IsSameIn}
+use Rattle.seated_desk.specs.Kept.{AtStation, FreesThere, IsSameStation, LendsBurst}
 use Rattle.seated_desk.specs.declared.allocator_handle.AllocatorHandle.{AllocatorHandle}
 use Rattle.seated_desk.specs.declared.buf_handle.BufHandle.{BufHandle}
 use Rattle.seated_desk.specs.declared.burst_handle.BurstHandle.{BurstHandle}
 use Rattle.seated_desk.specs.declared.refusal.Refusal.TheVariants.{Stranger}
 use Rattle.seated_desk.specs.declared.span.Span.{Span}
+use Rattle.seated_desk.specs.declared.station.Station.{Station}
 
 -- how many buffers a burst has; none where it is not open
 abbrev pub count_in : Option ParcelState → ℕ
@@ -35,7 +36,7 @@ pub record OpensAt (places pool answer : ℕ) (old new : BurstHandle) : Type 0 w
 -- so does an allocator of its pool
 abbrev pub OpensBurst : ℕ → ℕ → AllocatorHandle → AllocatorHandle → BurstHandle → BurstHandle → Type 0
 OpensBurst places answer before after old new =
-    IsSameIn before.station after.station × AtStation before.station answer old new (λ s. OpensAt places s.pool answer old new)
+    AtStation before.station after.station answer old new (λ s t. IsSameStation s t × OpensAt places s.pool answer old new)
 
 -- so many buffers of at least this size came to the end
 pub record Adds (size number : ℕ) (old new : ParcelState) : Type 0 where
@@ -64,8 +65,8 @@ pub record FillsAt (size count pool answer : ℕ) (old new : BurstHandle) : Type
 -- so does an allocator of its pool
 abbrev pub Fills : ℕ → ℕ → ℕ → AllocatorHandle → AllocatorHandle → BurstHandle → BurstHandle → Type 0
 Fills size count answer before after old new =
-    IsSameIn before.station after.station
-    × AtStation before.station answer old new (λ s. FillsAt size count s.pool answer old new)
+    AtStation before.station after.station answer old new (λ s t.
+    LendsBurst old.parcel new.parcel s t × FillsAt size count s.pool answer old new)
 
 -- an answer of 0 has taken an open burst of this pool with all its buffers; any other leaves it there. Another pool's
 -- burst is a stranger
@@ -74,10 +75,15 @@ pub record FreesAll (pool answer : ℕ) (old new : BurstHandle) : Type 0 where
   pub refused : answer ≢ 0 → new ≡ old
   pub stranger : old.parcel ≢ None → old.pool ≢ pool → answer ≡ refusal_number Stranger
 
+-- just its buffers were freed at the allocator; at any other answer none was
+pub record FreesBurst (answer : ℕ) (before after : Station) (old : BurstHandle) : Type 0 where
+  pub freed : answer ≡ 0 → (p : ParcelState) × (old.parcel ≡ Some p) × FreesThere p.items before after
+  pub refused : answer ≢ 0 → IsSameStation before after
+
 -- so does an allocator of its pool
 abbrev pub TakesBurst : ℕ → AllocatorHandle → AllocatorHandle → BurstHandle → BurstHandle → Type 0
 TakesBurst answer before after old new =
-    IsSameIn before.station after.station × AtStation before.station answer old new (λ s. FreesAll s.pool answer old new)
+    AtStation before.station after.station answer old new (λ s t. FreesBurst answer s t old × FreesAll s.pool answer old new)
 
 -- the buffer moved out of the handle, to the end of the parcel
 abbrev pub MovesIn : Option ParcelState → Option ParcelState → Option Buffer → Option Buffer → Type 0

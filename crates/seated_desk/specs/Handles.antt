@@ -1,12 +1,13 @@
 -- What a call does to a buffer's handle.
-use Rattle.std.specs.Prelude.{◌≡◌, ◌≢◌, ◌≤◌, ℕ, Option, Some, None}
+use Rattle.std.specs.Prelude.{◌≡◌, ◌≢◌, ◌≤◌, ℕ, [], ◌∷◌, Option, Some, None}
 use Rattle.region_cut.specs.Classes.{size_of}
 use Rattle.slot_chain.specs.Buffer.{Buffer}
 use Rattle.seated_desk.specs.Answers.{refusal_number}
-use Rattle.seated_desk.specs.Kept.{AtStation, IsSameIn}
+use Rattle.seated_desk.specs.Kept.{AtStation, FreesThere, IsSameStation, LendsThere}
 use Rattle.seated_desk.specs.declared.allocator_handle.AllocatorHandle.{AllocatorHandle}
 use Rattle.seated_desk.specs.declared.buf_handle.BufHandle.{BufHandle}
 use Rattle.seated_desk.specs.declared.refusal.Refusal.TheVariants.{Stranger}
+use Rattle.seated_desk.specs.declared.station.Station.{Station}
 
 -- the handle holds a buffer
 abbrev pub HasBuffer : BufHandle → Type 0
@@ -18,10 +19,15 @@ pub record Lends (n pool answer : ℕ) (old new : BufHandle) : Type 0 where
   pub lent : answer ≡ 0 → (old.buf ≡ None) × ((b : Buffer) × (new.buf ≡ Some b) × (n ≤ size_of b.class)) × (new.pool ≡ pool)
   pub refused : answer ≢ 0 → new ≡ old
 
+-- just that buffer was lent at the allocator; at any other answer none was
+pub record LendsFrom (answer : ℕ) (before after : Station) (new : BufHandle) : Type 0 where
+  pub lent : answer ≡ 0 → (b : Buffer) × (new.buf ≡ Some b) × LendsThere (b ∷ []) before after
+  pub refused : answer ≢ 0 → IsSameStation before after
+
 -- so does an allocator of its pool
 abbrev pub LendsInto : ℕ → ℕ → AllocatorHandle → AllocatorHandle → BufHandle → BufHandle → Type 0
 LendsInto n answer before after old new =
-    IsSameIn before.station after.station × AtStation before.station answer old new (λ s. Lends n s.pool answer old new)
+    AtStation before.station after.station answer old new (λ s t. LendsFrom answer s t new × Lends n s.pool answer old new)
 
 -- an answer of 0 has taken the handle's buffer out, which is of this pool; any other leaves it there. Another pool's
 -- buffer is a stranger
@@ -30,10 +36,15 @@ pub record Frees (pool answer : ℕ) (old new : BufHandle) : Type 0 where
   pub refused : answer ≢ 0 → new ≡ old
   pub stranger : HasBuffer old → old.pool ≢ pool → answer ≡ refusal_number Stranger
 
+-- just that buffer was freed at the allocator; at any other answer none was
+pub record FreesFrom (answer : ℕ) (before after : Station) (old : BufHandle) : Type 0 where
+  pub freed : answer ≡ 0 → (b : Buffer) × (old.buf ≡ Some b) × FreesThere (b ∷ []) before after
+  pub refused : answer ≢ 0 → IsSameStation before after
+
 -- so does an allocator of its pool
 abbrev pub TakesOut : ℕ → AllocatorHandle → AllocatorHandle → BufHandle → BufHandle → Type 0
 TakesOut answer before after old new =
-    IsSameIn before.station after.station × AtStation before.station answer old new (λ s. Frees s.pool answer old new)
+    AtStation before.station after.station answer old new (λ s t. FreesFrom answer s t old × Frees s.pool answer old new)
 
 -- how many bytes the buffer has that a handle holds, and how many of them are filled; none where it holds none
 abbrev pub capacity_in : Option Buffer → ℕ

@@ -7,3 +7,4 @@ pub mod Ready
 pub mod Settled
 pub mod Shelves
 pub mod Stats
+pub mod Ways

@@ -2,14 +2,15 @@
 use Rattle.std.specs.Prelude.{◌≡◌, ℕ, List, [], ◌∷◌, ◌++◌, Option, map, IsPermutation}
 use Rattle.region_cut.specs.Carved.{Carved}
 use Rattle.region_cut.specs.declared.slot.Slot.{Slot}
+use Rattle.slot_chain.specs.Buffer.{Buffer}
 use Rattle.pool_desk.specs.Slots.{slots_in}
 use Rattle.slot_audit.specs.Audit.{FindsEachSlot}
 use Rattle.seated_desk.specs.Claims.{AreNoted}
 use Rattle.seated_desk.specs.declared.station.Station.{Station}
 
--- what stays of a station: its number, and the chunks that it claimed
-abbrev pub desk_of : Station → ℕ × List Carved
-desk_of s = (s.desk.number, s.desk.drawn)
+-- what stays of a station: its number, the chunks that it claimed, and the buffers that were lent and freed there
+abbrev pub desk_of : Station → ℕ × List Carved × List Buffer × List Buffer
+desk_of s = (s.desk.number, s.desk.drawn, s.lent, s.freed)
 
 -- the stations are the same but for where their slots are
 abbrev pub AreSettled : List Station → List Station → Type 0

@@ -1,8 +1,9 @@
 -- What the numbers about a pool and an allocator are.
 use Rattle.std.specs.Prelude.{◌≡◌, ◌≢◌, ◌<◌, ◌≤◌, ◌+◌, ◌-◌, ◌%◌, ◌^◌, ℕ, Some, None, Option, length}
 use Rattle.slot_chain.specs.Counts.{capped, sizes}
+use Rattle.slot_balance.specs.Limits.{most_taken}
 use Rattle.seated_desk.specs.Answers.{refusal_number}
-use Rattle.seated_desk.specs.Kept.{AtStation, KeepsIn}
+use Rattle.seated_desk.specs.Kept.{AtStation, KeepsStation, PostsAll}
 use Rattle.seated_desk.specs.declared.allocator_handle.AllocatorHandle.{AllocatorHandle}
 use Rattle.seated_desk.specs.declared.pool.Pool.{Pool}
 use Rattle.seated_desk.specs.declared.refusal.Refusal.TheVariants.{Empty}
@@ -15,8 +16,8 @@ no_number = 2 ^ 64 - 1
 -- the number about a station that this is
 pub record IsStatOf (which told : ℕ) (s : Station) : Type 0 where
   pub number : which ≡ 0 → told ≡ s.desk.number
-  pub lent : which ≡ 1 → told ≡ s.lent
-  pub freed : which ≡ 2 → told ≡ s.freed
+  pub lent : which ≡ 1 → told ≡ length s.lent % 2 ^ 64
+  pub freed : which ≡ 2 → told ≡ length s.freed % 2 ^ 64
   pub posted : which ≡ 3 → told ≡ s.posted
   pub taken : which ≡ 4 → told ≡ s.taken
   pub claimed : which ≡ 5 → told ≡ s.claimed
@@ -41,28 +42,23 @@ pub record TellsPoolStat (which told : ℕ) (old new : Pool) : Type 0 where
   pub none : 2 < which → told ≡ no_number
   pub stays : new ≡ old
 
--- an answer of 0 has kept the allocator, but for where slots are; any other is that of one that isn't attached
+-- An allocator is kept, but for where slots are: it took what came, and then posted all that was cached.
+pub record FlushesAt (answer : ℕ) (old new : Station) : Type 0 where
+  pub answer_is : answer ≡ 0
+  pub between : Station
+  pub takes : KeepsStation old between
+  pub keeps : KeepsStation between new
+  pub posts : PostsAll between new
+
 abbrev pub Flushes : ℕ → AllocatorHandle → AllocatorHandle → Type 0
-Flushes answer old new = KeepsIn old.station new.station × AtStation old.station answer old new (λ s. answer ≡ 0)
+Flushes answer old new = AtStation old.station new.station answer old new (λ s t. FlushesAt answer s t)
 
--- the most batches that are taken at a time
-abbrev pub most_taken : ℕ
-most_taken = 64
+-- An allocator is kept, but for where slots are. At an answer of 0 one to 64 batches came, as the counter of 64 bits
+-- tells; and at any other none, so its slots are where they were.
+pub record CollectsAt (answer : ℕ) (old new : Station) : Type 0 where
+  pub keeps : KeepsStation old new
+  pub came : answer ≡ 0 → (n : ℕ) × (0 < n) × (n ≤ most_taken) × (new.taken % 2 ^ 64 ≡ (old.taken + n) % 2 ^ 64)
+  pub nothing_came : answer ≢ 0 → (answer ≡ refusal_number Empty) × (new.desk ≡ old.desk)
 
--- so many batches came, as the counter of 64 bits tells
-abbrev pub Took : ℕ → Option Station → Option Station → Type 0
-Took n (Some s) (Some t) = t.taken % 2 ^ 64 ≡ (s.taken + n) % 2 ^ 64
-Took n s t = ⊥
-
--- the desk is the same
-abbrev pub HasSameDesk : Option Station → Option Station → Type 0
-HasSameDesk None None = Unit {0}
-HasSameDesk (Some s) (Some t) = t.desk ≡ s.desk
-HasSameDesk s t = ⊥
-
--- An allocator is kept, but for where slots are. At an answer of 0 one to 64 batches came, and at any other none, so its
--- slots are where they were.
-pub record Collects (answer : ℕ) (old new : AllocatorHandle) : Type 0 where
-  pub keeps : KeepsIn old.station new.station
-  pub came : answer ≡ 0 → (n : ℕ) × (0 < n) × (n ≤ most_taken) × Took n old.station new.station
-  pub nothing_came : answer ≢ 0 → (answer ≡ refusal_number Empty) × HasSameDesk old.station new.station
+abbrev pub Collects : ℕ → AllocatorHandle → AllocatorHandle → Type 0
+Collects answer old new = AtStation old.station new.station answer old new (λ s t. CollectsAt answer s t)

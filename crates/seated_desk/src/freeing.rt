@@ -1,8 +1,8 @@
 //! What is freed at a station.
 ghost use Rattle.seated_desk.specs.Answers.{answer_of};
-ghost use Rattle.seated_desk.specs.Bursts.{FreesAll};
-ghost use Rattle.seated_desk.specs.Handles.{Frees};
-ghost use Rattle.seated_desk.specs.Kept.{IsSameStation, KeepsStation};
+ghost use Rattle.seated_desk.specs.Bursts.{FreesAll, FreesBurst};
+ghost use Rattle.seated_desk.specs.Handles.{Frees, FreesFrom};
+ghost use Rattle.seated_desk.specs.Kept.{KeepsStation};
 
 use crate::buf_handle::BufHandle;
 use crate::burst_handle::BurstHandle;
@@ -33,7 +33,7 @@ impl<'r> Station<'r> {
     /// Takes the handle's buffer back.
     #[inline(always)]
     pub(crate) fn free(&mut self, handle: &mut BufHandle<'r>) -> Result<(), Refusal>
-        ensures station { IsSameStation self.old self.new }
+        ensures station { FreesFrom (answer_of result) self.old self.new handle.old }
         ensures frees { Frees self.old.pool (answer_of result) handle.old handle.new }
     {
         let Some(held) = &handle.buf else {
@@ -46,7 +46,7 @@ impl<'r> Station<'r> {
             return Err(Refusal::Empty);
         };
         self.since = self.since.wrapping_add(1);
-        self.freed = self.freed.wrapping_add(1);
+        self.freed = self.freed.and(&buf);
         self.until_post = self.until_post.wrapping_sub(1);
         if self.desk.free(buf) == Freed::Due || self.until_post == 0 {
             self.post_again();
@@ -56,7 +56,7 @@ impl<'r> Station<'r> {
 
     /// Takes back all buffers of a burst.
     pub(crate) fn free_all(&mut self, burst: &mut BurstHandle<'r>) -> Result<(), Refusal>
-        ensures station { IsSameStation self.old self.new }
+        ensures station { FreesBurst (answer_of result) self.old self.new burst.old }
         ensures frees { FreesAll self.old.pool (answer_of result) burst.old burst.new }
     {
         let Some(held) = &burst.parcel else {
@@ -70,7 +70,7 @@ impl<'r> Station<'r> {
         };
         let count = parcel.len() as u64;
         self.since = self.since.wrapping_add(1);
-        self.freed = self.freed.wrapping_add(count);
+        self.freed = self.freed.and_all(parcel.buffers());
         self.until_post = self.until_post.saturating_sub(count);
         if self.desk.free_all(parcel) == Freed::Due || self.until_post == 0 {
             self.post_again();

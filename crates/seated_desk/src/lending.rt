@@ -1,16 +1,16 @@
 //! What a station lends.
-ghost use Rattle.std.specs.Prelude.{◌≡◌, ◌<◌, ◌≤◌, ℕ, None, IfOk, MatchResult};
+ghost use Rattle.std.specs.Prelude.{◌≡◌, ◌<◌, ◌≤◌, ℕ, [], ◌∷◌, None, IfOk, MatchResult};
 ghost use Rattle.region_cut.specs.Classes.{classes_of, size_of};
 ghost use Rattle.pool_desk.specs.Desks.{profile_at};
 ghost use Rattle.seated_desk.specs.Answers.{answer_of};
 ghost use Rattle.seated_desk.specs.Bursts.{Adds, FillsAt, OpensAt};
-ghost use Rattle.seated_desk.specs.Handles.{Lends};
-ghost use Rattle.seated_desk.specs.Kept.{IsSameStation, KeepsStation};
+ghost use Rattle.seated_desk.specs.Handles.{Lends, LendsFrom};
+ghost use Rattle.seated_desk.specs.Kept.{IsSameStation, LendsBurst, LendsOnto, LendsThere};
 
 use crate::buf_handle::BufHandle;
 use crate::burst_handle::BurstHandle;
 use crate::refusal::Refusal;
-use crate::station::{MOST_DESKS, Station};
+use crate::station::Station;
 use pool_desk::DeskError;
 use region_cut::{Class, Profile};
 use slot_chain::{Buf, BufParcel};
@@ -20,6 +20,14 @@ const LOOK_EVERY: u64 = 64;
 
 // How often it looks again where the stock is empty.
 const MOST_LOOKS: u32 = 64;
+
+// Why a desk lends no buffer of a class.
+fn refusal_of(error: DeskError) -> Refusal {
+    match error {
+        DeskError::NoMemory => Refusal::NoMemory,
+        _ => Refusal::UsedUp,
+    }
+}
 
 impl<'r> Station<'r> {
     // Takes what else came, as long as no slot of the class is among it: a look ends at its bound, and the stock is
@@ -66,34 +74,47 @@ impl<'r> Station<'r> {
         self.since >= LOOK_EVERY || !self.desk.has_home(class)
     }
 
+    // Counts a call, and fetches where that is due.
+    fn count_and_fetch(&mut self, class: Class)
+        requires { class < classes_of (profile_at self.old.desk) }
+        ensures { IsSameStation self.old self.new }
+    {
+        if self.is_to_fetch(class) {
+            self.fetch(class);
+        }
+    }
+
     // A buffer of the class, of a slot at home.
     #[inline(always)]
     fn lend_class(&mut self, class: Class) -> Result<Buf<'r>, Refusal>
         requires { class < classes_of (profile_at self.old.desk) }
-        ensures station { IsSameStation self.old self.new }
+        ensures station { MatchResult result
+            (λ b. LendsThere (b ∷ []) self.old self.new)
+            (λ _. IsSameStation self.old self.new) }
         ensures class { IfOk result (λ b. b.class ≡ class) }
+        ensures owner { IfOk result (λ b. b.owner ≡ self.old.desk.number) }
     {
         match self.desk.alloc_class(self.alloc, class) {
             Ok(buf) => {
-                self.lent = self.lent.wrapping_add(1);
+                self.lent = self.lent.and(&buf);
                 Ok(buf)
             }
-            Err(DeskError::NoMemory) => Err(Refusal::NoMemory),
-            Err(_) => Err(Refusal::UsedUp),
+            Err(error) => Err(refusal_of(error)),
         }
     }
 
     // A buffer of at least this size.
     fn lend(&mut self, size: usize) -> Result<Buf<'r>, Refusal>
-        ensures station { IsSameStation self.old self.new }
+        ensures station { MatchResult result
+            (λ b. LendsThere (b ∷ []) self.old self.new)
+            (λ _. IsSameStation self.old self.new) }
         ensures size { IfOk result (λ b. size ≤ size_of b.class) }
+        ensures owner { IfOk result (λ b. b.owner ≡ self.old.desk.number) }
     {
         let Some(class) = Profile::Pool.class_for(size) else {
             return Err(Refusal::TooLarge);
         };
-        if self.is_to_fetch(class) {
-            self.fetch(class);
-        }
+        self.count_and_fetch(class);
         self.lend_class(class)
     }
 
@@ -102,7 +123,7 @@ impl<'r> Station<'r> {
     fn lend_into(&mut self, handle: &mut BufHandle<'r>, class: Class) -> u32
         requires class { class < classes_of (profile_at self.old.desk) }
         requires empty { handle.old.buf ≡ None }
-        ensures station { IsSameStation self.old self.new }
+        ensures station { LendsFrom result self.old self.new handle.new }
         ensures lends { Lends (size_of class) self.old.pool result handle.old handle.new }
     {
         match self.lend_class(class) {
@@ -121,7 +142,7 @@ impl<'r> Station<'r> {
     fn fetch_into(&mut self, handle: &mut BufHandle<'r>, class: Class) -> u32
         requires class { class < classes_of (profile_at self.old.desk) }
         requires empty { handle.old.buf ≡ None }
-        ensures station { IsSameStation self.old self.new }
+        ensures station { LendsFrom result self.old self.new handle.new }
         ensures lends { Lends (size_of class) self.old.pool result handle.old handle.new }
     {
         self.fetch(class);
@@ -131,7 +152,7 @@ impl<'r> Station<'r> {
     /// Lends a buffer into a handle that holds none: 0, or the number of a refusal.
     #[inline(always)]
     pub(crate) fn alloc(&mut self, handle: &mut BufHandle<'r>, size: usize) -> u32
-        ensures station { IsSameStation self.old self.new }
+        ensures station { LendsFrom result self.old self.new handle.new }
         ensures lends { Lends size self.old.pool result handle.old handle.new }
     {
         if handle.buf.is_some() {
@@ -169,13 +190,16 @@ impl<'r> Station<'r> {
         size: usize,
         count: usize,
     ) -> Result<(), Refusal>
-        ensures station { IsSameStation self.old self.new }
+        ensures station { LendsBurst burst.old.parcel burst.new.parcel self.old self.new }
         ensures fills { FillsAt size count self.old.pool (answer_of result) burst.old burst.new }
     {
         let Some(parcel) = &mut burst.parcel else {
             return Err(Refusal::Empty);
         };
-        if burst.pool != self.pool || parcel.owner() != self.desk.number() {
+        if burst.pool != self.pool {
+            return Err(Refusal::Stranger);
+        }
+        if parcel.owner() != self.desk.number() {
             return Err(Refusal::Stranger);
         }
         self.fill_up(parcel, size, count)
@@ -185,7 +209,7 @@ impl<'r> Station<'r> {
     // and says how many: none where no such array is there.
     fn lend_whole(&mut self, parcel: &mut BufParcel<'r>, size: usize, count: usize) -> usize
         requires { parcel.old.owner ≡ self.old.desk.number }
-        ensures station { IsSameStation self.old self.new }
+        ensures station { LendsOnto parcel.old parcel.new self.old self.new }
         ensures adds { Adds size result parcel.old parcel.new }
         ensures most { result ≤ count }
     {
@@ -195,9 +219,7 @@ impl<'r> Station<'r> {
         let Some(class) = Profile::Pool.class_for(size) else {
             return 0;
         };
-        if self.is_to_fetch(class) {
-            self.fetch(class);
-        }
+        self.count_and_fetch(class);
         self.lend_array(parcel, size, class, count)
     }
 
@@ -211,7 +233,7 @@ impl<'r> Station<'r> {
     ) -> usize
         requires owner { parcel.old.owner ≡ self.old.desk.number }
         requires size { size ≤ size_of class }
-        ensures station { IsSameStation self.old self.new }
+        ensures station { LendsOnto parcel.old parcel.new self.old self.new }
         ensures adds { Adds size result parcel.old parcel.new }
         ensures most { result ≤ count }
     {
@@ -220,16 +242,9 @@ impl<'r> Station<'r> {
             return 0;
         }
         let lent = parcel.len();
-        self.count_lent(lent as u64);
+        self.lent = self.lent.and_all(parcel.buffers());
+        self.since = self.since.wrapping_add(lent as u64);
         lent
-    }
-
-    // Counts buffers that were lent together.
-    fn count_lent(&mut self, count: u64)
-        ensures { IsSameStation self.old self.new }
-    {
-        self.lent = self.lent.wrapping_add(count);
-        self.since = self.since.wrapping_add(count);
     }
 
     // Lends so many buffers into a parcel of its desk, or those that it can.
@@ -240,7 +255,7 @@ impl<'r> Station<'r> {
         count: usize,
     ) -> Result<(), Refusal>
         requires { parcel.old.owner ≡ self.old.desk.number }
-        ensures station { IsSameStation self.old self.new }
+        ensures station { LendsOnto parcel.old parcel.new self.old self.new }
         ensures adds { MatchResult result (λ _. Adds size count parcel.old parcel.new)
             (λ _. (n : ℕ) × (n ≤ count) × Adds size n parcel.old parcel.new) }
     {
@@ -250,21 +265,11 @@ impl<'r> Station<'r> {
                 return Err(Refusal::Full);
             }
             let buf = self.lend(size)?;
-            if let Err(buf) = parcel.push(buf) {
-                self.keep(buf);
-                return Err(Refusal::Full);
+            match parcel.push(buf) {
+                Ok(()) => lent += 1,
+                Err(_) => unreachable!(),
             }
-            lent += 1;
         }
         Ok(())
-    }
-
-    // Takes back a buffer that found no place.
-    fn keep(&mut self, buf: Buf<'r>)
-        ensures { KeepsStation self.old self.new }
-    {
-        if buf.owner() < MOST_DESKS {
-            let _freed = self.desk.free(buf);
-        }
     }
 }

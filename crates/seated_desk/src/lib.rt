@@ -15,6 +15,7 @@ pub mod crossing;
 mod ends;
 mod freeing;
 mod lending;
+mod moving;
 mod opening;
 mod pool;
 mod refusal;

@@ -1,9 +1,10 @@
 //! How a pool is opened: inboxes, the ends of them that each desk has, and the stations.
-ghost use Rattle.std.specs.Prelude.{◌≡◌, ◌≤◌, length, All, None, IfOk};
+ghost use Rattle.std.specs.Prelude.{◌≡◌, ◌≤◌, [], length, All, None, IfOk};
 ghost use Rattle.std.specs.Arc.{arc_value};
 ghost use Rattle.chunk_stock.specs.Notes.{NotesNone};
 ghost use Rattle.seated_desk.specs.Ready.{AreReady};
 ghost use Rattle.seated_desk.specs.Shelves.{AreNumbered};
+ghost use Rattle.seated_desk.specs.Ways.{AreUnused};
 
 use crate::ends::{PostingEnd, TakingEnd};
 use crate::station::{MOST_DESKS, Station};
@@ -15,16 +16,43 @@ use slot_chain::NoMemory;
 use std::alloc::Global;
 use std::sync::Arc;
 
-/// The ends of inboxes that one desk has: where it takes, and where it posts.
+/// The ends of inboxes that one desk has: where it takes, and where it posts. Nothing went through them yet.
 #[derive(Drop)]
 pub(crate) struct DeskEnds<'r> {
     inward: Option<TakingEnd<'r>>,
     outward: Vec<PostingEnd<'r>>,
+    ghost unused: { AreUnused inward outward.items },
+}
+
+impl<'r> DeskEnds<'r> {
+    // None.
+    fn new(alloc: Global) -> DeskEnds<'r> {
+        DeskEnds {
+            inward: None,
+            outward: Vec::new(alloc),
+        }
+    }
+
+    // Adds an end where the desk posts.
+    fn add(&mut self, end: PostingEnd<'r>) -> Result<(), NoMemory>
+        requires { end.seat.sent ≡ [] }
+    {
+        self.outward.push(end)?;
+        Ok(())
+    }
+
+    // Sets the end where the desk takes.
+    fn receive(&mut self, end: TakingEnd<'r>)
+        requires { end.seat.taken ≡ [] }
+    {
+        self.inward = Some(end);
+    }
 }
 
 // A desk's end of an inbox.
 fn posting_end<'r>(inbox: Arc<LinkInbox<'r>>, seat: SendSeat<'r>) -> PostingEnd<'r>
     requires { (seat.inbox ≡ arc_value inbox) × (seat.half ≡ None) }
+    ensures { result.seat ≡ seat.entry }
 {
     PostingEnd { inbox, seat }
 }
@@ -46,7 +74,7 @@ fn deal_seats<'r>(
         let Some(own) = ends.get_mut(seats.len()) else {
             return Err(NoMemory);
         };
-        own.outward.push(posting_end(theirs, seat))?;
+        own.add(posting_end(theirs, seat))?;
     }
     Ok(())
 }
@@ -67,7 +95,7 @@ fn add_inbox<'r>(
     };
     deal_seats(&inbox, seats, ends)?;
     if let Some(own) = ends.get_mut(number as usize) {
-        own.inward = Some(TakingEnd { inbox, seat });
+        own.receive(TakingEnd { inbox, seat });
     }
     Ok(())
 }
@@ -83,10 +111,7 @@ pub(crate) fn ends_of_all<'r>(
 {
     let mut ends = Vec::with_capacity(alloc, desks as usize)?;
     for count in 0..desks {
-        ends.push(DeskEnds {
-            inward: None,
-            outward: Vec::new(alloc),
-        })?;
+        ends.push(DeskEnds::new(alloc))?;
     }
     for number in 0..desks {
         add_inbox(alloc, number, digits, &mut ends)?;
@@ -113,7 +138,8 @@ fn station<'r>(
     let Some(inward) = inward else {
         return Err(NoMemory);
     };
-    if number >= MOST_DESKS {
+    // both hold of each desk, but no contract of `ends_of_all` says so
+    if number >= MOST_DESKS || !inward.leads_to(number, digits) {
         return Err(NoMemory);
     }
     let desk = IdleDesk::new(number, digits, limit).adopt(0);

@@ -1,21 +1,19 @@
 //! A desk with its ways to the other desks.
-ghost use Rattle.std.specs.Prelude.{◌≡◌, ◌+◌, ◌%◌, ◌≤◌, ◌^◌, IfSome, OnOk};
+ghost use Rattle.std.specs.Prelude.{◌≡◌, ◌+◌, ◌%◌, ◌≤◌, ◌^◌, [], OnOk};
 ghost use Rattle.slot_chain.specs.Slots.{AddsSlots};
-ghost use Rattle.seated_desk.specs.Claims.{AreNoted, IsSameDesk};
+ghost use Rattle.slot_balance.specs.Balances.{Balances};
+ghost use Rattle.seated_desk.specs.Claims.{AreNoted};
+ghost use Rattle.seated_desk.specs.Ways.{AreUnsent, LeadsTo, seats_at};
 
 use crate::ends::{PostingEnd, TakingEnd};
+use crate::moving::{post_each, take_some};
 use chunk_stock::Drawer;
-use digit_route::{Batch, Refused};
+use digit_route::Refused;
 use pool_desk::Desk;
 use region_cut::Slot;
-use slot_chain::NoMemory;
+use slot_balance::CountedNotes;
+use slot_chain::{Buf, NoMemory};
 use std::alloc::Global;
-
-// How many batches are taken at a time.
-const MOST_TAKEN: u32 = 64;
-
-// Of how many buffers no further batch is taken at a time.
-const MOST_HANDLED: u64 = 1024;
 
 /// The most desks of a pool, whose numbers have 6 bits.
 pub(crate) const MOST_DESKS: u16 = 64;
@@ -24,10 +22,10 @@ pub(crate) const MOST_DESKS: u16 = 64;
 /// outgrow the processor's, and so would the slots that take their place meanwhile.
 pub(crate) const POST_EVERY: u64 = 1024;
 
-// How many batches are posted at a time.
-const MOST_POSTED: u32 = 4096;
-
 /// A desk, the end of its inbox, its ends of the inboxes of all desks, its right to draw chunks, and what it counted.
+///
+/// Its type keeps the balance of the desk, whatever the program does with its buffers: nothing is lost here, and
+/// nothing is there twice.
 #[derive(Drop)]
 pub(crate) struct Station<'r> {
     pub(crate) alloc: Global,
@@ -43,30 +41,22 @@ pub(crate) struct Station<'r> {
     pub(crate) post_from: u64,
     // After how many more buffers that are freed there is a post. It is never 0 between two calls.
     pub(crate) until_post: u64,
-    pub(crate) lent: u64,
-    pub(crate) freed: u64,
+    pub(crate) lent: CountedNotes<Buf<'r>>,
+    pub(crate) freed: CountedNotes<Buf<'r>>,
     pub(crate) posted: u64,
     pub(crate) taken: u64,
     pub(crate) claimed: u64,
     ghost noted: { AreNoted drawer.drawn desk.drawn },
     ghost bits: { desk.digits.bits ≡ 6 },
-}
-
-// The next batch to be posted, of a first round while there is one.
-fn next_of<'r>(desk: &mut Desk<'r>) -> Option<Batch<'r>>
-    ensures same { IsSameDesk desk.old desk.new }
-    ensures batch { IfSome result (λ b. (b.sender ≡ desk.old.number) × (b.digits ≡ desk.old.digits)) }
-{
-    match desk.next_of_first_round() {
-        Some(batch) => Some(batch),
-        None => desk.next_batch(),
-    }
+    ghost leads: { LeadsTo desk inward },
+    ghost balance: { Balances desk (seats_at outward.items) inward.seat.taken lent freed },
 }
 
 impl<'r> Station<'r> {
-    ghost use Rattle.seated_desk.specs.Kept.{IsRefusedOf, KeepsStation};
+    ghost use Rattle.slot_balance.specs.Limits.{most_taken};
+    ghost use Rattle.seated_desk.specs.Kept.{KeepsStation, PostsAll};
     ghost use Rattle.seated_desk.specs.Settled.{station_slots};
-    ghost use Rattle.seated_desk.specs.Stats.{IsStatOf, most_taken};
+    ghost use Rattle.seated_desk.specs.Stats.{IsStatOf};
 
     /// A station of this pool that counted nothing yet.
     pub(crate) fn new(
@@ -79,6 +69,9 @@ impl<'r> Station<'r> {
     ) -> Station<'r>
         requires noted { AreNoted drawer.drawn desk.drawn }
         requires bits { desk.digits.bits ≡ 6 }
+        requires leads { LeadsTo desk inward }
+        requires unused { (inward.seat.taken ≡ []) × AreUnsent outward.items }
+        requires new { (desk.home ≡ []) × (desk.drawn ≡ []) × (desk.cached ≡ []) }
         ensures desk { result.desk ≡ desk.entry }
         ensures pool { result.pool ≡ pool }
     {
@@ -92,8 +85,8 @@ impl<'r> Station<'r> {
             since: 0,
             post_from: 0,
             until_post: POST_EVERY,
-            lent: 0,
-            freed: 0,
+            lent: CountedNotes::new(),
+            freed: CountedNotes::new(),
             posted: 0,
             taken: 0,
             claimed: 0,
@@ -107,82 +100,22 @@ impl<'r> Station<'r> {
         ensures most { result ≤ most_taken }
         ensures counted { self.new.taken % 2 ^ 64 ≡ (self.old.taken + result) % 2 ^ 64 }
     {
-        let mut handled = 0u64;
-        for count in 0..MOST_TAKEN {
-            let Some(batch) = self.inward.take() else {
-                return count;
-            };
-            if batch.address() != self.desk.number() || batch.digits() != self.desk.digits() {
-                return count;
-            }
-            let (counts, empty) = self.desk.handle_and_empty(batch);
-            self.inward.return_empty(empty);
-            self.taken = self.taken.wrapping_add(1);
-            handled = handled.saturating_add(counts.home.saturating_add(counts.on));
-            if handled >= MOST_HANDLED {
-                return count + 1;
-            }
-        }
-        MOST_TAKEN
-    }
-
-    // Posts a batch to its address. It comes back where it is refused.
-    fn send(&mut self, batch: Batch<'r>) -> Option<Batch<'r>>
-        ensures keeps { KeepsStation self.old self.new }
-        ensures back { IfSome result (λ b. b ≡ batch.entry) }
-    {
-        let address = batch.address();
-        let Some(end) = self.outward.get_mut(address as usize) else {
-            return Some(batch);
-        };
-        match end.post(batch) {
-            Ok(empty) => {
-                self.desk.reuse(address, empty);
-                self.posted = self.posted.wrapping_add(1);
-                None
-            }
-            Err(batch) => Some(batch),
-        }
-    }
-
-    // Posts one batch, or sets it aside where it is refused. Says whether there was one.
-    fn post_one(&mut self, refused: &mut Refused<'r>) -> bool
-        requires { IsRefusedOf self.old.desk refused.old }
-        ensures keeps { KeepsStation self.old self.new }
-        ensures refused { IsRefusedOf self.new.desk refused.new }
-    {
-        let Some(batch) = next_of(&mut self.desk) else {
-            return false;
-        };
-        if let Some(batch) = self.send(batch) {
-            refused.add(batch);
-        }
-        true
-    }
-
-    // Posts all that is cached, and sets aside what is refused.
-    fn post_each(&mut self, refused: &mut Refused<'r>)
-        requires { IsRefusedOf self.old.desk refused.old }
-        ensures keeps { KeepsStation self.old self.new }
-        ensures refused { IsRefusedOf self.new.desk refused.new }
-    {
-        for _ in 0..MOST_POSTED {
-            if !self.post_one(refused) {
-                return;
-            }
-        }
+        let taken = take_some(&mut self.desk, &mut self.inward);
+        self.taken = self.taken.wrapping_add(taken as u64);
+        taken
     }
 
     /// Posts all that is cached. What an inbox refuses stays cached, and holds back no other batch. Says how
     /// many were posted.
     pub(crate) fn post(&mut self) -> u64
-        ensures { KeepsStation self.old self.new }
+        ensures keeps { KeepsStation self.old self.new }
+        ensures posts { PostsAll self.old self.new }
     {
-        let before = self.posted;
         let mut refused = Refused::new(self.desk.number(), self.desk.digits());
-        self.post_each(&mut refused);
+        let posted = post_each(&mut self.desk, self.outward.as_mut_slice(), &mut refused);
         self.desk.take_back(refused);
-        self.posted.wrapping_sub(before)
+        self.posted = self.posted.wrapping_add(posted);
+        posted
     }
 
     /// Adds the slots that are there to a list.
@@ -198,8 +131,8 @@ impl<'r> Station<'r> {
     {
         match which {
             0 => self.desk.number() as u64,
-            1 => self.lent,
-            2 => self.freed,
+            1 => self.lent.count(),
+            2 => self.freed.count(),
             3 => self.posted,
             4 => self.taken,
             5 => self.claimed,

@@ -1,12 +1,12 @@
 use Rattle.std.proofs.Common.{◌-◌, ◌≤◌}
 use Rattle.seated_desk.specs.Bursts.{Adds}
-use Rattle.seated_desk.specs.Kept.{IsSameStation}
+use Rattle.seated_desk.specs.Kept.{LendsOnto}
 use Rattle.seated_desk.proofs.station.Station.fill_up.Given as goal
 
 abbrev pub invariant-loop-lent : goal.invariant-loop-lent
 invariant-loop-lent l = record {
   adds : Adds l.size l.lent l.fn.parcel l.parcel;
-  same : IsSameStation l.fn.self l.self;
+  onto : LendsOnto l.fn.parcel l.parcel l.fn.self l.self;
   most : l.lent ≤ l.count;
 }
 

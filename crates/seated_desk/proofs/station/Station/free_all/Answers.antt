@@ -1,8 +1,14 @@
 use Rattle.seated_desk.proofs.Claimed.{noted_same}
 use Rattle.seated_desk.proofs.DrawnSame.{free_all_keeps}
+use Rattle.slot_balance.proofs.Balanced.{frees_all_balances}
 use Rattle.seated_desk.proofs.station.Station.free_all.Goals as goal
 
 pub invariant_of-self-clause-noted : goal.invariant_of-self-clause-noted
 invariant_of-self-clause-noted c =
     let d = c.args.self.now.desk in
     noted_same c.args.self.now.drawer.drawn d.drawn c.free_all.new.self.drawn (free_all_keeps d c.in-Some-replace.parcel c.free_all.result c.free_all.new.self c.free_all.ensures) c.args.self.now.noted
+
+pub invariant_of-self-clause-balance : goal.invariant_of-self-clause-balance
+invariant_of-self-clause-balance c =
+    let s = c.args.self.now in
+    frees_all_balances s.desk _ s.inward.seat.taken s.lent s.freed _ c.in-Some-replace.parcel c.free_all.result c.free_all.new.self s.balance c.free_all.ensures (rw c.buffers.ensures at c.and_all-self.ensures)

@@ -1,4 +1,9 @@
+use Rattle.std.proofs.Common.{sym, ap, ◌∙◌}
 use Rattle.std.specs.Prelude.{Ok}
+use Rattle.batch_inbox.specs.declared.place.Place.{Place}
+use Rattle.pool_desk.specs.Desks.{DeskState}
+use Rattle.slot_balance.proofs.Balanced.{lends_balances, same_balances}
+use Rattle.seated_desk.proofs.Claimed.{noted_same}
 use Rattle.seated_desk.proofs.DrawnSame.{alloc_noted}
 use Rattle.seated_desk.proofs.station.Station.lend_class.Goals as goal
 
@@ -6,6 +11,18 @@ pub invariant_of-self-clause-noted : goal.invariant_of-self-clause-noted
 invariant_of-self-clause-noted c =
     let s = c.args.self.now in alloc_noted s.drawer.drawn s.desk c.args.class (Ok c.in-Ok.buf) c.alloc_class.new.self c.in-Ok.ensures s.noted
 
-pub invariant_of-self-in-Err-1-clause-noted : goal.invariant_of-self-in-Err-1-clause-noted
-invariant_of-self-in-Err-1-clause-noted c =
-    let s = c.args.self.now in alloc_noted s.drawer.drawn s.desk c.args.class c.alloc_class.result c.alloc_class.new.self c.alloc_class.ensures s.noted
+pub invariant_of-self-clause-balance : goal.invariant_of-self-clause-balance
+invariant_of-self-clause-balance c =
+    let s = c.args.self.now in
+    lends_balances s.desk _ s.inward.seat.taken s.lent s.freed _ c.args.class c.in-Ok.buf c.alloc_class.new.self s.balance c.in-Ok.ensures c.and-self.ensures
+
+pub invariant_of-self-in-Err-1 : goal.invariant_of-self-in-Err-1
+invariant_of-self-in-Err-1 c =
+    let s = c.args.self.now in
+    let same = c.in-Err.ensures.1 in
+    record {
+      noted = noted_same _ _ _ (ap (λ (d : DeskState). d.drawn) same) s.noted;
+      bits = ap (λ (d : DeskState). d.digits.bits) same ∙ s.bits;
+      leads = s.leads ∙ sym (ap (λ (d : DeskState). let p : Place = record { address = d.number; digits = d.digits } in p) same);
+      balance = same_balances s.desk _ s.inward.seat.taken s.lent s.freed c.alloc_class.new.self s.balance same;
+    }
