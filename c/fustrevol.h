@@ -78,17 +78,21 @@
  *     came are at the burst's end, or the last one, or all, left it; after any other answer, fv_burst_fill
  *     aside, the burst is as it was. What fv_burst_fill lent before it stopped is at the burst's end.
  *     fv_burst_len tells how many a burst has, and fv_burst_at how many bytes each of them;
+ *   - nothing is lost at an allocator, and nothing is there twice: slot by slot, what it has, posted and lent
+ *     is what it drew, took and what was freed to it;
  *   - fv_flush and fv_collect keep the allocator, its chunks and its counts of what was lent and freed.
- *     fv_collect answers FV_OK where one to 64 batches came, and else moves no slot;
+ *     fv_flush posts all that is cached, but what an inbox has no room for. fv_collect answers FV_OK where one
+ *     to 64 batches came, and else moves no slot;
  *   - fv_pool_stat and fv_allocator_stat tell what the library counted (FV_ALLOCATOR_STOCK aside), and
- *     change nothing;
+ *     change nothing; FV_ALLOCATOR_LENT and FV_ALLOCATOR_FREED count the buffers, modulo 2^64;
  *   - a buffer's bytes are lent to nobody else until it is freed.
  *
  * These are true by how the library is built, and tested:
  *   - `at` and fv_burst_at tell where a buffer's bytes lie;
- *   - the library counts what fv_allocator_stat says;
+ *   - the library counts what fv_allocator_stat says of batches and chunks;
  *   - each fv_pool_open gives the pool a number of its own, by which its allocators know what is theirs;
- *   - nothing that was freed is lost, so that fv_pool_close answers FV_OK where all buffers were freed;
+ *   - what one allocator posted comes to the other, so that fv_pool_close answers FV_OK where all buffers
+ *     were freed;
  *   - after fv_pool_close the region is the caller's again, as the call says.
  *
  * WHAT THE CALLER KEEPS. No proof sees these rules, and breaking one of them is undefined behaviour, except

@@ -19,6 +19,7 @@ WORDS = {
     "link_inbox": "queue of linked nodes",
     "pool_machine": "the abstract machine",
     "slot_audit": "each slot once?",
+    "slot_balance": "nothing is lost",
     "chunk_stock": "chunks, without a lock",
     "seated_desk": "allocators in C's storage",
     "fustrevol_c": "what C calls",
