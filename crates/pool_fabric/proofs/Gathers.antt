@@ -19,7 +19,7 @@ use Rattle.pool_fabric.specs.Whole.{IsWhole, FreesNoMore, IsEachDesk}
 use Rattle.slot_balance.proofs.Sums.{weigh-append, weigh-snoc, weigh-map}
 use Rattle.slot_chain.specs.Slots.{slot_of}
 use Rattle.std.proofs.lemmas.List.{map-append}
-use Rattle.pool_fabric.proofs.Columns.{each_more, get_front, get_seam}
+use Rattle.slot_balance.proofs.Rows.{each_more, get_front, get_seam}
 
 -- both pages in one
 abbrev pub both : PageState → PageState → PageState

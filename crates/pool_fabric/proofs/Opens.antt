@@ -5,12 +5,14 @@ use Rattle.std.specs.Prelude.{slice_get, true}
 use Rattle.batch_inbox.specs.States.{TakeState}
 use Rattle.slot_balance.specs.Weights.{weigh}
 use Rattle.pool_fabric.specs.Names.{Names, box_at}
-use Rattle.pool_fabric.specs.Seats.{SeatState, NoneSent}
+use Rattle.slot_balance.specs.Seats.{AreParted}
+use Rattle.pool_fabric.specs.Seats.{SeatState, AreSeatsBy, NoneSent}
 use Rattle.pool_fabric.specs.Accounts.{of_drawn}
 use Rattle.slot_balance.proofs.Balanced.{new_balances}
 use Rattle.pool_fabric.specs.Stations.{StationState, IsSeated, IsStation, IsFresh}
-use Rattle.pool_fabric.specs.Opened.{IsColumn, AreColumns, AreNewTakes}
-use Rattle.pool_fabric.proofs.Columns.{get_front, get_seam}
+use Rattle.pool_fabric.specs.Opened.{AreColumns, AreNewTakes}
+use Rattle.slot_balance.proofs.Opened.{last_are, others_are}
+use Rattle.slot_balance.proofs.Rows.{get_front, get_seam}
 
 nothing : {A : Type 0} (f : A → ℕ) (xs : List A) → xs ≡ [] → weigh f xs ≡ 0
 nothing f xs e = ap (weigh f) e
@@ -25,17 +27,15 @@ fresh_keeps n s f i = record {
   seated = i;
 }
 
-pub column_here : (n : Names) (many : ℕ) (columns done rest : List (List SeatState)) (c : List SeatState) → AreColumns n many columns → done ++ c ∷ rest ≡ columns → IsColumn n many (length done) c
-column_here n many columns done rest c r is = r.each (length done) c (ap (λ l. slice_get l (length done)) (sym is) ∙ get_seam done c rest)
-
-pub column_popped : (n : Names) (k m : ℕ) (c rest : List SeatState) (x : SeatState) → c ≡ rest ++ x ∷ [] → IsColumn n (m + 1) k c
-    → IsColumn n m k rest × (x.inbox ≡ box_at n k) × (x.sender ≡ m) × (x.resting ≡ true) × (x.sent ≡ [])
-column_popped n k m c rest x is r =
-    let len : length rest ≡ m = let e = ap length is in let f = length-append rest (x ∷ []) in let g = r.0 in omega arith in
-    let up : (j : ℕ) (y : SeatState) → slice_get rest j ≡ Some y → slice_get c j ≡ Some y = λ j y e. ap (λ l. slice_get l j) is ∙ get_front rest (x ∷ []) j y e in
-    let last : slice_get c (length rest) ≡ Some x = ap (λ l. slice_get l (length rest)) is ∙ get_seam rest x [] in
-    let at = r.2 (length rest) x last in
-    ((len, (λ j y e. r.1 j y (up j y e)), (λ j y e. r.2 j y (up j y e))), at.0, at.1 ∙ len, at.2, r.1 (length rest) x last)
+-- the seats at each inbox without those of the last sender, and these seats
+pub columns_parted : (n : Names) (m : ℕ) (columns others : List (List SeatState)) (last : List SeatState) → AreParted columns others last → AreColumns n (m + 1) columns
+    → AreColumns n m others × AreSeatsBy n m last × NoneSent last
+columns_parted n m columns others last p r =
+    let of = last_are (λ k i. i ≡ box_at n k) m columns others last p r.each in (
+      record { each = others_are (λ k i. i ≡ box_at n k) m columns others last p r.each },
+      record { each = λ k x e. let q = of k x e in (q.0, q.1, q.2) },
+      (λ k x e. (of k x e).3),
+    )
 
 -- the last take seat, and the others
 pub take_popped : (n : Names) (ts rest : List TakeState) (t : TakeState) → AreNewTakes n ts → ts ≡ rest ++ t ∷ []

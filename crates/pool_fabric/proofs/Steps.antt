@@ -19,7 +19,7 @@ use Rattle.pool_fabric.specs.Calls.{ClaimsPart}
 use Rattle.pool_fabric.specs.Stations.{StationState, KeepsLoans, IsSeated, IsStation}
 use Rattle.slot_chain.specs.Slots.{slot_of}
 use Rattle.slot_balance.proofs.Sums.{weigh-append, weigh-snoc}
-use Rattle.pool_fabric.proofs.Columns.{map-snoc}
+use Rattle.slot_balance.proofs.Rows.{map-snoc}
 use Rattle.std.proofs.lemmas.List.{map-append}
 use Rattle.pool_fabric.proofs.DeskSums.{claimed_chunk, gave_chunks}
 use Rattle.slot_balance.proofs.DeskSums.{got_all_back_drawn, got_back_drawn}

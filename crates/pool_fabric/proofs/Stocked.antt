@@ -11,7 +11,7 @@ use Rattle.slot_audit.specs.Audit.{class_noted}
 use Rattle.pool_fabric.specs.declared.ledger.DrawnChunk.{DrawnChunk}
 use Rattle.pool_fabric.specs.Pages.{drawn_for}
 use Rattle.pool_fabric.specs.Stocks.{StockState, IsRising, AreChunks, AreApart, AreUndrawn, AreTold, IsFull, GivesPart}
-use Rattle.pool_fabric.proofs.Columns.{get_front, get_seam, each_more}
+use Rattle.slot_balance.proofs.Rows.{get_front, get_seam, each_more}
 
 numbered_at : (ps : List Part) (k n i : ℕ) (p : Part) → map number_of ps ≡ numbers_from k n → slice_get ps i ≡ Some p → (p.chunk ≡ k + i) × (i < n)
 numbered_at [] k n i p e f = absurd (cc)

@@ -6,6 +6,7 @@ use Rattle.digit_route.specs.States.{BatchState}
 use Rattle.pool_desk.specs.Desks.{DeskState}
 use Rattle.batch_inbox.specs.States.{InboxId, TakeState}
 use Rattle.slot_balance.specs.Weights.{weigh}
+pub use Rattle.slot_balance.specs.Seats.{taking_of}
 use Rattle.pool_fabric.specs.Names.{Names, box_at}
 use Rattle.pool_fabric.specs.Pages.{PageState}
 use Rattle.pool_fabric.specs.Seats.{SeatState, AreSeatsBy}
@@ -17,10 +18,6 @@ use Rattle.pool_fabric.specs.Stations.{StationState, KeepsLoans}
 -- these are the seats at the inbox, of the senders in order
 pub record AreOf (inbox : InboxId) (seats : List SeatState) : Type 0 where
   pub each : (a : ℕ) (x : SeatState) → slice_get seats a ≡ Some x → (x.inbox ≡ inbox) × (x.sender ≡ a)
-
--- what a contract sees of a take seat
-abbrev pub taking_of : {T : Type 0} → (T → InboxId) → (T → ℕ) → (T → List BatchState) → T → TakeState
-taking_of inbox senders taken t = record { inbox = inbox t; senders = senders t; taken = taken t }
 
 -- `columns` is the number of inboxes that are not ended yet; each row has the seats of one sender at these
 pub record GatheredState : Type 0 where

@@ -5,6 +5,7 @@ use Rattle.region_cut.specs.declared.part.Part.{Part}
 use Rattle.digit_route.specs.Digits.{Scheme}
 use Rattle.digit_route.specs.Limits.{largest_limit}
 use Rattle.batch_inbox.specs.States.{InboxId, TakeState}
+pub use Rattle.slot_balance.specs.Opened.{AreOpened}
 use Rattle.pool_fabric.specs.Ledgers.{whole}
 use Rattle.pool_fabric.specs.Names.{Names, box_at}
 use Rattle.pool_fabric.specs.Pages.{PageState, new_page}
@@ -29,18 +30,6 @@ pub record AreColumns (n : Names) (many : ℕ) (columns : List (List SeatState))
 pub record AreNewTakes (n : Names) (takes : List TakeState) : Type 0 where
   pub each : (k : ℕ) (t : TakeState) → slice_get takes k ≡ Some t
       → (t.inbox ≡ box_at n k) × (t.senders ≡ n.count) × (t.taken ≡ [])
-
--- inboxes and their seats, where nothing was sent or taken: each seat is of the inbox at its place in the lists
-pub record AreOpened (digits : Scheme) (senders : ℕ)
-    (boxes : List InboxId) (takes : List TakeState) (columns : List (List SeatState)) : Type 0 where
-  pub inbox : (k : ℕ) (i : InboxId) → slice_get boxes k ≡ Some i
-      → i.place ≡ record { address = k; digits = digits }
-  pub take : (k : ℕ) (t : TakeState) → slice_get takes k ≡ Some t
-      → (slice_get boxes k ≡ Some t.inbox) × (t.senders ≡ senders) × (t.taken ≡ [])
-  pub column : (k : ℕ) (c : List SeatState) → slice_get columns k ≡ Some c
-      → (length c ≡ senders) × NoneSent c
-      × ((a : ℕ) (s : SeatState) → slice_get c a ≡ Some s
-      → (slice_get boxes k ≡ Some s.inbox) × (s.sender ≡ a) × (s.resting ≡ true))
 
 -- what the stations of a fabric agree on that is made of these inboxes, these ledgers, and a stock with these parts left,
 -- with caches of this limit

@@ -3,15 +3,12 @@ use Rattle.std.specs.Prelude.{◌≡◌, ℕ, true, List, [], length, Some, slic
 use Rattle.batch_inbox.specs.States.{InboxId}
 use Rattle.pool_fabric.specs.Names.{Names, box_at}
 pub use Rattle.slot_balance.specs.Seats.{SeatState, seat_of}
+pub use Rattle.slot_balance.specs.Opened.{NoneSent}
 
 -- these are the seats of the sender a, one at each inbox, in order, all at rest
 pub record AreSeatsBy (n : Names) (a : ℕ) (seats : List SeatState) : Type 0 where
   pub each : (k : ℕ) (x : SeatState) → slice_get seats k ≡ Some x
       → (x.inbox ≡ box_at n k) × (x.sender ≡ a) × (x.resting ≡ true)
-
--- nothing was sent from these seats
-abbrev pub NoneSent : List SeatState → Type 0
-NoneSent seats = (k : ℕ) (x : SeatState) → slice_get seats k ≡ Some x → x.sent ≡ []
 
 -- the inboxes of a fabric, that of each desk at its number
 pub record AreBoxes (n : Names) (boxes : List InboxId) : Type 0 where

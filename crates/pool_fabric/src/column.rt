@@ -8,8 +8,8 @@ ghost use Rattle.pool_fabric.specs.Gathered.{AreRows, AreAt};
 
 use crate::named::Named;
 use crate::naming::Naming;
-use crate::row::Row;
 use batch_inbox::Sender;
+use slot_balance::{Parted, Row, part_last};
 use std::alloc::{AllocError, Global};
 
 /// The seats at the last inbox, and the others.
@@ -36,19 +36,10 @@ pub(crate) fn last_column<S: Sender, J: Naming>(
         → of_seats h (map (seat_of S.inbox S.number S.sent S.resting) c.seats.items) + weigh (of_seats h) c.rows.items
         ≡ weigh (of_seats h) rows.items) }
 {
-    let mut seats = Vec::new(alloc);
-    let mut others = Vec::new(alloc);
-    for row in rows {
-        let mut row = row;
-        let Some(seat) = row.pop() else {
-            unreachable!();
-        };
-        seats.push(seat)?;
-        others.push(row)?;
-    }
+    let Parted { rows, last: seats } = part_last(alloc, rows)?;
     Ok(Column {
         seats,
-        rows: others,
+        rows,
         of: Named::new(),
     })
 }

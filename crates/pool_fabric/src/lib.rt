@@ -10,7 +10,6 @@
 //! stations are back and all inboxes drained, [`gather`] finds each slot.
 #![tactic(auto)]
 
-mod boxes;
 mod buffer;
 mod column;
 mod drained;
@@ -26,7 +25,6 @@ mod named;
 mod naming;
 mod opening;
 mod parcel;
-mod row;
 mod shelf;
 mod shelving;
 mod station;

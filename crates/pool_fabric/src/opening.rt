@@ -4,12 +4,12 @@ ghost use Rattle.region_cut.specs.Parts.{AreNumbered, number_of};
 ghost use Rattle.digit_route.specs.Limits.{largest_limit};
 ghost use Rattle.pool_fabric.specs.Opened.{most_desks};
 
-use crate::boxes::{Boxes, open_boxes};
 use crate::ledger::{Ledger, Page};
 use crate::stock::Stock;
 use batch_inbox::{Mailbox, NewMail, Receiver, Sender};
 use digit_route::Digits;
 use region_cut::Part;
+use slot_balance::{Boxes, open_boxes};
 use slot_chain::NoMemory;
 use std::alloc::Global;
 use std::fmt;

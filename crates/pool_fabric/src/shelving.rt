@@ -8,19 +8,18 @@ ghost use Rattle.pool_fabric.specs.Opened.{AreColumns, AreNewTakes, most_desks};
 ghost use Rattle.pool_fabric.specs.Gathered.{taking_of};
 ghost use Rattle.pool_fabric.specs.Seats.{seat_of, AreSeatsBy, NoneSent};
 
-use crate::boxes::Boxes;
 use crate::fabric::Fabric;
 use crate::ledger::{Ledger, Page};
 use crate::named::Named;
 use crate::naming::Naming;
 use crate::opening::Opening;
-use crate::row::Row;
 use crate::shelf::Shelf;
 use crate::station::Station;
 use crate::store::Store;
 use batch_inbox::{Mailbox, Receiver, Sender};
 use digit_route::Digits;
 use pool_desk::IdleDesk;
+use slot_balance::{Boxes, Parted, Row, part_last};
 use slot_chain::NoMemory;
 use std::alloc::{AllocError, Global};
 use std::sync::Mutex;
@@ -47,19 +46,13 @@ fn last_row<S: Sender, J: Naming>(
         × (length c.seats.items ≡ length columns.items)
         × NoneSent (map (seat_of S.inbox S.number S.sent S.resting) c.seats.items)) }
 {
-    let mut seats = Vec::new(alloc);
-    let mut others = Vec::new(alloc);
-    for column in columns {
-        let mut column = column;
-        let Some(seat) = column.pop() else {
-            unreachable!();
-        };
-        seats.push(seat)?;
-        others.push(column)?;
-    }
+    let Parted {
+        rows: columns,
+        last: seats,
+    } = part_last(alloc, columns)?;
     Ok(LastRow {
         seats,
-        columns: others,
+        columns,
         of: Named::new(),
     })
 }

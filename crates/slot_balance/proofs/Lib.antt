@@ -2,5 +2,8 @@ pub mod Walks
 pub mod Sums
 pub mod DeskSums
 pub mod Posting
+pub mod Seated
+pub mod Rows
+pub mod Opened
 pub mod Balanced
 pub mod Travels

@@ -5,7 +5,7 @@ use Rattle.digit_route.specs.States.{BatchState}
 use Rattle.batch_inbox.specs.Views.{batches_of}
 use Rattle.pool_fabric.specs.Seats.{SeatState, seat_of}
 use Rattle.slot_balance.proofs.Posting.{get_map, length-mapped}
-use Rattle.pool_fabric.proofs.Columns.{get_mapped}
+use Rattle.slot_balance.proofs.Rows.{get_mapped}
 use Rattle.pool_fabric.proofs.Cancels.{cancels}
 use Rattle.pool_fabric.proofs.drained.drained.Goals as goal
 

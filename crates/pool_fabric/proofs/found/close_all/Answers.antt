@@ -1,6 +1,6 @@
 use Rattle.std.proofs.Common.{[], ◌∷◌, length, ap, ◌∙◌, arith, length-append}
 use Rattle.std.specs.Prelude.{slice_get}
-use Rattle.pool_fabric.proofs.Columns.{get_front}
+use Rattle.slot_balance.proofs.Rows.{get_front}
 use Rattle.pool_fabric.proofs.found.close_all.Goals as goal
 
 pub loop-inbox-preserved : goal.loop-inbox-preserved

@@ -4,7 +4,7 @@ use Rattle.pool_fabric.specs.Pages.{PageState, new_page}
 use Rattle.pool_fabric.specs.Gathered.{taking_of}
 use Rattle.pool_fabric.specs.Opened.{AreColumns}
 use Rattle.slot_balance.proofs.Posting.{length-mapped}
-use Rattle.pool_fabric.proofs.Columns.{map-snoc}
+use Rattle.slot_balance.proofs.Rows.{map-snoc}
 use Rattle.pool_fabric.proofs.Opens.{take_popped}
 use Rattle.pool_fabric.proofs.shelving.shelved.Goals as goal
 

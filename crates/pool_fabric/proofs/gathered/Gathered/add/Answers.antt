@@ -1,7 +1,7 @@
 use Rattle.std.proofs.Common.{length, sym, ap, ◌∙◌}
 use Rattle.pool_fabric.specs.Stations.{StationState}
 use Rattle.pool_fabric.specs.Gathered.{GatheredState, taking_of}
-use Rattle.pool_fabric.proofs.Columns.{map-snoc}
+use Rattle.slot_balance.proofs.Rows.{map-snoc}
 use Rattle.pool_fabric.proofs.Gathers.{adds_keeps}
 use Rattle.pool_fabric.proofs.gathered.Gathered.add.Goals as goal
 

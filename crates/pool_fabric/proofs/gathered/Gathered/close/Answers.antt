@@ -2,7 +2,7 @@ use Rattle.std.proofs.Common.{◌-◌, length, map, refl, sym, ap, ◌∙◌}
 use Rattle.pool_fabric.specs.Names.{box_at}
 use Rattle.pool_fabric.specs.Seats.{seat_of}
 use Rattle.pool_fabric.specs.Gathered.{GatheredState, taking_of}
-use Rattle.pool_fabric.proofs.Columns.{map-snoc}
+use Rattle.slot_balance.proofs.Rows.{map-snoc}
 use Rattle.pool_fabric.proofs.Gathers.{last_take, seats_of, closes_keeps}
 use Rattle.pool_fabric.proofs.gathered.Gathered.close.Goals as goal
 

@@ -1,10 +1,10 @@
 use Rattle.std.proofs.Common.{◌+◌, [], ◌∷◌, map, sym, ap, ◌∙◌, length-append}
-use Rattle.pool_fabric.specs.Gathered.{taking_of}
-use Rattle.pool_fabric.specs.Seats.{seat_of}
+use Rattle.slot_balance.specs.Seats.{taking_of}
+use Rattle.slot_balance.specs.Seats.{seat_of}
 use Rattle.slot_balance.proofs.Posting.{length-mapped}
-use Rattle.pool_fabric.proofs.Columns.{map-snoc}
-use Rattle.pool_fabric.proofs.NewBoxes.{opened_more, new_seats}
-use Rattle.pool_fabric.proofs.boxes.open_boxes.Goals as goal
+use Rattle.slot_balance.proofs.Rows.{map-snoc}
+use Rattle.slot_balance.proofs.Opened.{opened_more, new_seats}
+use Rattle.slot_balance.proofs.boxes.open_boxes.Goals as goal
 
 pub loop-address-preserved : goal.loop-address-preserved
 loop-address-preserved g c =

@@ -1,7 +1,8 @@
-//! The inboxes of a fabric, with all their seats.
+//! The inboxes of a pool, with all their seats.
 ghost use Rattle.std.specs.Prelude.{◌≡◌, ◌≤◌, length, map, IfOk};
-ghost use Rattle.pool_fabric.specs.Gathered.{taking_of};
-ghost use Rattle.pool_fabric.specs.Opened.{AreOpened, most_desks};
+ghost use Rattle.batch_inbox.specs.Limits.{sender_limit};
+ghost use Rattle.slot_balance.specs.Seats.{taking_of};
+ghost use Rattle.slot_balance.specs.Opened.{AreOpened};
 
 use crate::row::Row;
 use batch_inbox::{Mailbox, NewMail, Receiver, Sender};
@@ -11,19 +12,19 @@ use std::alloc::Global;
 
 /// Inboxes, the take seat of each, and the send seats at each.
 #[derive(Drop)]
-pub(crate) struct Boxes<M: Mailbox, T: Receiver, S: Sender> {
-    pub(crate) inboxes: Vec<M>,
-    pub(crate) takes: Vec<T>,
-    pub(crate) columns: Vec<Row<S>>,
+pub struct Boxes<M: Mailbox, T: Receiver, S: Sender> {
+    pub inboxes: Vec<M>,
+    pub takes: Vec<T>,
+    pub columns: Vec<Row<S>>,
 }
 
 /// Opens an inbox for each desk, at which each desk has a seat.
-pub(crate) fn open_boxes<T: Receiver, S: Sender, M: NewMail<T, S>>(
+pub fn open_boxes<T: Receiver, S: Sender, M: NewMail<T, S>>(
     alloc: Global,
     digits: Digits,
     desks: u16,
 ) -> Result<Boxes<M, T, S>, NoMemory>
-    requires desks { (1 ≤ desks) × (desks ≤ most_desks) }
+    requires desks { (1 ≤ desks) × (desks ≤ sender_limit) }
     ensures opened { IfOk result (λ b. AreOpened digits desks (map M.id b.inboxes.items)
         (map (taking_of T.inbox T.senders T.taken) b.takes.items) b.columns.items) }
     ensures count { IfOk result (λ b. (length b.inboxes.items ≡ desks)

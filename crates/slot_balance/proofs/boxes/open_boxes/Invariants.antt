@@ -1,7 +1,7 @@
 use Rattle.std.proofs.Common.{◌≡◌, length, map}
-use Rattle.pool_fabric.specs.Gathered.{taking_of}
-use Rattle.pool_fabric.specs.Opened.{AreOpened}
-use Rattle.pool_fabric.proofs.boxes.open_boxes.Given as goal
+use Rattle.slot_balance.specs.Seats.{taking_of}
+use Rattle.slot_balance.specs.Opened.{AreOpened}
+use Rattle.slot_balance.proofs.boxes.open_boxes.Given as goal
 
 abbrev pub invariant-loop-address : goal.invariant-loop-address
 invariant-loop-address g l = record {
