@@ -271,20 +271,20 @@ static void wrong_pool(unsigned char *region) {
   open_two(region);
   ANSWERS(fv_pool_open(&other_pool, region + LEN, LEN, 1, 6, 65536), FV_OK);
   ANSWERS(fv_pool_attach(&other_pool, &none), FV_OK);
-  CHECK(fv_allocator_stat(&b, FV_ALLOCATOR_NUMBER) == fv_allocator_stat(&none, FV_ALLOCATOR_NUMBER));
-  ANSWERS(fv_alloc(&b, &buf, 64), FV_OK);
+  CHECK(fv_allocator_stat(&a, FV_ALLOCATOR_NUMBER) == fv_allocator_stat(&none, FV_ALLOCATOR_NUMBER));
+  ANSWERS(fv_alloc(&a, &buf, 64), FV_OK);
   unsigned char *at = buf.at;
   ANSWERS(fv_free(&none, &buf), FV_STRANGER);
   CHECK(buf.at == at && fv_buf_capacity(&buf) == 64 && fv_allocator_stat(&none, FV_ALLOCATOR_FREED) == 0);
 
-  ANSWERS(fv_burst_open(&b, &burst, 8), FV_OK);
-  ANSWERS(fv_burst_fill(&b, &burst, 64, 3), FV_OK);
+  ANSWERS(fv_burst_open(&a, &burst, 8), FV_OK);
+  ANSWERS(fv_burst_fill(&a, &burst, 64, 3), FV_OK);
   ANSWERS(fv_burst_fill(&none, &burst, 64, 1), FV_STRANGER);
   ANSWERS(fv_burst_free(&none, &burst), FV_STRANGER);
   ANSWERS(fv_alloc(&none, &second, 64), FV_OK);
   ANSWERS(fv_burst_push(&burst, &second), FV_STRANGER);
   CHECK(fv_burst_len(&burst) == 3 && fv_buf_capacity(&second) == 64);
-  ANSWERS(fv_free(&b, &second), FV_STRANGER);
+  ANSWERS(fv_free(&a, &second), FV_STRANGER);
   ANSWERS(fv_free(&none, &second), FV_OK);
   ANSWERS(fv_burst_pop(&burst, &second), FV_OK); /* it is of the burst's pool */
   ANSWERS(fv_free(&none, &second), FV_STRANGER);

@@ -1,35 +1,24 @@
 -- A shelf of stations gets one more, and one of its stations moves batches.
-use Rattle.std.proofs.Common.{◌≡◌, ◌⊎◌, ℕ, zero, suc, ◌+◌, List, [], ◌∷◌, ◌++◌, length, get_or, set, Some, refl, sym, ap, subst, ◌∙◌, inl, inr, ⊎_elim, length-append, arith}
+use Rattle.std.proofs.Common.{◌≡◌, ℕ, suc, ◌+◌, List, [], ◌∷◌, ◌++◌, length, get_or, set, Some, sym, subst, ◌∙◌, arith}
 use Rattle.std.specs.Prelude.{All, slice_get}
 use Rattle.std.proofs.Math.Seq.{map-set_same}
 use Rattle.pool_desk.specs.Desks.{DeskState}
 use Rattle.chunk_stock.specs.Notes.{NotesNone}
 use Rattle.chunk_stock.specs.declared.drawer.Drawer.{Drawer}
+use Rattle.slot_balance.proofs.Rows.{each_more}
 use Rattle.seated_desk.specs.Claims.{IsSameDesk}
 use Rattle.seated_desk.specs.Kept.{IsOfOne, IsSameStation, KeepsStation}
 use Rattle.seated_desk.specs.Settled.{AreSettled, desk_of}
 use Rattle.seated_desk.specs.Shelves.{AreNumbered}
 use Rattle.seated_desk.specs.declared.station.Station.{Station}
 
-get_snoc : {X : Type 0} (xs : List X) (x s : X) (k : ℕ) → slice_get (xs ++ x ∷ []) k ≡ Some s → (slice_get xs k ≡ Some s) ⊎ ((k ≡ length xs) × (x ≡ s))
-get_snoc [] x s zero e = inr (refl, cc)
-get_snoc [] x s (suc k) e = absurd (cc)
-get_snoc (y ∷ ys) x s zero e = inl e
-get_snoc (y ∷ ys) x s (suc k) e = ⊎_elim (λ h. inl h) (λ h. inr (ap suc h.0, h.1)) (get_snoc ys x s k e)
+-- one more, with the number before
+pub numbered_next : (pool many : ℕ) (xs ys : List Station) (x : Station) → AreNumbered pool many xs → x.desk.number + length xs + 1 ≡ many → x.pool ≡ pool → ys ≡ xs ++ x ∷ [] → AreNumbered pool many ys
+numbered_next pool many xs ys x old number of e k s at =
+    each_more (λ j (y : Station). (y.desk.number + j + 1 ≡ many) × (y.pool ≡ pool)) xs x old (number, of) k s (subst (λ (l : List Station). slice_get l k ≡ Some s) e at)
 
--- one more, with the next number
-pub numbered_next : (pool : ℕ) (xs ys : List Station) (x : Station) (n : ℕ) → AreNumbered pool xs × (length xs ≡ n) → (x.desk.number ≡ n) × (x.pool ≡ pool) → ys ≡ xs ++ x ∷ []
-    → AreNumbered pool ys × (length ys ≡ n + 1)
-numbered_next pool xs ys x n old is e = (
-  λ k s at.
-      ⊎_elim (λ h. old.0 k s h)
-      (λ (h : (k ≡ length xs) × (x ≡ s)). (ap (λ (y : Station). y.desk.number) (sym h.1) ∙ is.0 ∙ sym old.1 ∙ sym h.0, ap (λ (y : Station). y.pool) (sym h.1) ∙ is.1))
-      (get_snoc xs x s k (subst (λ (l : List Station). slice_get l k ≡ Some s) e at)),
-  ap length e ∙ length-append xs (x ∷ []) ∙ ap (λ m. m + 1) old.1,
-)
-
-pub none_numbered : (pool : ℕ) (xs : List Station) → xs ≡ [] → AreNumbered pool xs × (length xs ≡ 0)
-none_numbered pool xs e = subst (λ (l : List Station). AreNumbered pool l × (length l ≡ 0)) (sym e) (λ k s at. absurd (cc), refl)
+pub none_numbered : (pool many : ℕ) (xs : List Station) → xs ≡ [] → AreNumbered pool many xs
+none_numbered pool many xs e = subst (λ (l : List Station). AreNumbered pool many l) (sym e) (λ k s at. absurd (cc))
 
 -- drawers that noted nothing are taken one by one
 pub new_same : (xs ys : List Drawer) → xs ≡ ys → All (λ (d : Drawer). NotesNone d.drawn) ys → All (λ (d : Drawer). NotesNone d.drawn) xs

@@ -5,7 +5,7 @@ use denote.RattleType.{RattleType}
 use denote.Struct.Struct.{Struct}
 use denote.Struct.Declared.{Declared, row, shape, fields}
 use denote.Param.Send.{IsSend, IsSync, AllSend, sendable, struct_send, recorded_send}
-use Rattle.std.proofs.Crossing.{crosses, Vec-send, Arc-send, send, frees}
+use Rattle.std.proofs.Crossing.{crosses, Vec-send, Vec-sync, Arc-send, send, frees}
 use Rattle.std.proofs.option.Option.TheSendSync.{the_send as option_send}
 use Rattle.std.specs.contracts.alloc.Global as Heap
 use Rattle.std.specs.contracts.impls.GlobalAllocator.TheImpl.{ghosts}
@@ -17,14 +17,13 @@ use Rattle.region_cut.proofs.part.Part.TheSendSync.{the_send as part_send}
 use Rattle.digit_route.proofs.Travels.{buf_send, parcel_send}
 use Rattle.pool_desk.proofs.Travels.{desk_send}
 use Rattle.link_inbox.specs.contracts.inbox.LinkInbox as LinkInbox
+use Rattle.link_inbox.specs.contracts.seats.SendSeat as SendSeat
 use Rattle.link_inbox.proofs.Travels.{link_inbox_sync, load_send, seat_send, take_send}
 use Rattle.slot_audit.specs.contracts.drawn.Drawn as Drawn
 use Rattle.slot_balance.proofs.Travels.{notes_send}
 use Rattle.chunk_stock.specs.contracts.drawer.Stock as Stock
 use Rattle.chunk_stock.specs.contracts.drawer.Drawer as Drawer
 use Rattle.seated_desk.specs.contracts.buf_handle.BufHandle as BufHandle
-use Rattle.seated_desk.specs.contracts.ends.TakingEnd as TakingEnd
-use Rattle.seated_desk.specs.contracts.ends.PostingEnd as PostingEnd
 use Rattle.seated_desk.specs.contracts.station.Station as Station
 use Rattle.seated_desk.specs.contracts.allocator_handle.AllocatorHandle as AllocatorHandle
 use Rattle.seated_desk.specs.contracts.pool.Pool as Pool
@@ -50,12 +49,6 @@ stock_sync a = search (sendable, crosses, option_send, part_send, shared_sync, l
 stock_send : (a : NamedLft) → IsSend (Stock.the_row a)
 stock_send a = search (sendable, crosses, option_send, part_send, shared_send, leases_send) depth 40 fits 6000
 
-in_all : (a : NamedLft) → AllSend (fields (TakingEnd.the_type a))
-in_all a = (Arc-send (LinkInbox.the_row a) (inbox_send a) (link_inbox_sync a), (take_send a, tt))
-
-out_send : (a : NamedLft) → IsSend (PostingEnd.the_row a)
-out_send a = send_fields (PostingEnd.the_type a) (Arc-send (LinkInbox.the_row a) (inbox_send a) (link_inbox_sync a), (seat_send a, tt))
-
 number_send : IsSend u64
 number_send = search (sendable, crosses) depth 20
 
@@ -68,16 +61,13 @@ drawer_all a = (Arc-send (Stock.the_row a) (stock_send a) (stock_sync a), (searc
 heap_field : IsSend (Heap.the_field).row
 heap_field = search (sendable, crosses) depth 20
 
-in_field : (a : NamedLft) → IsSend (TakingEnd.the_field a).row
-in_field a = struct_send (shape (TakingEnd.the_type a)) (in_all a)
-
 drawer_field : (a : NamedLft) → IsSend (Drawer.the_field a).row
 drawer_field a = struct_send (shape (Drawer.the_type a)) (drawer_all a)
 
 pub station_send : (a : NamedLft) → IsSend (Station.the_row a)
 station_send a =
     let n = number_send in
-    send_fields (Station.the_type a) (heap_field, (n, (desk_send a, (in_field a, (Vec-send (PostingEnd.the_row a) (out_send a), (drawer_field a, (n, (n, (n, (notes_send a, (notes_send a, (n, (n, (n, tt))))))))))))))
+    send_fields (Station.the_type a) (heap_field, (n, (desk_send a, (Arc-send _ (Vec-send (LinkInbox.the_row a) (inbox_send a)) (Vec-sync (LinkInbox.the_row a) (link_inbox_sync a)), (take_send a, (Vec-send (SendSeat.the_row a) (seat_send a), (drawer_field a, (n, (n, (n, (notes_send a, (notes_send a, (n, (n, (n, tt)))))))))))))))
 
 pub seated_send : (a : NamedLft) → IsSend (AllocatorHandle.the_row a)
 seated_send a = search (sendable, crosses, option_send, station_send) depth 40 fits 6000

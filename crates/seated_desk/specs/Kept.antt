@@ -47,7 +47,7 @@ pub record KeepsStation (old new : Station) : Type 0 where
 -- again, and nothing else is.
 abbrev pub PostsAll : Station → Station → Type 0
 PostsAll old new =
-    Posts old.desk.digits old.desk.number old.desk.cached (seats_at old.outward.items) [] new.desk.cached (seats_at new.outward.items)
+    Posts old.desk.digits old.desk.number old.desk.cached (seats_at old.seats.items) [] new.desk.cached (seats_at new.seats.items)
 
 -- what was refused is of this desk
 pub record IsRefusedOf (desk : DeskState) (refused : RefusedState) : Type 0 where

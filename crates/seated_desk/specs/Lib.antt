@@ -3,7 +3,6 @@ pub mod Bursts
 pub mod Claims
 pub mod Handles
 pub mod Kept
-pub mod Ready
 pub mod Settled
 pub mod Shelves
 pub mod Stats

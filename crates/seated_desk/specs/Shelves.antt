@@ -1,5 +1,5 @@
 -- What a call does to a pool's shelf.
-use Rattle.std.specs.Prelude.{◌≡◌, ◌≢◌, ◌<◌, ℕ, List, [], ◌∷◌, ◌++◌, Some, None, slice_get}
+use Rattle.std.specs.Prelude.{◌≡◌, ◌≢◌, ◌<◌, ◌+◌, ℕ, List, [], ◌∷◌, ◌++◌, Some, None, length, slice_get}
 use Rattle.seated_desk.specs.Answers.{refusal_number}
 use Rattle.seated_desk.specs.Kept.{KeepsStation}
 use Rattle.seated_desk.specs.Settled.{IsAudited}
@@ -8,15 +8,16 @@ use Rattle.seated_desk.specs.declared.pool.Pool.{Pool}
 use Rattle.seated_desk.specs.declared.allocator_handle.AllocatorHandle.{AllocatorHandle}
 use Rattle.seated_desk.specs.declared.refusal.Refusal.TheVariants.{Stranger}
 
--- the desk at place k has the number k, and each knows the pool
-abbrev pub AreNumbered : ℕ → List Station → Type 0
-AreNumbered pool shelf = (k : ℕ) (s : Station) → slice_get shelf k ≡ Some s → (s.desk.number ≡ k) × (s.pool ≡ pool)
+-- the desks of this pool are numbered from 0, the last first, as far as there are some; each knows the pool
+abbrev pub AreNumbered : (pool many : ℕ) → List Station → Type 0
+AreNumbered pool many shelf = (k : ℕ) (s : Station) → slice_get shelf k ≡ Some s → (s.desk.number + k + 1 ≡ many) × (s.pool ≡ pool)
 
 -- an answer of 0 has opened the pool of this number, whose desks have numbers of their own; any other leaves it as it
 -- was
 abbrev pub Opens : ℕ → ℕ → Pool → Pool → Type 0
 Opens number answer old new =
-    (answer ≡ 0 → (old.allocators ≡ 0) × (new.number ≡ number) × AreNumbered number new.shelf.items)
+    (answer ≡ 0 → (old.allocators ≡ 0) × (new.number ≡ number) × (length new.shelf.items ≡ new.allocators)
+    × AreNumbered number new.allocators new.shelf.items)
     × (answer ≢ 0 → new ≡ old)
 
 -- an answer of 0 has moved the last station of the shelf into the handle; any other leaves both as they were

@@ -12,7 +12,6 @@ mod allocator_handle;
 mod buf_handle;
 mod burst_handle;
 pub mod crossing;
-mod ends;
 mod freeing;
 mod lending;
 mod moving;

@@ -7,7 +7,7 @@ ghost use Rattle.seated_desk.specs.Shelves.{Closes, HandsOut, Opens, TakesBack};
 ghost use Rattle.seated_desk.specs.Stats.{TellsPoolStat};
 
 use crate::allocator_handle::AllocatorHandle;
-use crate::opening::{ends_of_all, stations};
+use crate::opening::{Profile, stations};
 use crate::refusal::{Refusal, answer};
 use crate::settled::{judge, settle};
 use crate::station::Station;
@@ -115,10 +115,12 @@ impl<'r> Pool<'r> {
             return Err(Refusal::NoMemory);
         };
         let desks = allocators as u16;
-        let Ok(ends) = ends_of_all(self.alloc, digits, desks) else {
-            return Err(Refusal::NoMemory);
+        let profile = Profile {
+            pool: number,
+            digits,
+            limit,
         };
-        let Ok(shelf) = stations(self.alloc, number, digits, limit, ends, drawers, desks) else {
+        let Ok(shelf) = stations(self.alloc, profile, drawers, desks) else {
             return Err(Refusal::NoMemory);
         };
         self.shelf = shelf;

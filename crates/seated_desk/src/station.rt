@@ -1,19 +1,22 @@
-//! A desk with its ways to the other desks.
+//! A desk with its seats at the inboxes of all desks.
 ghost use Rattle.std.specs.Prelude.{◌≡◌, ◌+◌, ◌%◌, ◌≤◌, ◌^◌, [], OnOk};
+ghost use Rattle.std.specs.Arc.{arc_value};
 ghost use Rattle.slot_chain.specs.Slots.{AddsSlots};
 ghost use Rattle.slot_balance.specs.Balances.{Balances};
+ghost use Rattle.slot_balance.specs.Opened.{NoneSent};
 ghost use Rattle.seated_desk.specs.Claims.{AreNoted};
-ghost use Rattle.seated_desk.specs.Ways.{AreUnsent, LeadsTo, seats_at};
+ghost use Rattle.seated_desk.specs.Ways.{IsSeated, seats_at};
 
-use crate::ends::{PostingEnd, TakingEnd};
 use crate::moving::{post_each, take_some};
 use chunk_stock::Drawer;
 use digit_route::Refused;
+use link_inbox::{LinkInbox, SendSeat, TakeSeat};
 use pool_desk::Desk;
 use region_cut::Slot;
 use slot_balance::CountedNotes;
 use slot_chain::{Buf, NoMemory};
 use std::alloc::Global;
+use std::sync::Arc;
 
 /// The most desks of a pool, whose numbers have 6 bits.
 pub(crate) const MOST_DESKS: u16 = 64;
@@ -22,7 +25,7 @@ pub(crate) const MOST_DESKS: u16 = 64;
 /// outgrow the processor's, and so would the slots that take their place meanwhile.
 pub(crate) const POST_EVERY: u64 = 1024;
 
-/// A desk, the end of its inbox, its ends of the inboxes of all desks, its right to draw chunks, and what it counted.
+/// A desk, its seats at the inboxes of all desks, its right to draw chunks, and what it counted.
 ///
 /// Its type keeps the balance of the desk, whatever the program does with its buffers: nothing is lost here, and
 /// nothing is there twice.
@@ -32,8 +35,10 @@ pub(crate) struct Station<'r> {
     // The number of its pool.
     pub(crate) pool: u64,
     pub(crate) desk: Desk<'r>,
-    pub(crate) inward: TakingEnd<'r>,
-    pub(crate) outward: Vec<PostingEnd<'r>>,
+    // Those of all desks, each at its desk's number.
+    pub(crate) inboxes: Arc<Vec<LinkInbox<'r>>>,
+    pub(crate) take: TakeSeat<'r>,
+    pub(crate) seats: Vec<SendSeat<'r>>,
     pub(crate) drawer: Drawer<'r>,
     // How many calls there were since it last looked into its inbox.
     pub(crate) since: u64,
@@ -48,8 +53,8 @@ pub(crate) struct Station<'r> {
     pub(crate) claimed: u64,
     ghost noted: { AreNoted drawer.drawn desk.drawn },
     ghost bits: { desk.digits.bits ≡ 6 },
-    ghost leads: { LeadsTo desk inward },
-    ghost balance: { Balances desk (seats_at outward.items) inward.seat.taken lent freed },
+    ghost seated: { IsSeated desk.digits desk.number (arc_value inboxes).items take.inbox (seats_at seats.items) },
+    ghost balance: { Balances desk (seats_at seats.items) take.taken lent freed },
 }
 
 impl<'r> Station<'r> {
@@ -63,14 +68,15 @@ impl<'r> Station<'r> {
         alloc: Global,
         pool: u64,
         desk: Desk<'r>,
-        inward: TakingEnd<'r>,
-        outward: Vec<PostingEnd<'r>>,
+        inboxes: Arc<Vec<LinkInbox<'r>>>,
+        take: TakeSeat<'r>,
+        seats: Vec<SendSeat<'r>>,
         drawer: Drawer<'r>,
     ) -> Station<'r>
         requires noted { AreNoted drawer.drawn desk.drawn }
         requires bits { desk.digits.bits ≡ 6 }
-        requires leads { LeadsTo desk inward }
-        requires unused { (inward.seat.taken ≡ []) × AreUnsent outward.items }
+        requires seated { IsSeated desk.digits desk.number (arc_value inboxes).items take.inbox (seats_at seats.items) }
+        requires unused { (take.taken ≡ []) × NoneSent (seats_at seats.items) }
         requires new { (desk.home ≡ []) × (desk.drawn ≡ []) × (desk.cached ≡ []) }
         ensures desk { result.desk ≡ desk.entry }
         ensures pool { result.pool ≡ pool }
@@ -79,8 +85,9 @@ impl<'r> Station<'r> {
             alloc,
             pool,
             desk,
-            inward,
-            outward,
+            inboxes,
+            take,
+            seats,
             drawer,
             since: 0,
             post_from: 0,
@@ -100,7 +107,12 @@ impl<'r> Station<'r> {
         ensures most { result ≤ most_taken }
         ensures counted { self.new.taken % 2 ^ 64 ≡ (self.old.taken + result) % 2 ^ 64 }
     {
-        let taken = take_some(&mut self.desk, &mut self.inward);
+        let at = usize::from(self.desk.number());
+        let inboxes = self.inboxes.as_slice();
+        if at >= inboxes.len() {
+            return 0;
+        }
+        let taken = take_some(&mut self.desk, &inboxes[at], &mut self.take);
         self.taken = self.taken.wrapping_add(taken as u64);
         taken
     }
@@ -112,7 +124,9 @@ impl<'r> Station<'r> {
         ensures posts { PostsAll self.old self.new }
     {
         let mut refused = Refused::new(self.desk.number(), self.desk.digits());
-        let posted = post_each(&mut self.desk, self.outward.as_mut_slice(), &mut refused);
+        let inboxes = self.inboxes.as_slice();
+        let seats = self.seats.as_mut_slice();
+        let posted = post_each(&mut self.desk, inboxes, seats, &mut refused);
         self.desk.take_back(refused);
         self.posted = self.posted.wrapping_add(posted);
         posted

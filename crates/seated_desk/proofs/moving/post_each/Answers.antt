@@ -6,18 +6,25 @@ use Rattle.digit_route.specs.States.{RefusedState}
 use Rattle.pool_desk.specs.Desks.{DeskState}
 use Rattle.slot_balance.specs.Posts.{Posts}
 use Rattle.slot_balance.proofs.Posting.{batch_smaller, posts_none, posts_more}
+use Rattle.slot_balance.proofs.Seated.{posted_at, seats_of}
 use Rattle.seated_desk.specs.Ways.{seats_at}
 use Rattle.seated_desk.proofs.moving.post_each.Goals as goal
 
 pub loop-batch-init : goal.loop-batch-init
 loop-batch-init c =
     let d = c.args.desk.now in
-    let ss = seats_at c.args.outward.now in
+    let ss = seats_at c.args.seats.now in
     record {
       same = refl;
       of = c.requires.of;
       posts = subst (λ (l : List Buffer). Posts d.digits d.number d.cached ss d.cached l ss) (sym c.requires.none) (posts_none d.digits d.number d.cached ss);
     }
+
+pub post_or_keep-empty-requires-clause-seats : goal.post_or_keep-empty-requires-clause-seats
+post_or_keep-empty-requires-clause-seats c =
+    let i = c.loop-batch.invariant in
+    let v = c.in-Some.ensures.value in
+    seats_of _ _ _ _ _ _ (v.digits ∙ ap (λ (d : DeskState). d.digits) i.same) (v.sender ∙ ap (λ (d : DeskState). d.number) i.same) (posted_at _ _ _ _ _ _ _ _ c.requires.seats i.posts)
 
 pub loop-batch-smaller : goal.loop-batch-smaller
 loop-batch-smaller c =
@@ -44,6 +51,6 @@ loop-batch-preserved c =
         number = ap (λ (r : RefusedState). r.number) e.same ∙ i.of.number;
         digits = ap (λ (r : RefusedState). r.digits) e.same ∙ i.of.digits;
       };
-      posts = posts_more d.digits d.number d.cached old.cached new.cached c.loop-batch.refused.items c.post_or_keep-empty.new.refused.items (seats_at c.args.outward.now) (seats_at c.loop-batch.outward)
-          (seats_at c.post_or_keep-empty.new.outward) b i.posts gives e.goes;
+      posts = posts_more d.digits d.number d.cached old.cached new.cached c.loop-batch.refused.items c.post_or_keep-empty.new.refused.items (seats_at c.args.seats.now) (seats_at c.loop-batch.seats)
+          (seats_at c.post_or_keep-empty.new.seats) b i.posts gives e.goes;
     })

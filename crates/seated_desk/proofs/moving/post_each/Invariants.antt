@@ -12,7 +12,7 @@ invariant-loop-batch l =
     record {
       same : l.desk ≡ record d { cached = l.desk.cached };
       of : IsRefusedOf d l.refused;
-      posts : Posts d.digits d.number d.cached (seats_at l.initial.outward) l.desk.cached l.refused.items (seats_at l.outward);
+      posts : Posts d.digits d.number d.cached (seats_at l.initial.seats) l.desk.cached l.refused.items (seats_at l.seats);
     }
 
 abbrev pub decreases-loop-batch : goal.decreases-loop-batch

@@ -1,14 +1,16 @@
-use Rattle.seated_desk.proofs.Shelved.{new_first, new_rest, new_same, none_numbered, numbered_next}
+use Rattle.std.proofs.Common.{map, sym, ap, ◌∙◌, subst}
+use Rattle.std.specs.Arc.{arc_value}
+use Rattle.std.proofs.lemmas.List.{map-id}
+use Rattle.batch_inbox.specs.States.{InboxId}
+use Rattle.slot_balance.specs.Opened.{AreOpened}
 use Rattle.seated_desk.proofs.opening.stations.Goals as goal
 
-pub loop-number-init : goal.loop-number-init
-loop-number-init c = record { numbered = none_numbered c.args.pool _ c.in_ok-shelf.ensures.items; new = new_same c.into_iter-drawers.result.rest.items c.args.drawers.items c.into_iter-drawers.ensures.rest c.requires.new }
-
-pub station-requires-clause-new : goal.station-requires-clause-new
-station-requires-clause-new c = new_first c.in-Some-Some.drawer c.next-in-loop-number.new.self.rest.items c.loop-number.drawers.rest.items c.in-Some-Some.ensures'.items c.loop-number.invariant.new
-
-pub loop-number-preserved : goal.loop-number-preserved
-loop-number-preserved c = record {
-  numbered = numbered_next c.args.pool c.loop-number.shelf.items c.push.new.self.items c.in_ok-station.field-0 c.loop-number.number c.loop-number.invariant.numbered c.in_ok-station.ensures c.in_ok-push.ensures.items;
-  new = new_rest c.in-Some-Some.drawer c.next-in-loop-number.new.self.rest.items c.loop-number.drawers.rest.items c.in-Some-Some.ensures'.items c.loop-number.invariant.new;
-}
+pub deal-requires-clause-opened : goal.deal-requires-clause-opened
+deal-requires-clause-opened c =
+    let d = c.args.profile.digits in
+    let b = c.in_ok-inboxes.field-0 in
+    let e = c.in_ok-inboxes.ensures in
+    let boxes = map-id b.inboxes.items ∙ ap (λ v. v.items) (sym c.in-Ok.ensures.ok) in
+    subst (λ n. AreOpened d n (arc_value c.in-Ok.inboxes).items b.takes.items b.columns.items) (sym e.count.1)
+    (subst (λ is. AreOpened d c.args.desks is b.takes.items b.columns.items) boxes
+    (subst (λ ts. AreOpened d c.args.desks (map (λ (i : InboxId). i) b.inboxes.items) ts b.columns.items) (map-id b.takes.items) e.opened))

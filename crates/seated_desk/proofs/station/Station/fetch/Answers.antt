@@ -1,5 +1,8 @@
+use Rattle.std.proofs.Common.{refl, ap}
+use Rattle.pool_desk.specs.Desks.{DeskState}
 use Rattle.seated_desk.proofs.Claimed.{noted_drawn, notes_same}
 use Rattle.slot_balance.proofs.Balanced.{claims_balances}
+use Rattle.seated_desk.proofs.Seated.{seated_same}
 use Rattle.seated_desk.proofs.station.Station.fetch.Goals as goal
 
 pub invariant_of-self-in_default-clause-noted : goal.invariant_of-self-in_default-clause-noted
@@ -11,4 +14,9 @@ invariant_of-self-2-clause-noted c =
 
 pub invariant_of-self-2-clause-balance : goal.invariant_of-self-2-clause-balance
 invariant_of-self-2-clause-balance c =
-    let s = c.take.new.self in claims_balances s.desk _ s.inward.seat.taken s.lent s.freed c.in-Some.part c.args.class c.claim_needed.new.self s.balance c.claim_needed.ensures
+    let s = c.take.new.self in claims_balances s.desk _ s.take.taken s.lent s.freed c.in-Some.part c.args.class c.claim_needed.new.self s.balance c.claim_needed.ensures
+
+pub invariant_of-self-2-clause-seated : goal.invariant_of-self-2-clause-seated
+invariant_of-self-2-clause-seated c =
+    let e = c.claim_needed.ensures.same in
+    seated_same _ _ _ _ _ _ _ _ (ap (λ (d : DeskState). d.digits) e) (ap (λ (d : DeskState). d.number) e) refl c.take.new.self.seated

@@ -11,7 +11,7 @@ invariant_of-self-clause-noted c =
 
 pub invariant_of-self-clause-balance : goal.invariant_of-self-clause-balance
 invariant_of-self-clause-balance c =
-    let s = c.args.self.now in same_balances s.desk _ s.inward.seat.taken s.lent s.freed _ s.balance c.if-not-is_lent.ensures.0
+    let s = c.args.self.now in same_balances s.desk _ s.take.taken s.lent s.freed _ s.balance c.if-not-is_lent.ensures.0
 
 pub returns-then-not-is_lent-clause-station : goal.returns-then-not-is_lent-clause-station
 returns-then-not-is_lent-clause-station c = onto_same _ _ _ _ c.if-not-is_lent.ensures.1 c.if-not-is_lent.ensures.0 refl refl refl
@@ -23,7 +23,7 @@ invariant_of-self-2-clause-noted c =
 pub invariant_of-self-2-clause-balance : goal.invariant_of-self-2-clause-balance
 invariant_of-self-2-clause-balance c =
     let s = c.args.self.now in
-    lends_whole_balances s.desk _ s.inward.seat.taken s.lent s.freed _ c.args.class _ _ s.balance c.if-not-is_lent.ensures.0 (rw c.buffers.ensures at c.and_all-self.ensures)
+    lends_whole_balances s.desk _ s.take.taken s.lent s.freed _ c.args.class _ _ s.balance c.if-not-is_lent.ensures.0 (rw c.buffers.ensures at c.and_all-self.ensures)
 
 pub returns-clause-station : goal.returns-clause-station
 returns-clause-station c =

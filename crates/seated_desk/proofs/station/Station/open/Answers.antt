@@ -9,4 +9,4 @@ invariant_of-self-clause-noted c = noted_same _ _ _ (ap (λ (d : DeskState). d.d
 
 pub invariant_of-self-clause-balance : goal.invariant_of-self-clause-balance
 invariant_of-self-clause-balance c =
-    let s = c.args.self.now in same_balances s.desk _ s.inward.seat.taken s.lent s.freed _ s.balance c.parcel.ensures.same
+    let s = c.args.self.now in same_balances s.desk _ s.take.taken s.lent s.freed _ s.balance c.parcel.ensures.same

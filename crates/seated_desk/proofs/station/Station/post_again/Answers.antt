@@ -9,4 +9,4 @@ invariant_of-self-2-clause-noted c = noted_same _ _ _ (ap (λ (d : DeskState). d
 
 pub invariant_of-self-2-clause-balance : goal.invariant_of-self-2-clause-balance
 invariant_of-self-2-clause-balance c =
-    let s = c.post-self.new.self in same_balances s.desk _ s.inward.seat.taken s.lent s.freed _ s.balance c.make_room.ensures
+    let s = c.post-self.new.self in same_balances s.desk _ s.take.taken s.lent s.freed _ s.balance c.make_room.ensures
