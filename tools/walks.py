@@ -19,6 +19,13 @@ CRATE = "fustrevol_c"
 BELOW = "seated_desk"
 FORMS = pathlib.Path(__file__).resolve().parent / "walk_forms"
 MARK = "// The exports.\n"
+# what the clause of a kind's `new` tells of the value `u`
+TOLD = {
+    "pool": "(u.allocators ≡ 0) × (u.shelf.items ≡ []) × (u.number ≡ 0) × (u.fault ≡ 0)",
+    "allocator": "u.station ≡ None",
+    "buf": "u.buf ≡ None",
+    "burst": "u.parcel ≡ None",
+}
 
 
 def pairs(items):
@@ -228,16 +235,15 @@ def lends_walk(export):
 
 def makes_walk(export):
     kind = export.pointers[0]
-    # what the callee's clause tells of the value `u`
-    told = {"buf": "fact 𝓤 (u.buf ≡ None)", "burst": "fact 𝓤 (u.parcel ≡ None)"}.get(kind, "emp 𝓤")
-    uses = "\nuse contract.Monad.{fact}\nuse Rattle.std.specs.Prelude.{None}" if told.startswith("fact") else ""
+    told = TOLD[kind]
+    uses = "\nuse contract.Monad.{fact}" + ("\nuse Rattle.std.specs.Prelude.{None}" if "None" in told else "")
     words = {
         "type": KINDS[kind].module,
         "path": KINDS[kind].path,
         "row": f"{kind}_row",
         "at": f"{kind}_at",
         "room": f"{kind}_room",
-        "told": told,
+        "told": f"fact 𝓤 ({told})",
         "told_uses": uses,
     }
     return filled(export.form, callee_words(export) | words)

@@ -20,11 +20,17 @@ Opens number answer old new =
     × AreNumbered number new.allocators new.shelf.items)
     × (answer ≢ 0 → new ≡ old)
 
+-- but for its shelf the pool is the same
+pub record IsSamePool (old new : Pool) : Type 0 where
+  pub number : new.number ≡ old.number
+  pub allocators : new.allocators ≡ old.allocators
+  pub fault : new.fault ≡ old.fault
+
 -- an answer of 0 has moved the last station of the shelf into the handle; any other leaves both as they were
-abbrev pub HandsOut : ℕ → Pool → Pool → AllocatorHandle → AllocatorHandle → Type 0
-HandsOut answer old new before after =
-    (answer ≡ 0 → (s : Station) × (before.station ≡ None) × (after.station ≡ Some s) × (old.shelf.items ≡ new.shelf.items ++ s ∷ []))
-    × (answer ≢ 0 → (new.shelf.items ≡ old.shelf.items) × (after ≡ before))
+pub record HandsOut (answer : ℕ) (old new : Pool) (before after : AllocatorHandle) : Type 0 where
+  pub moved : answer ≡ 0 → (s : Station) × (before.station ≡ None) × (after.station ≡ Some s) × (old.shelf.items ≡ new.shelf.items ++ s ∷ [])
+  pub refused : answer ≢ 0 → (new.shelf.items ≡ old.shelf.items) × (after ≡ before)
+  pub pool : IsSamePool old new
 
 -- an answer of 0 has moved the handle's station to the end of the shelf of its pool, where its slots may lie elsewhere;
 -- any other leaves the shelf. Another pool's station is a stranger
@@ -32,6 +38,7 @@ pub record TakesBack (answer : ℕ) (old new : Pool) (before after : AllocatorHa
   pub moved : answer ≡ 0 → (s : Station) × (t : Station) × (before.station ≡ Some s) × (after.station ≡ None)
       × (s.pool ≡ old.number) × (new.shelf.items ≡ old.shelf.items ++ t ∷ []) × KeepsStation s t
   pub refused : answer ≢ 0 → new.shelf.items ≡ old.shelf.items
+  pub pool : IsSamePool old new
   pub stranger : (s : Station) → before.station ≡ Some s → s.pool ≢ old.number
       → (answer ≡ refusal_number Stranger) × (after ≡ before)
 

@@ -1,4 +1,5 @@
 //! Where a program in C keeps one allocator of a pool.
+ghost use Rattle.std.specs.Prelude.{◌≡◌, None};
 ghost use Rattle.seated_desk.specs.Bursts.{Fills, OpensBurst, TakesBurst};
 ghost use Rattle.seated_desk.specs.Handles.{LendsInto, TakesOut};
 ghost use Rattle.seated_desk.specs.Stats.{Collects, Flushes, TellsStat};
@@ -19,7 +20,9 @@ pub struct AllocatorHandle<'r> {
 
 impl<'r> AllocatorHandle<'r> {
     /// A handle that is not attached to a pool.
-    pub fn new() -> AllocatorHandle<'r> {
+    pub fn new() -> AllocatorHandle<'r>
+        ensures { result.station ≡ None }
+    {
         AllocatorHandle { station: None }
     }
 

@@ -1,5 +1,5 @@
 //! A pool: its allocators that no thread holds.
-ghost use Rattle.std.specs.Prelude.{◌≤◌, IfOk, length};
+ghost use Rattle.std.specs.Prelude.{◌≡◌, ◌≤◌, [], IfOk, length};
 ghost use Rattle.region_cut.specs.Limits.{chunk_limit};
 ghost use Rattle.chunk_stock.specs.Rule.{AreNumbered};
 ghost use Rattle.seated_desk.specs.Answers.{answer_of};
@@ -62,7 +62,9 @@ fn slot_named(fault: Fault) -> u64 {
 
 impl<'r> Pool<'r> {
     /// A pool that is not open. Its memory will come from the C library.
-    pub fn new(alloc: Global) -> Pool<'r> {
+    pub fn new(alloc: Global) -> Pool<'r>
+        ensures { (result.allocators ≡ 0) × (result.shelf.items ≡ []) × (result.number ≡ 0) × (result.fault ≡ 0) }
+    {
         Pool {
             alloc,
             shelf: Vec::new(alloc),

@@ -16,7 +16,9 @@ pub struct Span {
 
 impl Span {
     /// Nowhere: a null pointer and no byte.
-    pub fn new() -> Span {
+    pub fn new() -> Span
+        ensures { result.len ≡ 0 }
+    {
         Span {
             at: ptr::null(),
             len: 0,

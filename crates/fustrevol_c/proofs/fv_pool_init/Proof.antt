@@ -1,6 +1,7 @@
 -- The value is made, and written into the room.
 use Rattle.fustrevol_c.proofs.Steps.{◌≡◌, ◌∙◌, sym, List, [], ◌∷◌, ◌++◌, refl, ap, full_share, id⊢, emp, ftrue, fat, flft, Val, vunit, tables, ‵, raw, ◌⊛◌, some, later, prop, at_ret, ◌$◌, ◌∵◌, !, qed, done, drop, move, keep, use0, use1, use2, split, join, fsplit, fpack, feq_i, pick, await, regoal, rewrite, suffices, group, enter, of_opd, unit_lit, stop, no_more, and_then, first, blocks, exec, returns, alloc_all, pass_all, free_all, look_at, get, through, sets, lands_as, env, WpFn, yes, Is, shows, lies_at, RawPtr, Ptr, block_ptr, in_a_block, rawptr_vals, plain, nothing, peeks, calls_at, lasts, triple_of, Stays, walk_of, stay_dropped, Goes-dropped, ends_at, framed}
 use base.Logic.{SProp}
+use contract.Monad.{fact}
 use base.Fml.{froom}
 use mir.Syntax.{Ty, named, erased}
 use mir.Raw.{raw as bare}
@@ -56,7 +57,7 @@ fv_pool_init_spec 𝓤 𝓛 𝓜 𝓡 wired =
     calls_at ! (framed 𝓤 𝓛.H 𝓜 (tables 𝓤 𝓛.H 𝓜 𝓡 𝓡.env)) G (met 𝓤 𝓛 𝓜 𝓡 (code.calls-seated_desk::pool::Pool::new 𝓡.env wired)) y
     (and_then ! (get ! refl) (no_more !)) (λ v.
     use1 𝓛 (later (some (λ (u : row.Denot). ((‵ (flft [] full_share) ⊛ ‵ ftrue) ⊛ ‵ (row.own_val u (v ∷ []))) ⊛
-    some (λ (ws : Unit {0} × Unit {0}). ‵ (lasts g.ended y.0.0 y.0.3 ws) ⊛ raw (emp 𝓤))))) (id⊢ 𝓤 _) $
+    some (λ (ws : Unit {0} × Unit {0}). ‵ (lasts g.ended y.0.0 y.0.3 ws) ⊛ raw (fact 𝓤 ((u.allocators ≡ 0) × (u.shelf.items ≡ []) × (u.number ≡ 0) × (u.fault ≡ 0))))))) (id⊢ 𝓤 _) $
     await ! tt $ pick ! (λ u. split ! $ split ! $ drop ! $ move ! (1 ∷ []) $ drop ! $
     -- [the value; the room; ..]
     peeks ! row _ (shows 𝓛 row) u (v ∷ []) (λ is.
