@@ -37,7 +37,7 @@ shared-le s a (x ∷ xs) i la h =
     omega (arith, sum_by-cons (λ (b : Buffer). common s b.owner a) x xs, mul-suc (count s - 1) (length xs), rest, less)
 
 -- the same from a list in another order
-Gives-before : (s : Scheme) (a : ℕ) (older old : List Buffer) (b : BatchState) (new : List Buffer) → IsPermutation older old
+pub Gives-before : (s : Scheme) (a : ℕ) (older old : List Buffer) (b : BatchState) (new : List Buffer) → IsPermutation older old
     → GivesBucket s a old b new → GivesBucket s a older b new
 Gives-before s a older old b new p h = record {
   sender = h.sender;

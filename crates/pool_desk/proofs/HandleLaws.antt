@@ -155,7 +155,7 @@ own_or_not_one : (a : ℕ) (b : Buffer) (bs : List Buffer) (r : Bool) → eqb b.
 own_or_not_one a b bs true e h = rw e (omega (arith, h))
 own_or_not_one a b bs false e h = rw e (omega (arith, h))
 
-own_or_not : (a : ℕ) (bs : List Buffer) → length (own a bs) + length (others a bs) ≡ length bs
+pub own_or_not : (a : ℕ) (bs : List Buffer) → length (own a bs) + length (others a bs) ≡ length bs
 own_or_not a [] = refl
 own_or_not a (b ∷ bs) = own_or_not_one a b bs (eqb b.owner a) refl (own_or_not a bs)
 

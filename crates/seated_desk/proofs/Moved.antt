@@ -55,27 +55,29 @@ onto_one p q r s t u b a l packed = record {
   };
 }
 
--- nothing was lent before
-pub onto_later : (p q : ParcelState) (s t u : Station) → IsSameStation s t → LendsOnto p q t u → LendsOnto p q s u
-onto_later p q s t u i a = record {
+-- nothing was lent before it, nor behind it
+onto_around : (p q : ParcelState) (r s t u : Station) → IsSameStation r s → LendsOnto p q s t → IsSameStation t u → LendsOnto p q r u
+onto_around p q r s t u before a behind = record {
   added = a.added;
   lent = a.lent;
   appended = a.appended;
   slots = a.slots;
   owner = a.owner;
-  station = record { one = one_again s t u i.one a.station.one; lent = a.station.lent ∙ ap (λ x. x ++ a.lent) i.lent; freed = a.station.freed ∙ i.freed };
+  station = record {
+    one = one_again r s u before.one (one_again s t u a.station.one behind.one);
+    lent = behind.lent ∙ a.station.lent ∙ ap (λ x. x ++ a.lent) before.lent;
+    freed = behind.freed ∙ a.station.freed ∙ before.freed;
+  };
 }
 
--- nothing was lent behind it
+the_same : (s : Station) → IsSameStation s s
+the_same s = record { one = record { number = refl; digits = refl; pool = refl }; lent = refl; freed = refl }
+
+pub onto_later : (p q : ParcelState) (s t u : Station) → IsSameStation s t → LendsOnto p q t u → LendsOnto p q s u
+onto_later p q s t u i a = onto_around p q s t u u i a (the_same u)
+
 pub onto_still : (p q : ParcelState) (s t u : Station) → LendsOnto p q s t → IsSameStation t u → LendsOnto p q s u
-onto_still p q s t u a i = record {
-  added = a.added;
-  lent = a.lent;
-  appended = a.appended;
-  slots = a.slots;
-  owner = a.owner;
-  station = record { one = one_again s t u a.station.one i.one; lent = i.lent ∙ a.station.lent; freed = i.freed ∙ a.station.freed };
-}
+onto_still p q s t u a i = onto_around p q s s t u (the_same s) a i
 
 -- buffers came together
 pub onto_whole : (n : ℕ) (p q : ParcelState) (s t : Station) → IsFilledUp n p q → LendsThere q.items s t → LendsOnto p q s t

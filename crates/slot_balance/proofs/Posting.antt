@@ -1,6 +1,6 @@
 -- One more batch is posted, or taken.
 use Rattle.std.proofs.Common.{◌≡◌, ℕ, zero, suc, ◌+◌, ◌<◌, List, [], ◌∷◌, ◌++◌, length, map, refl, sym, ap, ◌∙◌, arith, subst, Some, length-append, append_assoc, IsPermutation, ⊎_elim, inl, inr}
-use Rattle.std.specs.Prelude.{slice_get, slice_set, All, slice_index_or, take, drop, Bool, true, false, eqb}
+use Rattle.std.specs.Prelude.{slice_get, slice_set, All, slice_index_or, take, drop}
 use Rattle.std.proofs.lemmas.List.{append-nil}
 use Rattle.std.proofs.lemmas.List.Elements.{All-append}
 use Rattle.std.proofs.lemmas.List.Sorted.{IsPermutation-trans, IsPermutation-append_left, IsPermutation-append_right, IsPermutation-append_comm, IsPermutation-refl}
@@ -9,10 +9,12 @@ use Rattle.digit_route.specs.Digits.{Scheme}
 use Rattle.digit_route.specs.Posts.{GivesAll}
 use Rattle.digit_route.specs.Route.{GivesBucket}
 use Rattle.digit_route.specs.States.{BatchState}
+use Rattle.digit_route.proofs.PostLaws.{Gives-before}
 use Rattle.region_cut.specs.declared.slot.Slot.{Slot}
 use Rattle.pool_desk.specs.Desks.{DeskState}
 use Rattle.pool_desk.specs.declared.counts.Counts.{Counts}
 use Rattle.pool_desk.specs.Steps.{CountsOf, Handles, others, own}
+use Rattle.pool_desk.proofs.HandleLaws.{own_or_not}
 use Rattle.slot_chain.specs.Counts.{capped}
 use Rattle.batch_inbox.specs.States.{TakeState}
 use Rattle.slot_balance.specs.Weights.{weigh}
@@ -61,15 +63,6 @@ length-sent_all ss [] = refl
 length-sent_all ss (b ∷ bs) = length-sent_all (sent_at b.address b ss) bs ∙ length-sent_at b.address b ss
 
 -- the same from a list in another order
-Gives-before : (s : Scheme) (a : ℕ) (older old : List Buffer) (b : BatchState) (new : List Buffer) → IsPermutation older old
-    → GivesBucket s a old b new → GivesBucket s a older b new
-Gives-before s a older old b new p h = record {
-  sender = h.sender;
-  digits = h.digits;
-  routed = h.routed;
-  taken = record { together = IsPermutation-trans _ _ _ p h.taken.together; only = h.taken.only; all = h.taken.all };
-}
-
 GivesAll-before : (s : Scheme) (a : ℕ) (older old : List Buffer) (bs : List BatchState) (new : List Buffer) → IsPermutation older old
     → GivesAll s a old bs new → GivesAll s a older bs new
 GivesAll-before s a older old [] new p h = IsPermutation-trans _ _ _ p h
@@ -310,16 +303,6 @@ buffers_more (c ∷ bs) b =
 -- a count that is below the bound is exact
 exact : (x : ℕ) → capped x < most_handled → capped x ≡ x
 exact x l = omega (arith, l)
-
--- each buffer is the desk's own, or it isn't
-own_or_not_one : (a : ℕ) (b : Buffer) (bs : List Buffer) (r : Bool) → eqb b.owner a ≡ r → length (own a bs) + length (others a bs) ≡ length bs
-    → length (own a (b ∷ bs)) + length (others a (b ∷ bs)) ≡ length (b ∷ bs)
-own_or_not_one a b bs true e h = rw e (omega (arith, h))
-own_or_not_one a b bs false e h = rw e (omega (arith, h))
-
-own_or_not : (a : ℕ) (bs : List Buffer) → length (own a bs) + length (others a bs) ≡ length bs
-own_or_not a [] = refl
-own_or_not a (b ∷ bs) = own_or_not_one a b bs (eqb b.owner a) refl (own_or_not a bs)
 
 -- the count of the buffers that were handled, with those of a batch more, where it is below the bound
 counted_on : (a n r : ℕ) (c : Counts) (bs : List BatchState) (b : BatchState) → CountsOf a b.items c → n ≡ length (buffers_in bs)
