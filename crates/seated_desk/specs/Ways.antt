@@ -11,7 +11,8 @@ seat_at s = record { inbox = s.inbox; sender = s.sender; sent = s.sent; resting 
 abbrev pub seats_at : List SendState → List SeatState
 seats_at seats = map seat_at seats
 
--- the seats of the desk with this number: it takes from its own inbox, and posts to the inboxes of all desks
+-- the seats of the desk with this number: it takes from its own inbox, and posts to each from a seat of its own
 pub record IsSeated (digits : Scheme) (number : ℕ) (boxes : List InboxId) (take : InboxId) (seats : List SeatState) : Type 0 where
-  pub own : (i : InboxId) → slice_get boxes number ≡ Some i → (take ≡ i) × (i.place ≡ record { address = number; digits = digits })
+  pub own : slice_get boxes number ≡ Some take
+  pub place : take.place ≡ record { address = number; digits = digits }
   pub posts : AreSeatsAt digits number boxes seats

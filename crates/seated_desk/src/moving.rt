@@ -70,7 +70,7 @@ fn send<'r>(
         (λ x. (x ≡ b) × (seats_at seats.new ≡ seats_at seats.old)) }
 {
     let at = usize::from(batch.address());
-    if at >= inboxes.len() || at >= seats.len() {
+    if at >= seats.len() {
         return Err(batch);
     }
     let inbox = &inboxes[at];

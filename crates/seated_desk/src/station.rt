@@ -109,9 +109,6 @@ impl<'r> Station<'r> {
     {
         let at = usize::from(self.desk.number());
         let inboxes = self.inboxes.as_slice();
-        if at >= inboxes.len() {
-            return 0;
-        }
         let taken = take_some(&mut self.desk, &inboxes[at], &mut self.take);
         self.taken = self.taken.wrapping_add(taken as u64);
         taken

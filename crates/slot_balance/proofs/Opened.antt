@@ -107,10 +107,7 @@ module _ (d : Scheme) (m : ℕ) (boxes : List InboxId) (takes rest : List TakeSt
   pub seats_dealt : AreSeatsAt d m boxes last
   seats_dealt =
       let of = last_are (λ k i. slice_get boxes k ≡ Some i) m columns others last p l.column in
-      record {
-        each = λ k x e. let q = of k x e in (q.1, q.2);
-        inbox = λ k x i e at. let q = of k x e in (one_inbox x.inbox i (sym q.0 ∙ at), l.inbox k i at);
-      }
+      record { each = λ k x e. let q = of k x e in (q.0, l.inbox k x.inbox q.0, q.1, q.2) }
 
   pub none_dealt : NoneSent last
   none_dealt k x e = (last_are (λ k i. slice_get boxes k ≡ Some i) m columns others last p l.column k x e).3

@@ -47,11 +47,7 @@ posted_at s a boxes c ss l x ss' i p = record {
   each = λ j z e.
       let y = get_posted s a c ss l x ss' p j z e in
       let o = i.each j y.0 y.1 in
-      (y.2.1 ∙ o.0, y.2.2 ∙ o.1);
-  inbox = λ j z b e at.
-      let y = get_posted s a c ss l x ss' p j z e in
-      let o = i.inbox j y.0 b y.1 at in
-      (y.2.0 ∙ o.0, o.1);
+      (o.0 ∙ ap Some (sym y.2.0), ap (λ (b : InboxId). b.place) y.2.0 ∙ o.1, y.2.1 ∙ o.2, y.2.2 ∙ o.3);
 }
 
 -- the seats of the same sender, told by other words

@@ -18,12 +18,10 @@ seat_of inbox number sent resting s = record { inbox = inbox s; sender = number 
 abbrev pub taking_of : {T : Type 0} → (T → InboxId) → (T → ℕ) → (T → List BatchState) → T → TakeState
 taking_of inbox senders taken t = record { inbox = inbox t; senders = senders t; taken = taken t }
 
--- The seats of the sender a, all at rest. Where a seat and an inbox stand at the same place in their lists, the seat is
--- of that inbox, and the inbox is that of the desk of this number.
+-- these are the seats of the sender a, each at the inbox of its place, which is that desk's; all are at rest
 pub record AreSeatsAt (digits : Scheme) (a : ℕ) (boxes : List InboxId) (seats : List SeatState) : Type 0 where
-  pub each : (k : ℕ) (x : SeatState) → slice_get seats k ≡ Some x → (x.sender ≡ a) × (x.resting ≡ true)
-  pub inbox : (k : ℕ) (x : SeatState) (i : InboxId) → slice_get seats k ≡ Some x → slice_get boxes k ≡ Some i
-      → (x.inbox ≡ i) × (i.place ≡ record { address = k; digits = digits })
+  pub each : (k : ℕ) (x : SeatState) → slice_get seats k ≡ Some x
+      → (slice_get boxes k ≡ Some x.inbox) × (x.inbox.place ≡ record { address = k; digits = digits }) × (x.sender ≡ a) × (x.resting ≡ true)
 
 -- the rows, each without its last seat, and these last seats
 abbrev pub AreParted : (rows others : List (List SeatState)) (last : List SeatState) → Type 0
