@@ -70,7 +70,7 @@ def threads_bench():
 
 
 PROVED = TOP / "crates/fustrevol_c/out/libfustrevol_c.a"
-NOT_BUILT = "bench: the C library isn't built: run `rt lib --jobs 1` in crates/fustrevol_c"
+NOT_BUILT = "bench: the C library isn't built: run `rt lib` in crates/fustrevol_c"
 
 
 def library():
