@@ -95,7 +95,7 @@ HELP = {
 }
 
 # The stacks, in bytes, from which on `replay` and `work` do what they are to do.
-REPLAY_STACK, WORK_STACK, MOST_STACK = 64 << 10, 64 << 10, 512 << 10
+REPLAY_STACK, WORK_STACK, MOST_STACK = 64 << 10, 72 << 10, 512 << 10
 
 # Reads of standard input fail from the call FAIL_READ on, writes to standard output from FAIL_WRITE on, both with the
 # error FAIL_WITH; with FAIL_ONCE that call alone fails. The file CALLED gets a letter for each such call.
