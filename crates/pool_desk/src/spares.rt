@@ -73,7 +73,7 @@ impl<'r> Spares<'r> {
             (p ≡ record { owner = owner; places = p.places; items = [] }) × (places ≤ p.places)) }
     {
         match take(&mut self.arrays, places) {
-            Some(array) => Ok(BufParcel::over(owner, array)),
+            Some(array) => BufParcel::over(owner, array),
             None => {
                 let parcel = BufParcel::new(alloc, owner, places)?;
                 self.make_place(alloc);

@@ -1,9 +1,15 @@
 -- Sums of buffer sizes, and lists that are turned.
-use Rattle.std.proofs.Common.{◌≡◌, ℕ, suc, ◌+◌, ◌*◌, All, List, [], ◌∷◌, ◌++◌, length, reverse, sym, ap, ◌∙◌, arith}
-use Rattle.region_cut.specs.Classes.{size_of}
+use Rattle.std.proofs.Common.{◌≡◌, ℕ, suc, ◌+◌, ◌*◌, ◌<◌, ◌≤◌, true, false, All, List, [], ◌∷◌, ◌++◌, get_or, length, reverse, refl, sym, ap, ◌∙◌, arith, inl, inr}
+use Rattle.std.specs.Prelude.{nat_le}
+use Rattle.std.specs.List.{list_all}
+use Rattle.std.proofs.lemmas.Bool.{true_from_ne_false, cases_lt}
+use Rattle.std.proofs.lemmas.Bool.Decides.{nat_tests}
+use Rattle.std.proofs.lemmas.List.{get_or_past}
+use Rattle.std.proofs.lemmas.List.Folds.{list_all_at}
+use Rattle.region_cut.specs.Classes.{class_sizes, size_of}
 use Rattle.slot_chain.specs.Parcels.{IsPacked, IsPackedOf}
 use Rattle.std.proofs.lemmas.List.{reverse-append, append_assoc}
-use Rattle.std.proofs.lemmas.List.Sums.{sum_by_push, sum_by-cons}
+use Rattle.std.proofs.lemmas.List.Sums.{sum_by_push, sum_by-cons, sum_by-le}
 use Rattle.slot_chain.specs.Buffer.{Buffer}
 use Rattle.slot_chain.specs.Counts.{sizes, buffer_size}
 
@@ -31,3 +37,23 @@ sizes_alike owner class (b ∷ bs) h =
 
 pub packed_alike : (owner class : ℕ) (bs : List Buffer) → All (IsPackedOf owner class) bs → All (IsPacked owner) bs
 packed_alike owner class bs h = λ k d l. (h k d l).0
+
+small : (k : ℕ) → k < 20 → nat_le (size_of k) 1024 ≡ true
+small k h = true_from_ne_false (nat_le (size_of k) 1024) (λ (no : nat_le (size_of k) 1024 ≡ false).
+    let all : list_all (λ n. nat_le n 1024) class_sizes ≡ true = refl in
+    let some : list_all (λ n. nat_le n 1024) class_sizes ≡ false = list_all_at (λ n. nat_le n 1024) class_sizes k 0 h no in
+    cc)
+
+-- no class has larger buffers
+pub size_most : (k : ℕ) → size_of k ≤ 1024
+size_most k =
+    elim (cases_lt k 20) [
+      | inl within ↦ so (size_of k) (small k within)
+      | inr past ↦ let e : size_of k ≡ 0 = get_or_past class_sizes k 0 past in omega arith
+    ]
+  where
+    so : (n : ℕ) → nat_le n 1024 ≡ true → n ≤ 1024
+    so n told = grind (arith, nat_tests)
+
+pub sizes_most : (bs : List Buffer) → sizes bs ≤ length bs * 1024
+sizes_most bs = sum_by-le buffer_size 1024 bs (λ k d l. size_most (get_or bs k d).class)

@@ -1,5 +1,5 @@
 -- What a contract sees of a parcel.
-use Rattle.std.specs.Prelude.{◌≡◌, ◌≢◌, ℕ, ◌<◌, ◌≤◌, ◌⊎◌, List, [], ◌∷◌, ◌++◌, length, Some, slice_get, slice_set}
+use Rattle.std.specs.Prelude.{◌≡◌, ◌≢◌, ℕ, ◌^◌, ◌<◌, ◌≤◌, ◌⊎◌, List, [], ◌∷◌, ◌++◌, length, Some, slice_get, slice_set}
 use Rattle.slot_chain.specs.Buffer.{Buffer}
 
 -- buffers of one allocator, and for how many there is a place
@@ -7,6 +7,10 @@ pub record ParcelState : Type 0 where
   pub owner : ℕ
   pub places : ℕ
   pub items : List Buffer
+
+-- for how many buffers there is a place at most
+abbrev pub most_places : ℕ
+most_places = 2 ^ 50
 
 -- the allocator's buffer, as it is freed
 abbrev pub IsPacked : ℕ → Buffer → Type 0

@@ -17,6 +17,10 @@ use std::alloc::Global;
 use std::marker::Model;
 use std::{fmt, mem};
 
+// For how many buffers a parcel has places at most. No machine has the memory for more pointers. With it the sum of
+// the sizes is less than 2^64, so that it is added up without a check.
+const MOST_PLACES: usize = 1_125_899_906_842_624;
+
 /// Buffers of one allocator, which go from thread to thread and are freed as a whole.
 ///
 /// Whoever frees a buffer looks at its box first, for its owner. A parcel's owner is known, so where it
@@ -32,15 +36,16 @@ pub struct BufParcel<'r> {
 }
 
 impl<'r> Model for BufParcel<'r> {
-    ghost use Rattle.std.specs.Prelude.{◌≡◌, All, vec_capacity};
-    ghost use Rattle.slot_chain.specs.Counts.{capped, sizes};
-    ghost use Rattle.slot_chain.specs.Parcels.{ParcelState, IsPacked};
+    ghost use Rattle.std.specs.Prelude.{◌≡◌, ◌≤◌, All, vec_capacity};
+    ghost use Rattle.slot_chain.specs.Counts.{sizes};
+    ghost use Rattle.slot_chain.specs.Parcels.{ParcelState, IsPacked, most_places};
 
     ghost Value = { ParcelState };
 
     ghost view = { λ p. record { owner = p.owner; places = vec_capacity p.buffers; items = p.buffers.items } };
 
-    ghost invariant = { λ p. All (IsPacked p.owner) p.buffers.items × (p.bytes ≡ capped (sizes p.buffers.items)) };
+    ghost invariant = { λ p. All (IsPacked p.owner) p.buffers.items
+        × (p.bytes ≡ sizes p.buffers.items) × (vec_capacity p.buffers ≤ most_places) };
 }
 
 // By hand, so that it is proved here once, and not again in each crate that lets one go.
@@ -62,20 +67,24 @@ impl<'r> BufParcel<'r> {
         ensures { IfOk result (λ p.
             (p ≡ record { owner = owner; places = p.places; items = [] }) × (places ≤ p.places)) }
     {
-        Ok(BufParcel::over(owner, Vec::with_capacity(alloc, places)?))
+        BufParcel::over(owner, Vec::with_capacity(alloc, places)?)
     }
 
     /// An empty parcel over an array that names no buffer, with as much room as that has. Takes no
+    /// memory. [`NoMemory`] is answered only where it has more than 2^50 places, for which no machine has the
     /// memory.
-    pub fn over(owner: u16, array: Vec<Buf<'r>>) -> BufParcel<'r>
+    pub fn over(owner: u16, array: Vec<Buf<'r>>) -> Result<BufParcel<'r>, NoMemory>
         requires { array.items ≡ [] }
-        ensures { result ≡ record { owner = owner; places = vec_capacity array.entry; items = [] } }
+        ensures { IfOk result (λ p. p ≡ record { owner = owner; places = vec_capacity array.entry; items = [] }) }
     {
-        BufParcel {
+        if array.capacity() > MOST_PLACES {
+            return Err(NoMemory);
+        }
+        Ok(BufParcel {
             owner,
             bytes: 0,
             buffers: array,
-        }
+        })
     }
 
     /// The allocator to which all of it goes back.
@@ -89,10 +98,9 @@ impl<'r> BufParcel<'r> {
         self.owner
     }
 
-    /// The sum of the sizes of the buffers in bytes, or the greatest `u64` where that is less, in
-    /// constant time.
+    /// The sum of the sizes of the buffers in bytes, in constant time.
     pub fn bytes_total(&self) -> u64
-        ensures { result ≡ capped (sizes self.now.items) }
+        ensures { result ≡ sizes self.now.items }
     {
         self.bytes
     }
@@ -147,13 +155,12 @@ impl<'r> BufParcel<'r> {
         }
         let mut buf = buf;
         buf.set_forwards(0);
-        self.bytes = self.bytes.saturating_add(buf.capacity() as u64);
+        self.bytes += buf.capacity() as u64;
         self.buffers.push_reserved(buf);
         Ok(())
     }
 
-    /// Takes out the buffer that came last. Takes constant time, unless the sum of the sizes is more
-    /// than a `u64` holds.
+    /// Takes out the buffer that came last. Takes constant time.
     pub fn pop(&mut self) -> Option<Buf<'r>>
         ensures value { MatchOption result ((self.old.items ≡ []) × (self.new ≡ self.old))
             (λ b. (self.old.items ≡ self.new.items ++ b ∷ [])
@@ -161,7 +168,7 @@ impl<'r> BufParcel<'r> {
         ensures packed { IfSome result (IsPacked self.old.owner) }
     {
         let buf = self.buffers.pop()?;
-        self.bytes = bytes_left(self.bytes, buf.class(), self.buffers.as_slice());
+        self.bytes -= buf.capacity() as u64;
         Some(buf)
     }
 
@@ -194,8 +201,9 @@ impl<'r> BufParcel<'r> {
         ensures value { self.new ≡ record self.old { items = array.entry.items } }
         ensures none { result.items ≡ [] }
     {
-        self.bytes = (array.len() as u64).saturating_mul(class.size() as u64);
-        mem::replace(&mut self.buffers, array)
+        let replaced = mem::replace(&mut self.buffers, array);
+        self.bytes = self.buffers.len() as u64 * class.size() as u64;
+        replaced
     }
 
     /// Lets all buffers go: it is then known what each ends as. Takes a walk over them.
@@ -227,29 +235,6 @@ pub(crate) fn end_each<'r>(buffers: Vec<Buf<'r>>, endings: &mut Endings<'r>)
     while let Some(buf) = buffers.pop() {
         endings.close(buf.into_front());
     }
-}
-
-// The sum of the sizes once a buffer of that class was taken out, where it was `before`.
-fn bytes_left(before: u64, class: Class, buffers: &[Buf<'_>]) -> u64
-    requires { before ≡ capped (sizes buffers.now + size_of class) }
-    ensures { result ≡ capped (sizes buffers.now) }
-{
-    if before < u64::MAX {
-        before - class.size() as u64
-    } else {
-        sum_of(buffers)
-    }
-}
-
-// The sum of the sizes, or the greatest `u64` where that is less.
-fn sum_of(buffers: &[Buf<'_>]) -> u64
-    ensures { result ≡ capped (sizes buffers.now) }
-{
-    let mut total = 0u64;
-    for buf in buffers {
-        total = total.saturating_add(buf.class().size() as u64);
-    }
-    total
 }
 
 // The buffers are not printed.
