@@ -7,7 +7,8 @@ use Rattle.std.proofs.lemmas.List.Elements.{All-cons, All-nil, All-weaker, All-c
 use Rattle.std.proofs.lemmas.List.Sorted.{IsPermutation-refl, IsPermutation-trans, IsPermutation-append_right}
 use Rattle.slot_chain.specs.Buffer.{Buffer}
 use Rattle.slot_chain.specs.Counts.{capped}
-use Rattle.digit_route.specs.Digits.{Scheme}
+use Rattle.digit_route.specs.Digits.{IsScheme, Scheme, count}
+use Rattle.digit_route.specs.SharedDigits.{SharedAtMostAll, SharedByEquals}
 use Rattle.digit_route.specs.Route.{IsWellRouted}
 use Rattle.pool_desk.specs.declared.counts.Counts.{Counts}
 use Rattle.pool_desk.specs.Homes.{comes_home}
@@ -172,7 +173,7 @@ Adds-array old new array left on c e g none home passed =
     let most = h.on_is in
     rw h.parts (h.handled, record { home = rw h.parts at home ∙ ap (λ n. capped (c.home + n)) (omega (arith, all, most)); on = passed ∙ ap (λ n. capped (c.on + n)) h.on_is })
 
-all_own : (a : ℕ) (bs : List Buffer) → All (λ (b : Buffer). b.owner ≡ a) bs → (own a bs ≡ bs) × (others a bs ≡ [])
+pub all_own : (a : ℕ) (bs : List Buffer) → All (λ (b : Buffer). b.owner ≡ a) bs → (own a bs ≡ bs) × (others a bs ≡ [])
 all_own a [] h = (refl, refl)
 all_own a (b ∷ bs) h =
     let test : eqb b.owner a ≡ true = eq-eqb _ _ (h 0 b (omega arith)) in
@@ -190,6 +191,13 @@ Handles-all_own old new bs h same p =
       home = rw parts.0 p;
       cached = rw (parts.1, cached) (IsPermutation-refl old.cached);
     }
+
+-- where a number has one digit, what may be passed to a is a's own
+pub passed_own : (s : Scheme) (a : ℕ) (bs : List Buffer) → count s ≡ 1 → IsScheme s → a < 2 ^ s.bits → SharedAtMostAll → SharedByEquals
+    → All (IsPassed s a) bs → All (λ (b : Buffer). b.owner ≡ a) bs
+passed_own s a bs one scheme within most equal h =
+    All-weaker (IsPassed s a) (λ (b : Buffer). b.owner ≡ a)
+    (λ b p. let le = most s b.owner a in let below = p.forwards in (equal s b.owner a scheme p.in_range within).0 (omega (arith, one, le, below))) bs h
 
 pub Adds-own : (a : ℕ) (bs : List Buffer) (c e : Counts) → All (λ (b : Buffer). b.owner ≡ a) bs → e.home ≡ capped (c.home + length bs) → e.on ≡ capped (c.on + 0) → Adds a bs c e
 Adds-own a bs c e h home on = let parts = all_own a bs h in record { home = rw parts.0 home; on = rw parts.1 on }

@@ -1,5 +1,6 @@
 pub mod ByClassLaws
 pub mod DeskLaws
+pub mod EmptyLaws
 pub mod HandleLaws
 pub mod HomeLaws
 pub mod ListedLaws

@@ -207,7 +207,7 @@ impl<'r> Desk<'r> {
         ensures { FreesAll self.old parcel.entry result self.new }
     {
         if parcel.owner() == self.cache.number() {
-            self.keep_array(parcel.into_buffers());
+            self.keep_array(parcel.into_buffers(), Placing::Linked);
             return Freed::Home;
         }
         self.cache.put_all(parcel);
@@ -219,14 +219,14 @@ impl<'r> Desk<'r> {
     }
 
     // Takes own buffers home, as they lie in their array where it may be kept so.
-    fn keep_array(&mut self, array: Vec<Buf<'r>>)
+    pub(crate) fn keep_array(&mut self, array: Vec<Buf<'r>>, placing: Placing)
         requires { All (λ (b : Buffer). b.owner ≡ self.old.number) array.items }
         ensures same { self.new ≡ record self.old { home = self.new.home } }
         ensures home { IsPermutation (map comes_home array.entry.items ++ self.old.home) self.new.home }
     {
-        if let Some(mut array) = self.homes.keep_whole(array) {
-            self.homes.keep_all(&mut array);
-            self.spares.keep(array);
+        if let Some(array) = self.homes.keep_whole(array) {
+            let emptied = self.homes.keep_all(array, placing);
+            self.spares.keep(emptied);
         }
     }
 

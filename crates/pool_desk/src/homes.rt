@@ -1,11 +1,12 @@
 //! All slots at home of one owner.
-ghost use Rattle.std.specs.Prelude.{◌≡◌, ◌≢◌, ◌<◌, ◌↔◌, [], ◌∷◌, ◌++◌, IsTrue, IsPermutation, MatchOption, MatchResult, OnOk};
+ghost use Rattle.std.specs.Prelude.{◌≡◌, ◌≢◌, ◌<◌, ◌↔◌, [], ◌∷◌, ◌++◌, IsTrue, IsPermutation, MatchBool, MatchOption, MatchResult, OnOk};
 ghost use Rattle.std.specs.Prelude.{OnErr, All, length, map};
 ghost use Rattle.region_cut.specs.Classes.{slots_of};
 ghost use Rattle.slot_chain.specs.Buffer.{Buffer, ended_of, owner_limit};
 ghost use Rattle.slot_chain.specs.Counts.{capped};
 ghost use Rattle.slot_chain.specs.Filling.{emptied};
 ghost use Rattle.slot_chain.specs.Parcels.{IsPackedOf};
+ghost use Rattle.pool_desk.specs.Handling.{EmptiesOwn};
 ghost use Rattle.pool_desk.specs.Homes.{Draws, GivesOne, IsOwn, IsReady, comes_home, kept_in, slot_at, unused_from};
 ghost use Rattle.pool_desk.specs.Spares.{IsFitting};
 ghost use Rattle.pool_desk.specs.Homes.AtHome.{Kept};
@@ -121,38 +122,41 @@ impl<'r> Homes<'r> {
         self.by_class[class.number() as usize].keep(buf, placing);
     }
 
-    /// Takes own buffers home, each emptied, and leaves their array empty.
-    pub(crate) fn keep_all(&mut self, array: &mut Vec<Buf<'r>>)
-        requires { All (λ (b : Buffer). b.owner ≡ self.old.owner) array.old.items }
+    /// Takes own buffers home, each emptied, and gives out their array, which then names none.
+    #[inline(always)]
+    pub(crate) fn keep_all(&mut self, array: Vec<Buf<'r>>, placing: Placing) -> Vec<Buf<'r>>
+        requires { All (λ (b : Buffer). b.owner ≡ self.old.owner) array.items }
         ensures same { self.new ≡ record self.old { slots = self.new.slots } }
         ensures slots { IsPermutation
-            (map comes_home array.old.items ++ self.old.slots) self.new.slots }
-        ensures emptied { array.new.items ≡ [] }
+            (map comes_home array.entry.items ++ self.old.slots) self.new.slots }
+        ensures emptied { result.items ≡ [] }
     {
+        let mut array = array;
         while let Some(mut buf) = array.pop() {
             buf.clear();
-            self.keep(buf, Placing::Linked);
+            self.keep(buf, placing);
         }
+        array
     }
 
     /// Takes the buffers of an array home as they lie, each emptied, where all are own, of one class, and
-    /// not passed on, and where there is a place for it. Else it hands the array back.
+    /// not passed on, and where there is a place for it. Else it hands the array back: some of the own ones
+    /// may be emptied then.
     pub(crate) fn keep_whole(&mut self, array: Vec<Buf<'r>>) -> Option<Vec<Buf<'r>>>
         ensures same { self.new ≡ record self.old { slots = self.new.slots } }
         ensures value { MatchOption result
             (All (λ (b : Buffer). b.owner ≡ self.old.owner) array.entry.items
             × IsPermutation (map comes_home array.entry.items ++ self.old.slots) self.new.slots)
-            (λ a. (a ≡ array.entry) × (self.new ≡ self.old)) }
+            (λ a. EmptiesOwn self.old.owner array.entry.items a.items × (self.new ≡ self.old)) }
     {
+        let mut array = array;
         let Some(first) = array.first() else {
             return Some(array);
         };
         let class = first.class();
-        if !self.has_room(class) || !are_alike(array.as_slice(), self.owner, class) {
+        if !self.has_room(class) || !empty_alike(&mut array, self.owner, class) {
             return Some(array);
         }
-        let mut array = array;
-        empty_each(&mut array);
         self.keep_ready(array, class);
         None
     }
@@ -229,23 +233,37 @@ impl<'r> Homes<'r> {
     }
 }
 
-// Whether all buffers are of this owner and class, and none was passed on.
-fn are_alike(buffers: &[Buf<'_>], owner: u16, class: Class) -> bool
-    ensures { IsTrue result → All (IsPackedOf owner class) buffers.now }
+// Empties the buffers of an array, as long as each is of this owner and class and was not passed on. Says whether all
+// are.
+fn empty_alike(array: &mut Vec<Buf<'_>>, owner: u16, class: Class) -> bool
+    ensures { MatchBool result
+        (All (IsPackedOf owner class) array.old.items × (array.new.items ≡ map emptied array.old.items))
+        (EmptiesOwn owner array.old.items array.new.items) }
 {
-    for buf in buffers {
-        if buf.owner() != owner || buf.class() != class || buf.forwards() != 0 {
+    for buf in array.iter_mut() {
+        if !empty_if_alike(buf, owner, class) {
             return false;
         }
     }
     true
 }
 
-// Nothing of the buffers counts as filled any more.
-fn empty_each(array: &mut Vec<Buf<'_>>)
-    ensures { array.new.items ≡ map emptied array.old.items }
+// Empties a buffer, where it is of this owner and class and was not passed on. Says whether it is.
+#[inline]
+fn empty_if_alike(buf: &mut Buf<'_>, owner: u16, class: Class) -> bool
+    ensures { MatchBool result
+        (IsPackedOf owner class buf.old × (buf.new ≡ emptied buf.old))
+        (buf.new ≡ buf.old) }
 {
-    for buf in array.iter_mut() {
-        buf.clear();
+    if buf.owner() != owner || buf.class() != class {
+        return false;
     }
+    if buf.is_reset() {
+        return true;
+    }
+    if buf.forwards() != 0 {
+        return false;
+    }
+    buf.clear();
+    true
 }
