@@ -1,6 +1,8 @@
 //! How a desk handles what others freed.
-ghost use Rattle.std.specs.Prelude.{◌≡◌, ◌≢◌, ◌↔◌, [], All, IsTrue};
+ghost use Rattle.std.specs.Prelude.{◌≡◌, ◌≢◌, ◌<◌, ◌^◌, ◌↔◌, [], All, IsTrue};
+ghost use Rattle.slot_chain.specs.Buffer.{Buffer};
 ghost use Rattle.slot_chain.specs.Magazines.{items_of};
+ghost use Rattle.digit_route.specs.Digits.{IsScheme, count};
 ghost use Rattle.pool_desk.specs.Handling.{Adds, IsPassed, GoesHome, GoesOn};
 ghost use Rattle.pool_desk.specs.Steps.{Handles, CountsOf};
 
@@ -8,7 +10,7 @@ use crate::Counts;
 use crate::desk::Desk;
 use crate::home::Placing;
 use digit_route::Batch;
-use digit_route::laws::shared_at_most_all;
+use digit_route::laws::{shared_at_most_all, shared_by_equals};
 use slot_chain::{Buf, Chain, EmptyMagazine, Magazine, Portion};
 
 impl<'r> Desk<'r> {
@@ -52,6 +54,11 @@ impl<'r> Desk<'r> {
         ensures counts { Adds self.old.number (items_of portion.entry) counts result }
         ensures magazine { magazine.new ≡ magazine.old }
     {
+        if self.takes_own_alone() {
+            shared_by_equals();
+            shared_at_most_all();
+            return self.handle_own(portion, counts, magazine);
+        }
         match portion {
             Portion::Linked(chain) => self.handle_chain(chain, counts),
             Portion::Array(array) => {
@@ -60,6 +67,45 @@ impl<'r> Desk<'r> {
                 counts
             }
             Portion::Whole(array) => self.handle_array(array, counts),
+        }
+    }
+
+    // Whether each batch to the desk has own buffers alone: one digit tells all desks apart.
+    fn takes_own_alone(&self) -> bool
+        ensures alone { IsTrue result → count self.now.digits ≡ 1 }
+        ensures scheme { IsScheme self.now.digits }
+        ensures in_range { self.now.number < 2 ^ self.now.digits.bits }
+    {
+        let _number = self.number();
+        self.cache.digits().count() == 1
+    }
+
+    // Takes the buffers of a portion home, which are own, and counts them on: none is asked for its owner.
+    // The magazine's own array goes back to it.
+    fn handle_own(
+        &mut self,
+        portion: Portion<'r>,
+        counts: Counts,
+        magazine: &mut Magazine<'r>,
+    ) -> Counts
+        requires passed { All (IsPassed self.old.digits self.old.number) (items_of portion) }
+        requires own { All (λ (b : Buffer). b.owner ≡ self.old.number) (items_of portion) }
+        ensures parts { Handles self.old (items_of portion.entry) self.new }
+        ensures counts { Adds self.old.number (items_of portion.entry) counts result }
+        ensures magazine { magazine.new ≡ magazine.old }
+    {
+        match portion {
+            Portion::Linked(own) => self.handle_chain(own, counts),
+            Portion::Array(own) => {
+                let all = own.len();
+                magazine.put_back(self.homes.keep_all(own, Placing::Named));
+                counts.plus(all, 0)
+            }
+            Portion::Whole(own) => {
+                let all = own.len();
+                self.keep_array(own, Placing::Named);
+                counts.plus(all, 0)
+            }
         }
     }
 
