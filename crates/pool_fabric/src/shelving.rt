@@ -32,7 +32,9 @@ pub(crate) struct LastRow<S: Sender, J: Naming> {
     pub(crate) of: Named<J>,
 }
 
-// Takes the last sender's seat out of each column.
+// Takes the last sender's seat out of each column. It isn't inlined: what it needs of the stack is free again where
+// a desk is made.
+#[inline(never)]
 fn last_row<S: Sender, J: Naming>(
     alloc: Global,
     columns: Vec<Row<S>>,
