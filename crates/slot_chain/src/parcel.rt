@@ -6,7 +6,7 @@ ghost use Rattle.region_cut.specs.Classes.{size_of};
 ghost use Rattle.slot_chain.specs.Buffer.{ended_of};
 ghost use Rattle.slot_chain.specs.Counts.{capped, sizes};
 ghost use Rattle.slot_chain.specs.Filling.{holding};
-ghost use Rattle.slot_chain.specs.Parcels.{EditsAt, IsPacked, IsPackedOf, KeepsOut, Packs};
+ghost use Rattle.slot_chain.specs.Parcels.{EditsAt, IsPacked, IsPackedOf, KeepsOut, Packs, most_places};
 ghost use Rattle.std.specs.Fn.{FnOnceReturnsAtMut};
 
 use crate::buf::Buf;
@@ -75,7 +75,9 @@ impl<'r> BufParcel<'r> {
     /// memory.
     pub fn over(owner: u16, array: Vec<Buf<'r>>) -> Result<BufParcel<'r>, NoMemory>
         requires { array.items ≡ [] }
-        ensures { IfOk result (λ p. p ≡ record { owner = owner; places = vec_capacity array.entry; items = [] }) }
+        ensures { MatchResult result
+            (λ p. p ≡ record { owner = owner; places = vec_capacity array.entry; items = [] })
+            (λ _. most_places < vec_capacity array.entry) }
     {
         if array.capacity() > MOST_PLACES {
             return Err(NoMemory);
