@@ -104,7 +104,9 @@ impl<'r> Buf<'r> {
     pub fn reset(&mut self)
         ensures { self.new ≡ record self.old { forwards = 0; filled = 0 } }
     {
-        if !self.is_reset() {
+        // As the box has them: the count of forwards above, how much is filled below. So it is one look.
+        let both = self.node.forwards as u64 * 4_294_967_296 + self.node.filled as u64;
+        if both != 0 {
             self.node.filled = 0;
             self.node.forwards = 0;
         }
