@@ -11,7 +11,7 @@ ghost use Rattle.slot_chain.specs.Slots.{AddsSlots, slot_of};
 use arrayvec::ArrayVec;
 use region_cut::Slot;
 use region_cut::endings::Endings;
-use slot_chain::{Buf, EmptyMagazine, Magazine, NoMemory};
+use slot_chain::{Buf, BufParcel, EmptyMagazine, Magazine, NoMemory};
 use std::alloc::Global;
 use std::mem;
 
@@ -42,14 +42,14 @@ pub(crate) fn push_at<'r>(magazines: &mut Magazines<'r>, k: usize, item: Buf<'r>
     magazines[k].push(item);
 }
 
-/// Puts the buffers of an array on the magazine at `k`.
-pub(crate) fn append_at<'r>(magazines: &mut Magazines<'r>, k: usize, array: Vec<Buf<'r>>)
+/// Puts the buffers of a parcel on the magazine at `k`.
+pub(crate) fn append_at<'r>(magazines: &mut Magazines<'r>, k: usize, parcel: BufParcel<'r>)
     requires { k < array_vec_len magazines.old }
-    ensures { (list : List Buffer) × IsPermutation (slice_index_or magazines.old.items k [] ++ array.entry.items) list
+    ensures { (list : List Buffer) × IsPermutation (slice_index_or magazines.old.items k [] ++ parcel.entry.items) list
         × (magazines.new.items ≡ slice_set magazines.old.items k list) }
 {
     let mut magazine = take_at(magazines, k);
-    magazine.append(array);
+    magazine.append(parcel);
     set_at(magazines, k, magazine);
 }
 

@@ -177,7 +177,7 @@ impl<'r> Row<'r> {
         ensures items { IsPermutation (self.old.items ++ parcel.entry.items) self.new.items }
     {
         let k = self.digits.digit(parcel.owner(), 0);
-        append_at(&mut self.magazines, k as usize, parcel.into_buffers());
+        append_at(&mut self.magazines, k as usize, parcel);
     }
 
     /// Adds the buffers of a magazine.

@@ -12,6 +12,7 @@ use Rattle.region_cut.specs.Carved.{Carved}
 use Rattle.region_cut.specs.Classes.{class_count, slots_of}
 use Rattle.region_cut.specs.declared.part.Part.{Part}
 use Rattle.slot_chain.specs.Buffer.{Buffer}
+use Rattle.slot_chain.specs.Parcels.{ParcelState}
 use Rattle.pool_desk.specs.declared.error.DeskError.{DeskError}
 use Rattle.pool_desk.specs.declared.error.DeskError.TheVariants.{TooLarge, NeedChunk, NotNeeded, Unsettled, NoMemory}
 use Rattle.pool_desk.specs.Homes.{AtHome, HomeState, IsAtHome, IsReady, LiesIn, IsOwn, GivesOne, Names, Draws, IsUncut, class_at, IsUnused, IsRefused, unused_from}
@@ -295,7 +296,7 @@ keep_shown owner k hs hs' same =
     ap (λ (d : List Carved). record { owner = owner; slots = flat_map slots_of_home hs'; drawn = d }) drawn
 
 -- what the home k gives of its arrays
-abbrev pub TakesAt : (most places k : ℕ) → List HomeState → Option (Vec Buffer Global) → List HomeState → Type 0
+abbrev pub TakesAt : (most places k : ℕ) → List HomeState → Option ParcelState → List HomeState → Type 0
 TakesAt most places k hs o hs' = let h = home_at hs k in let h' = home_at hs' k in
     MatchOption o (hs' ≡ hs) (λ a. IsFitting most places a × All (IsReady h.owner h.class) a.items
     × IsPermutation h.slots (map {A = Buffer} {B = AtHome} (λ x. Kept x) a.items ++ h'.slots))
@@ -304,7 +305,7 @@ All-behind : {X : Type 0} (P : X → Type 0) (xs ys : List X) → All P (xs ++ y
 All-behind P xs ys h =
     All-weaker (Contains ys) P (λ x c. All-contains P (xs ++ ys) x h (Contains-append_right xs ys x c)) ys (All-contains_itself ys)
 
-pub take_keeps : (owner most places k : ℕ) (hs hs' : List HomeState) (o : Option (Vec Buffer Global)) → AreHomes owner hs → k < class_count
+pub take_keeps : (owner most places k : ℕ) (hs hs' : List HomeState) (o : Option ParcelState) → AreHomes owner hs → k < class_count
     → hs' ≡ set hs k (with_slots (home_at hs k) (home_at hs' k).slots (home_at hs k).drawn) → TakesAt most places k hs o hs' → AreHomes owner hs'
 take_keeps owner most places k hs hs' None are l same t = subst (AreHomes owner) (sym t) are
 take_keeps owner most places k hs hs' (Some a) are l same t =
@@ -313,7 +314,7 @@ take_keeps owner most places k hs hs' (Some a) are l same t =
     (All-behind (IsAtHome owner k) (map {A = Buffer} {B = AtHome} (λ x. Kept x) a.items) (home_at hs' k).slots
     (All-permutation (IsAtHome owner k) (home_at hs k).slots _ t.2 (are.each k l).each)))
 
-pub take_shown : (owner most places k : ℕ) (hs hs' : List HomeState) (o : Option (Vec Buffer Global)) → AreHomes owner hs → k < class_count
+pub take_shown : (owner most places k : ℕ) (hs hs' : List HomeState) (o : Option ParcelState) → AreHomes owner hs → k < class_count
     → hs' ≡ set hs k (with_slots (home_at hs k) (home_at hs' k).slots (home_at hs k).drawn) → TakesAt most places k hs o hs'
     → MatchOption o (shown owner hs' ≡ shown owner hs) (λ a. IsFitting most places a × All (IsReady owner k) a.items
     × IsPermutation (flat_map slots_of_home hs) (map {A = Buffer} {B = AtHome} (λ x. Kept x) a.items ++ flat_map slots_of_home hs'))

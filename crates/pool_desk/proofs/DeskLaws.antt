@@ -1,5 +1,5 @@
 -- What freeing and passing on do to a desk.
-use Rattle.std.proofs.Common.{◌≡◌, ◌≢◌, ℕ, ◌<◌, ◌≤◌, [], ◌∷◌, ◌++◌, sym, ap, ◌∙◌, arith, IsPermutation, Bool, true, false}
+use Rattle.std.proofs.Common.{◌≡◌, ◌≢◌, ℕ, ◌<◌, ◌≤◌, [], ◌∷◌, ◌++◌, sym, ap, ◌∙◌, arith, All, List, map, IsPermutation, Bool, true, false}
 use Rattle.std.proofs.lemmas.List.Sorted.{IsPermutation-trans, IsPermutation-append_comm}
 use Rattle.slot_chain.specs.Buffer.{Buffer}
 use Rattle.slot_chain.specs.Counts.{sizes}
@@ -8,7 +8,10 @@ use Rattle.pool_desk.specs.declared.freed.Freed.TheVariants.{Cached, Due}
 use Rattle.pool_desk.specs.Desks.{DeskState}
 use Rattle.pool_desk.specs.HomesState.{HomesState}
 use Rattle.slot_chain.specs.Parcels.{ParcelState}
-use Rattle.pool_desk.specs.Steps.{freed, passed_on, CachesAll, Frees, FreesAll}
+use Rattle.pool_desk.specs.Homes.{AtHome, IsReady}
+use Rattle.pool_desk.specs.Homes.AtHome.{Kept}
+use Rattle.pool_desk.specs.Spares.{IsFitting}
+use Rattle.pool_desk.specs.Steps.{freed, passed_on, CachesAll, Frees, FreesAll, IsFilledUp, LendsWhole}
 use Rattle.pool_desk.specs.Handling.{GoesOn}
 
 -- the desk with another cache
@@ -18,6 +21,18 @@ with_cache d c = record { number = c.number; digits = c.digits; limit = c.limit;
 -- the desk with other homes
 abbrev pub with_homes : DeskState → HomesState → DeskState
 with_homes d h = record d { home = h.slots; drawn = h.drawn }
+
+-- the desk of a cache and of homes
+abbrev pub desk_of : CacheState → HomesState → ℕ → DeskState
+desk_of c h worker = record {
+  number = c.number;
+  digits = c.digits;
+  limit = c.limit;
+  worker = worker;
+  home = h.slots;
+  drawn = h.drawn;
+  cached = c.items;
+}
 
 -- other slots are at home
 pub homes_same : (d : DeskState) (owner : ℕ) (n : HomesState) → n ≡ record { owner = owner; slots = n.slots; drawn = d.drawn } → with_homes d n ≡ record d { home = n.slots }
@@ -77,3 +92,19 @@ frees_all_cached d p new other same moved less =
 
 pub not_both : (b : Bool) → b ≡ true → b ≡ false → ⊥
 not_both b p q = let e : true ≡ false = sym p ∙ q in cc
+
+-- a parcel that came home is lent as it lies, in the place of an empty one
+pub lent_whole : (c : CacheState) (h h' : HomesState) (worker most class : ℕ) (old w : ParcelState) (places : ℕ)
+    → h' ≡ record h { slots = h'.slots } → IsFitting most places w → All (IsReady c.number class) w.items
+    → IsPermutation h.slots (map {A = Buffer} {B = AtHome} (λ b. Kept b) w.items ++ h'.slots)
+    → w.owner ≡ old.owner → places ≡ old.places → old.items ≡ []
+    → LendsWhole (desk_of c h worker) class w.items (desk_of c h' worker) × IsFilledUp most old w
+lent_whole c h h' worker most class old w places same fits each gone owner room none = (
+  record { each = each; same = ap (λ (x : HomesState). desk_of c x worker) same; home = gone },
+  record {
+    none = none;
+    some = fits.some;
+    most = fits.most;
+    same = ap (λ n. record w { owner = n }) owner ∙ ap (λ n. record old { places = n; items = w.items }) (fits.places_are ∙ room);
+  },
+)

@@ -15,7 +15,7 @@ use Rattle.region_cut.specs.Bumps.{left_of, part_of, HoldsPart, GivesNext}
 use Rattle.region_cut.specs.Classes.{slots_of, size_of}
 use Rattle.slot_chain.specs.Buffer.{Buffer}
 use Rattle.slot_chain.specs.Filling.{emptied}
-use Rattle.slot_chain.specs.Parcels.{IsPackedOf}
+use Rattle.slot_chain.specs.Parcels.{IsOf, IsPacked, ParcelState}
 use Rattle.pool_desk.specs.declared.error.DeskError.{DeskError}
 use Rattle.pool_desk.specs.NextSlots.{GivesNextSlot}
 use Rattle.pool_desk.specs.Homes.{HomeState, IsRefused, AtHome, IsAtHome, IsReady, LiesIn, comes_home, unused_from, unused_of, IsUnused, GivesOne, Draws, taken_next}
@@ -200,17 +200,28 @@ ready_home owner class (b ∷ bs) h =
     All-cons (IsAtHome owner class) (Kept b) _ (lies owner class b (h 0 b (omega arith))) (ready_home owner class bs (λ k d l. h (suc k) d (omega (arith, l))))
 
 -- own buffers of a class are emptied, and may then be lent as they lie
-pub packed_ready : (owner class : ℕ) (bs : List Buffer) → All (IsPackedOf owner class) bs → All (IsReady owner class) (map emptied bs)
-packed_ready owner class [] h = All-nil _
-packed_ready owner class (b ∷ bs) h =
-    All-cons (IsReady owner class) (emptied b) _ (h 0 b (omega arith), refl) (packed_ready owner class bs (λ k d l. h (suc k) d (omega (arith, l))))
+pub packed_ready : (owner class : ℕ) (bs : List Buffer) → All (IsPacked owner) bs → All (IsOf class) bs → All (IsReady owner class) (map emptied bs)
+packed_ready owner class [] h g = All-nil _
+packed_ready owner class (b ∷ bs) h g =
+    All-cons (IsReady owner class) (emptied b) _ ((h 0 b (omega arith), g 0 b (omega arith)), refl)
+    (packed_ready owner class bs (λ k d l. h (suc k) d (omega (arith, l))) (λ k d l. g (suc k) d (omega (arith, l))))
 
-pub packed_own : (owner class : ℕ) (bs : List Buffer) → All (IsPackedOf owner class) bs → All (λ (b : Buffer). b.owner ≡ owner) bs
-packed_own owner class bs h = All-weaker (IsPackedOf owner class) (λ (b : Buffer). b.owner ≡ owner) (λ x r. r.0.0) bs h
+pub packed_own : (owner : ℕ) (bs : List Buffer) → All (IsPacked owner) bs → All (λ (b : Buffer). b.owner ≡ owner) bs
+packed_own owner bs h = All-weaker (IsPacked owner) (λ (b : Buffer). b.owner ≡ owner) (λ x p. p.0) bs h
+
+-- a parcel of buffers that may be lent as they lie is their owner's
+pub ready_owner : (a owner class : ℕ) (bs : List Buffer) → bs ≢ [] → All (IsPacked a) bs → All (IsReady owner class) bs → a ≡ owner
+ready_owner a owner class [] some h g = absurd (some refl)
+ready_owner a owner class (b ∷ bs) some h g = sym (h 0 b (omega arith)).0 ∙ (g 0 b (omega arith)).0.0.0
 
 pub emptied_home : (bs : List Buffer) → map {A = Buffer} {B = AtHome} (λ x. Kept x) (map emptied bs) ≡ map comes_home bs
 emptied_home [] = refl
 emptied_home (b ∷ bs) = ap (λ hs. comes_home b ∷ hs) (emptied_home bs)
+
+-- they come home as before, whatever was filled
+pub home_alike : (old new : List Buffer) → map emptied new ≡ map emptied old → map comes_home new ≡ map comes_home old
+home_alike old new same =
+    sym (emptied_home new) ∙ (ap (map {A = Buffer} {B = AtHome} (λ x. Kept x)) same ∙ emptied_home old)
 
 -- the last of an array comes to the end of a list
 pub moved_last : (all list rest : List Buffer) (b : Buffer) → IsPermutation all (list ++ (rest ++ b ∷ [])) → IsPermutation all ((list ++ b ∷ []) ++ rest)
@@ -222,8 +233,8 @@ abbrev pub home_with : (owner class : ℕ) → List Buffer → List AtHome → L
 home_with owner class bs us drawn = record { owner = owner; class = class; slots = map {A = Buffer} {B = AtHome} (λ x. Kept x) bs ++ us; drawn = drawn }
 
 -- a home whose arrays gave one, or none
-pub taken_home : (owner class most places : ℕ) (whole whole' list : List Buffer) (us : List AtHome) (drawn : List Carved) (o : Option (Vec Buffer Global))
-    → MatchOption o (whole' ≡ whole) (λ a. (whole ≡ whole' ++ a.items) × (a.items ≢ []) × (length a.items ≤ most) × (vec_capacity a ≡ places))
+pub taken_home : (owner class most places : ℕ) (whole whole' list : List Buffer) (us : List AtHome) (drawn : List Carved) (o : Option ParcelState)
+    → MatchOption o (whole' ≡ whole) (λ a. (whole ≡ whole' ++ a.items) × (a.items ≢ []) × (length a.items ≤ most) × (a.places ≡ places))
     → All (IsReady owner class) whole
     → MatchOption o (home_with owner class (whole' ++ list) us drawn ≡ home_with owner class (whole ++ list) us drawn) (λ a. IsFitting most places a × All (IsReady owner class) a.items
     × IsPermutation (map {A = Buffer} {B = AtHome} (λ x. Kept x) (whole ++ list) ++ us)
@@ -235,8 +246,8 @@ taken_home owner class most places whole whole' list us drawn (Some a) h all = (
   IsPermutation-sym _ _ (kept_moved a.items (whole' ++ list) (whole ++ list) us (rw h.0 (first_more whole' a.items list))),
 )
 
-pub taken_ready : (owner class most places : ℕ) (whole whole' : List Buffer) (o : Option (Vec Buffer Global))
-    → MatchOption o (whole' ≡ whole) (λ a. (whole ≡ whole' ++ a.items) × (a.items ≢ []) × (length a.items ≤ most) × (vec_capacity a ≡ places))
+pub taken_ready : (owner class most places : ℕ) (whole whole' : List Buffer) (o : Option ParcelState)
+    → MatchOption o (whole' ≡ whole) (λ a. (whole ≡ whole' ++ a.items) × (a.items ≢ []) × (length a.items ≤ most) × (a.places ≡ places))
     → All (IsReady owner class) whole → All (IsReady owner class) whole'
 taken_ready owner class most places whole whole' None h all = rw h all
 taken_ready owner class most places whole whole' (Some a) h all = (all_append (IsReady owner class) whole' a.items (rw h.0 at all)).0

@@ -1,6 +1,5 @@
 pub mod ByClassLaws
 pub mod DeskLaws
-pub mod EmptyLaws
 pub mod HandleLaws
 pub mod HomeLaws
 pub mod ListedLaws

@@ -6,6 +6,7 @@ use Rattle.std.specs.List.{refill}
 use Rattle.std.proofs.lemmas.List.{get_or-set_same, get_or_default, length-set, set-get_or}
 use Rattle.std.proofs.Math.Seq.{take-append_seam}
 use Rattle.slot_chain.specs.Buffer.{Buffer}
+use Rattle.slot_chain.specs.Parcels.{ParcelState}
 use Rattle.pool_desk.specs.declared.error.DeskError.{DeskError}
 use Rattle.region_cut.specs.declared.part.Part.{Part}
 use Rattle.pool_desk.specs.Homes.{AtHome, HomeState, Draws, GivesOne, IsReady, IsRefused}
@@ -56,7 +57,7 @@ put_keeps hs ds k g n come e l is p =
     (subst (λ (z : HomeState). IsPermutation (come ++ z.slots) n.slots) is p)
 
 -- a home that gave an array
-pub put_takes : (hs ds : List HomeState) (k most places : ℕ) (g n : HomeState) (o : Option (Vec Buffer Global)) → ds ≡ hs → k < length hs → g ≡ home_at hs k
+pub put_takes : (hs ds : List HomeState) (k most places : ℕ) (g n : HomeState) (o : Option ParcelState) → ds ≡ hs → k < length hs → g ≡ home_at hs k
     → MatchOption o (n ≡ g) (λ a. IsFitting most places a × All (IsReady g.owner g.class) a.items
     × IsPermutation g.slots (map {A = Buffer} {B = AtHome} (λ x. Kept x) a.items ++ n.slots))
     → TakesAt most places k hs o (put_back hs ds k n)

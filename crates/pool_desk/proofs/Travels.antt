@@ -2,7 +2,7 @@
 use denote.Ref.{NamedLft}
 use denote.Param.Send.{IsSend, sendable}
 use Rattle.std.proofs.Crossing.{crosses}
-use Rattle.digit_route.proofs.Travels.{arrays_send, buf_send, chain_send, cache_send}
+use Rattle.digit_route.proofs.Travels.{parcels_send, buf_send, chain_send, cache_send}
 use Rattle.pool_desk.specs.contracts.desk.Desk as Desk
 use Rattle.pool_desk.specs.contracts.home.Home as Home
 use Rattle.pool_desk.specs.contracts.homes.Homes as Homes
@@ -26,7 +26,7 @@ pub stack_send : (a : NamedLft) → IsSend (Stack.the_row a)
 stack_send a = search (sendable, crosses, chain_send, pointers_send) depth 40 fits 6000
 
 pub home_send : (a : NamedLft) → IsSend (Home.the_row a)
-home_send a = search (sendable, crosses, arrays_send, stack_send, bump_send, ties_send) depth 40 fits 6000
+home_send a = search (sendable, crosses, parcels_send, stack_send, bump_send, ties_send) depth 40 fits 6000
 
 pub homes_send : (a : NamedLft) → IsSend (Homes.the_row a)
 homes_send a = search (sendable, crosses, home_send) depth 40 fits 6000

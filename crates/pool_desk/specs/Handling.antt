@@ -1,7 +1,6 @@
 -- One buffer of a batch after the other is handled.
-use Rattle.std.specs.Prelude.{◌≡◌, ◌≢◌, ℕ, ◌+◌, ◌^◌, ◌<◌, List, ◌∷◌, length, map, IsPermutation}
+use Rattle.std.specs.Prelude.{◌≡◌, ◌≢◌, ℕ, ◌+◌, ◌^◌, ◌<◌, List, ◌∷◌, length, IsPermutation}
 use Rattle.slot_chain.specs.Buffer.{Buffer}
-use Rattle.slot_chain.specs.Filling.{emptied}
 use Rattle.slot_chain.specs.Counts.{capped}
 use Rattle.pool_desk.specs.declared.counts.Counts.{Counts}
 use Rattle.digit_route.specs.Digits.{Scheme, common}
@@ -13,11 +12,6 @@ use Rattle.pool_desk.specs.Steps.{own, others, passed_on}
 pub record IsPassed (s : Scheme) (a : ℕ) (b : Buffer) : Type 0 where
   pub in_range : b.owner < 2 ^ s.bits
   pub forwards : b.forwards < common s b.owner a
-
--- some of a's own buffers were emptied, and all else is as before
-pub record EmptiesOwn (a : ℕ) (old new : List Buffer) : Type 0 where
-  pub same : map emptied new ≡ map emptied old
-  pub others : others a new ≡ others a old
 
 -- how many of the buffers are a's own, and how many are not, come to those that were counted before
 pub record Adds (a : ℕ) (bs : List Buffer) (old new : Counts) : Type 0 where

@@ -12,7 +12,7 @@ use Rattle.region_cut.specs.Carved.{Carved, carved_of}
 use Rattle.region_cut.specs.Classes.{size_of}
 use Rattle.slot_chain.specs.Buffer.{Buffer}
 use Rattle.slot_chain.specs.Filling.{emptied}
-use Rattle.slot_chain.specs.Parcels.{IsPackedOf}
+use Rattle.slot_chain.specs.Parcels.{IsOf, IsPacked}
 
 -- a slot that was never handed out: the name of its chunk's part, and its bytes
 pub record Unused : Type 0 where
@@ -85,9 +85,9 @@ pub record HomeState : Type 0 where
 abbrev pub LiesIn : ℕ → ℕ → Buffer → Type 0
 LiesIn owner class b = (b.owner ≡ owner) × (b.class ≡ class) × (b.filled ≡ 0)
 
--- a buffer that may be lent as it lies, with others in an array: it is as in a parcel, and nothing of it is filled
+-- a buffer that may be lent as it lies, with others in a parcel: it is of this class, and nothing of it is filled
 abbrev pub IsReady : ℕ → ℕ → Buffer → Type 0
-IsReady owner class b = IsPackedOf owner class b × (b.filled ≡ 0)
+IsReady owner class b = (IsPacked owner b × IsOf class b) × (b.filled ≡ 0)
 
 -- a slot at home of this owner and class
 abbrev pub IsAtHome : ℕ → ℕ → AtHome → Type 0

@@ -2,12 +2,13 @@
 use Rattle.std.specs.Prelude.{◌≡◌, ◌≢◌, ℕ, ◌≤◌, [], All, List, Option, Some, None, Vec, length, slice_get, vec_capacity}
 use Rattle.std.specs.declared.alloc.Global.{Global}
 use Rattle.slot_chain.specs.Buffer.{Buffer}
+use Rattle.slot_chain.specs.Parcels.{ParcelState}
 
--- an array with so many places, and with a buffer in at most n of them
-pub record IsFitting (n places : ℕ) (a : Vec Buffer Global) : Type 0 where
-  pub some : a.items ≢ []
-  pub most : length a.items ≤ n
-  pub places_are : vec_capacity a ≡ places
+-- a parcel with so many places, and with a buffer in at most n of them
+pub record IsFitting (n places : ℕ) (p : ParcelState) : Type 0 where
+  pub some : p.items ≢ []
+  pub most : length p.items ≤ n
+  pub places_are : p.places ≡ places
 
 -- the arrays that are kept, none where there is no place for any
 abbrev pub arrays_in : Option (Vec (Vec Buffer Global) Global) → List (Vec Buffer Global)

@@ -25,8 +25,8 @@ use region_cut::endings::Endings;
 use region_cut::{Class, Part, Slot};
 use slot_chain::{Buf, BufParcel, NoMemory};
 use std::alloc::Global;
-use std::fmt;
 use std::marker::Model;
+use std::{fmt, mem};
 
 /// An allocator that a worker holds: its slots at home, and a cache of others' buffers that were
 /// freed here.
@@ -152,7 +152,7 @@ impl<'r> Desk<'r> {
     /// Gives out a slot at home of the least class that holds `size` bytes: one that came home, else the
     /// next that was never handed out. Only the latter takes memory, for the box of the buffer, which is
     /// made first; so a refusal changes nothing. Nothing of the buffer is filled, and no byte of a slot is
-    /// written. Takes constant time, unless an array of [`Desk::lend_whole`] is taken apart.
+    /// written. Takes constant time, unless a parcel of [`Desk::lend_whole`] is taken apart.
     #[inline(always)]
     pub fn alloc(&mut self, alloc: Global, size: usize) -> Result<Buf<'r>, DeskError>
         ensures { Allocs self.old size result self.new }
@@ -207,7 +207,7 @@ impl<'r> Desk<'r> {
         ensures { FreesAll self.old parcel.entry result self.new }
     {
         if parcel.owner() == self.cache.number() {
-            self.keep_array(parcel.into_buffers(), Placing::Linked);
+            self.keep_parcel(parcel, Placing::Linked);
             return Freed::Home;
         }
         self.cache.put_all(parcel);
@@ -218,24 +218,34 @@ impl<'r> Desk<'r> {
         }
     }
 
-    // Takes own buffers home, as they lie in their array where it may be kept so.
-    pub(crate) fn keep_array(&mut self, array: Vec<Buf<'r>>, placing: Placing)
-        requires { All (λ (b : Buffer). b.owner ≡ self.old.number) array.items }
+    // Takes the buffers of an own parcel home, as they lie in it where it may be kept so.
+    pub(crate) fn keep_parcel(&mut self, parcel: BufParcel<'r>, placing: Placing)
+        requires { parcel.owner ≡ self.old.number }
         ensures same { self.new ≡ record self.old { home = self.new.home } }
-        ensures home { IsPermutation (map comes_home array.entry.items ++ self.old.home) self.new.home }
+        ensures home { IsPermutation (map comes_home parcel.entry.items ++ self.old.home) self.new.home }
     {
-        if let Some(array) = self.homes.keep_whole(array) {
-            let emptied = self.homes.keep_all(array, placing);
+        if let Some(parcel) = self.homes.keep_whole(parcel) {
+            let emptied = self.homes.keep_all(parcel.into_buffers(), placing);
             self.spares.keep(emptied);
         }
     }
 
-    /// Lends own buffers of this class into an empty parcel, as they came home together in an array: at most
-    /// `most`, and none is looked at. The array takes the place of the parcel's own, so it has as many places.
-    /// Says whether it lent any: where it didn't, no such array is there, or the parcel isn't empty, and both
+    // Takes own buffers home one by one, and gives out their array, which then names none.
+    pub(crate) fn keep_each(&mut self, array: Vec<Buf<'r>>, placing: Placing) -> Vec<Buf<'r>>
+        requires { All (λ (b : Buffer). b.owner ≡ self.old.number) array.items }
+        ensures same { self.new ≡ record self.old { home = self.new.home } }
+        ensures home { IsPermutation (map comes_home array.entry.items ++ self.old.home) self.new.home }
+        ensures emptied { result.items ≡ [] }
+    {
+        self.homes.keep_all(array, placing)
+    }
+
+    /// Lends own buffers of this class in an empty parcel, as they came home together in one: at most
+    /// `most`, and none is looked at. That one takes the place of the empty one, so it has as many places.
+    /// Says whether it lent any: where it didn't, no such parcel is at home, or this one isn't empty, and both
     /// are as before.
     ///
-    /// A desk keeps arrays so once this was called: it takes memory for their places, at most 1,024 of each
+    /// A desk keeps parcels so once this was called: it takes memory for their places, at most 1,024 of each
     /// class, and keeps fewer where memory is refused. [`Desk::alloc`] takes one apart where it finds no other
     /// buffer that came home. Takes constant time.
     pub fn lend_whole(
@@ -253,12 +263,13 @@ impl<'r> Desk<'r> {
         if !parcel.is_empty() {
             return false;
         }
-        let Some(array) = self.homes.take_whole(class, most, parcel.places()) else {
+        let Some(whole) = self.homes.take_whole(class, most, parcel.places()) else {
             self.homes.make_room(alloc, class);
             return false;
         };
-        let spare = parcel.exchange(class, array);
-        self.spares.keep(spare);
+        let _packed = whole.owner();
+        let spare = mem::replace(parcel, whole);
+        self.spares.keep(spare.into_buffers());
         true
     }
 

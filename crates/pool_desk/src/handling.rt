@@ -1,6 +1,5 @@
 //! How a desk handles what others freed.
 ghost use Rattle.std.specs.Prelude.{◌≡◌, ◌≢◌, ◌<◌, ◌^◌, ◌↔◌, [], All, IsTrue};
-ghost use Rattle.slot_chain.specs.Buffer.{Buffer};
 ghost use Rattle.slot_chain.specs.Magazines.{items_of};
 ghost use Rattle.digit_route.specs.Digits.{IsScheme, count};
 ghost use Rattle.pool_desk.specs.Handling.{Adds, IsPassed, GoesHome, GoesOn};
@@ -11,7 +10,7 @@ use crate::desk::Desk;
 use crate::home::Placing;
 use digit_route::Batch;
 use digit_route::laws::{shared_at_most_all, shared_by_equals};
-use slot_chain::{Buf, Chain, EmptyMagazine, Magazine, Portion};
+use slot_chain::{Buf, BufParcel, Chain, EmptyMagazine, Magazine, Portion};
 
 impl<'r> Desk<'r> {
     /// Takes the own buffers of a batch home, and puts the others into the cache with one more
@@ -54,20 +53,50 @@ impl<'r> Desk<'r> {
         ensures counts { Adds self.old.number (items_of portion.entry) counts result }
         ensures magazine { magazine.new ≡ magazine.old }
     {
-        if self.takes_own_alone() {
-            shared_by_equals();
-            shared_at_most_all();
-            return self.handle_own(portion, counts, magazine);
-        }
         match portion {
             Portion::Linked(chain) => self.handle_chain(chain, counts),
             Portion::Array(array) => {
-                let (counts, emptied) = self.handle_each(array, counts);
+                let (counts, emptied) = self.handle_array(array, counts);
                 magazine.put_back(emptied);
                 counts
             }
-            Portion::Whole(array) => self.handle_array(array, counts),
+            Portion::Whole(parcel) => self.handle_parcel(parcel, counts),
         }
+    }
+
+    // Handles the buffers of a parcel, and counts them on: an own one comes home as it lies, where it may be
+    // kept so, and no buffer is asked for its owner.
+    fn handle_parcel(&mut self, parcel: BufParcel<'r>, counts: Counts) -> Counts
+        requires { All (IsPassed self.old.digits self.old.number) parcel.items }
+        ensures parts { Handles self.old parcel.entry.items self.new }
+        ensures counts { Adds self.old.number parcel.entry.items counts result }
+    {
+        if parcel.owner() == self.cache.number() {
+            let all = parcel.len();
+            self.keep_parcel(parcel, Placing::Named);
+            return counts.plus(all, 0);
+        }
+        let (counts, emptied) = self.handle_each(parcel.into_buffers(), counts);
+        self.spares.keep(emptied);
+        counts
+    }
+
+    // Handles the buffers of an array, counts them on, and gives the emptied array out. Where one digit tells
+    // all desks apart they are own: none is asked for its owner.
+    fn handle_array(&mut self, array: Vec<Buf<'r>>, counts: Counts) -> (Counts, Vec<Buf<'r>>)
+        requires { All (IsPassed self.old.digits self.old.number) array.items }
+        ensures parts { Handles self.old array.entry.items self.new }
+        ensures counts { Adds self.old.number array.entry.items counts result.0 }
+        ensures emptied { result.1.items ≡ [] }
+    {
+        if !self.takes_own_alone() {
+            return self.handle_each(array, counts);
+        }
+        shared_by_equals();
+        shared_at_most_all();
+        let all = array.len();
+        let emptied = self.keep_each(array, Placing::Named);
+        (counts.plus(all, 0), emptied)
     }
 
     // Whether each batch to the desk has own buffers alone: one digit tells all desks apart.
@@ -77,54 +106,7 @@ impl<'r> Desk<'r> {
         ensures in_range { self.now.number < 2 ^ self.now.digits.bits }
     {
         let _number = self.number();
-        self.cache.digits().count() == 1
-    }
-
-    // Takes the buffers of a portion home, which are own, and counts them on: none is asked for its owner.
-    // The magazine's own array goes back to it.
-    fn handle_own(
-        &mut self,
-        portion: Portion<'r>,
-        counts: Counts,
-        magazine: &mut Magazine<'r>,
-    ) -> Counts
-        requires passed { All (IsPassed self.old.digits self.old.number) (items_of portion) }
-        requires own { All (λ (b : Buffer). b.owner ≡ self.old.number) (items_of portion) }
-        ensures parts { Handles self.old (items_of portion.entry) self.new }
-        ensures counts { Adds self.old.number (items_of portion.entry) counts result }
-        ensures magazine { magazine.new ≡ magazine.old }
-    {
-        match portion {
-            Portion::Linked(own) => self.handle_chain(own, counts),
-            Portion::Array(own) => {
-                let all = own.len();
-                magazine.put_back(self.homes.keep_all(own, Placing::Named));
-                counts.plus(all, 0)
-            }
-            Portion::Whole(own) => {
-                let all = own.len();
-                self.keep_array(own, Placing::Named);
-                counts.plus(all, 0)
-            }
-        }
-    }
-
-    // Handles the buffers of an array that came as a whole, as it lies where it may be kept so, and counts
-    // them on.
-    fn handle_array(&mut self, array: Vec<Buf<'r>>, counts: Counts) -> Counts
-        requires { All (IsPassed self.old.digits self.old.number) array.items }
-        ensures parts { Handles self.old array.entry.items self.new }
-        ensures counts { Adds self.old.number array.entry.items counts result }
-    {
-        let all = array.len();
-        match self.homes.keep_whole(array) {
-            None => counts.plus(all, 0),
-            Some(array) => {
-                let (counts, emptied) = self.handle_each(array, counts);
-                self.spares.keep(emptied);
-                counts
-            }
-        }
+        self.cache.digits().is_one()
     }
 
     // Handles the buffers of an array one by one, counts them on, and gives the emptied array out.

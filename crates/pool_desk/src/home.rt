@@ -15,11 +15,11 @@ use crate::listing::add_unused;
 use crate::spares::Spares;
 use region_cut::endings::{Endings, Ties};
 use region_cut::{Bump, Class, Part, Slot};
-use slot_chain::{Arrays, Buf, NoMemory, Room, Stack};
+use slot_chain::{Buf, BufParcel, NoMemory, Parcels, Room, Stack};
 use std::alloc::Global;
 use std::marker::Model;
 
-// For how many arrays there is room, at least and at most, where one is to be kept.
+// For how many parcels there is room, at least and at most, where one is to be kept.
 const LEAST: usize = 16;
 
 const MOST: usize = 1024;
@@ -40,12 +40,12 @@ pub(crate) struct Home<'r> {
     list: Stack<'r>,
     owner: u16,
     class: Class,
-    // Whether an array found no place among the whole ones.
+    // Whether a parcel found no place among the whole ones.
     wants_room: bool,
     // How many slots were claimed: all may be at home at once.
     claimed: u32,
-    // Arrays in which buffers came home, to be lent as they lie.
-    whole: Arrays<'r>,
+    // Parcels in which buffers came home, to be lent as they lie.
+    whole: Parcels<'r>,
     bump: Option<Bump<'r>>,
     ties: Ties,
     // Nothing reads it: with it a home takes 128 bytes.
@@ -96,7 +96,7 @@ impl<'r> Home<'r> {
             class,
             wants_room: false,
             claimed: 0,
-            whole: Arrays::new(),
+            whole: Parcels::new(),
             bump: None,
             ties: Ties::new(),
             apart: [0; 2],
@@ -136,7 +136,7 @@ impl<'r> Home<'r> {
         }
     }
 
-    /// Gives out a slot, of which nothing is filled: one of the list, else one of the array that came last,
+    /// Gives out a slot, of which nothing is filled: one of the list, else one of the parcel that came last,
     /// which is then taken apart, else one that was never handed out.
     #[inline(always)]
     pub(crate) fn alloc(
@@ -175,7 +175,7 @@ impl<'r> Home<'r> {
         }
     }
 
-    /// Whether there is a place for an array of buffers. Where there is none, [`Home::make_room`] makes some
+    /// Whether there is a place for a parcel. Where there is none, [`Home::make_room`] makes some
     /// when it is called next.
     pub(crate) fn has_room(&mut self) -> bool
         ensures { self.new ≡ self.old }
@@ -187,30 +187,30 @@ impl<'r> Home<'r> {
         has_room
     }
 
-    /// Takes own buffers home as they lie in an array, of which nothing is filled.
-    pub(crate) fn keep_whole(&mut self, array: Vec<Buf<'r>>)
-        requires some { array.items ≢ [] }
-        requires each { All (IsReady self.old.owner self.old.class) array.items }
+    /// Takes own buffers home as they lie in a parcel, of which nothing is filled.
+    pub(crate) fn keep_whole(&mut self, parcel: BufParcel<'r>)
+        requires some { parcel.items ≢ [] }
+        requires each { All (IsReady self.old.owner self.old.class) parcel.items }
         ensures same { self.new ≡ record self.old { slots = self.new.slots } }
-        ensures slots { IsPermutation (map Kept array.entry.items ++ self.old.slots) self.new.slots }
+        ensures slots { IsPermutation (map Kept parcel.entry.items ++ self.old.slots) self.new.slots }
     {
-        if let Some(mut array) = self.whole.put(array) {
+        if let Some(parcel) = self.whole.put(parcel) {
+            let mut array = parcel.into_buffers();
             store_all(&mut self.list, &mut array);
         }
     }
 
-    /// Takes out the array that came home last, where it has so many places and names at most `most`
-    /// buffers.
-    pub(crate) fn take_whole(&mut self, most: usize, places: usize) -> Option<Vec<Buf<'r>>>
+    /// Takes out the parcel that came home last, where it has so many places and at most `most` buffers.
+    pub(crate) fn take_whole(&mut self, most: usize, places: usize) -> Option<BufParcel<'r>>
         ensures same { self.new ≡ record self.old { slots = self.new.slots } }
         ensures value { MatchOption result (self.new ≡ self.old)
-            (λ a. IsFitting most places a × All (IsReady self.old.owner self.old.class) a.items
-            × IsPermutation self.old.slots (map Kept a.items ++ self.new.slots)) }
+            (λ p. IsFitting most places p × All (IsReady self.old.owner self.old.class) p.items
+            × IsPermutation self.old.slots (map Kept p.items ++ self.new.slots)) }
     {
         self.whole.take_fitting(most, places)
     }
 
-    /// Makes room for arrays where one found no place and none is there: twice as much as before, from 16
+    /// Makes room for parcels where one found no place and none is there: twice as much as before, from 16
     /// to 1,024. Where memory is refused, all stays as it is.
     pub(crate) fn make_room(&mut self, alloc: Global)
         ensures { self.new ≡ self.old }
@@ -285,11 +285,11 @@ fn make_places(list: &mut Stack<'_>, alloc: Global, claimed: u32)
     }
 }
 
-// Takes the array that came last apart: gives out its last buffer, and puts the others into the list.
+// Takes the parcel that came last apart: gives out its last buffer, and puts the others into the list.
 #[cold]
 #[inline(never)]
 fn take_apart<'r>(
-    whole: &mut Arrays<'r>,
+    whole: &mut Parcels<'r>,
     list: &mut Stack<'r>,
     spares: &mut Spares<'r>,
 ) -> Option<Buf<'r>>
@@ -297,7 +297,7 @@ fn take_apart<'r>(
         (λ b. (rest : List Buffer) × (whole.old ≡ whole.new ++ (rest ++ b ∷ []))
         × IsPermutation (list.old ++ rest) list.new) }
 {
-    let mut array = whole.take()?;
+    let mut array = whole.take()?.into_buffers();
     let buf = array.take_last();
     store_all(list, &mut array);
     spares.keep(array);

@@ -1,12 +1,10 @@
 //! All slots at home of one owner.
-ghost use Rattle.std.specs.Prelude.{◌≡◌, ◌≢◌, ◌<◌, ◌↔◌, [], ◌∷◌, ◌++◌, IsTrue, IsPermutation, MatchBool, MatchOption, MatchResult, OnOk};
+ghost use Rattle.std.specs.Prelude.{◌≡◌, ◌≢◌, ◌<◌, ◌↔◌, [], ◌∷◌, ◌++◌, IsTrue, IsPermutation, MatchOption, MatchResult, OnOk};
 ghost use Rattle.std.specs.Prelude.{OnErr, All, length, map};
 ghost use Rattle.region_cut.specs.Classes.{slots_of};
 ghost use Rattle.slot_chain.specs.Buffer.{Buffer, ended_of, owner_limit};
 ghost use Rattle.slot_chain.specs.Counts.{capped};
-ghost use Rattle.slot_chain.specs.Filling.{emptied};
-ghost use Rattle.slot_chain.specs.Parcels.{IsPackedOf};
-ghost use Rattle.pool_desk.specs.Handling.{EmptiesOwn};
+ghost use Rattle.slot_chain.specs.Parcels.{EmptiesSome};
 ghost use Rattle.pool_desk.specs.Homes.{Draws, GivesOne, IsOwn, IsReady, comes_home, kept_in, slot_at, unused_from};
 ghost use Rattle.pool_desk.specs.Spares.{IsFitting};
 ghost use Rattle.pool_desk.specs.Homes.AtHome.{Kept};
@@ -19,7 +17,7 @@ use crate::home::Placing;
 use crate::spares::Spares;
 use region_cut::endings::Endings;
 use region_cut::{Class, Part, Slot};
-use slot_chain::{Buf, NoMemory};
+use slot_chain::{Buf, BufParcel, NoMemory};
 use std::alloc::Global;
 use std::marker::Model;
 
@@ -139,62 +137,62 @@ impl<'r> Homes<'r> {
         array
     }
 
-    /// Takes the buffers of an array home as they lie, each emptied, where all are own, of one class, and
-    /// not passed on, and where there is a place for it. Else it hands the array back: some of the own ones
-    /// may be emptied then.
-    pub(crate) fn keep_whole(&mut self, array: Vec<Buf<'r>>) -> Option<Vec<Buf<'r>>>
+    /// Takes the buffers of an own parcel home as they lie, each emptied, where all are of one class and
+    /// there is a place for it. Else it hands the parcel back: some of its buffers may be emptied then.
+    pub(crate) fn keep_whole(&mut self, parcel: BufParcel<'r>) -> Option<BufParcel<'r>>
+        requires { parcel.owner ≡ self.old.owner }
         ensures same { self.new ≡ record self.old { slots = self.new.slots } }
         ensures value { MatchOption result
-            (All (λ (b : Buffer). b.owner ≡ self.old.owner) array.entry.items
-            × IsPermutation (map comes_home array.entry.items ++ self.old.slots) self.new.slots)
-            (λ a. EmptiesOwn self.old.owner array.entry.items a.items × (self.new ≡ self.old)) }
+            (IsPermutation (map comes_home parcel.entry.items ++ self.old.slots) self.new.slots)
+            (λ p. EmptiesSome parcel.entry p × (self.new ≡ self.old)) }
     {
-        let mut array = array;
-        let Some(first) = array.first() else {
-            return Some(array);
+        let mut parcel = parcel;
+        let _packed = parcel.owner();
+        let Some(first) = parcel.buffers().first() else {
+            return Some(parcel);
         };
         let class = first.class();
-        if !self.has_room(class) || !empty_alike(&mut array, self.owner, class) {
-            return Some(array);
+        if !self.has_room(class) || !parcel.empty_alike(class) {
+            return Some(parcel);
         }
-        self.keep_ready(array, class);
+        self.keep_ready(parcel, class);
         None
     }
 
-    // Whether there is a place for an array of the class.
+    // Whether there is a place for a parcel of the class.
     fn has_room(&mut self, class: Class) -> bool
         ensures { self.new ≡ self.old }
     {
         self.by_class[class.number() as usize].has_room()
     }
 
-    // Takes own buffers of the class home as they lie in an array.
-    fn keep_ready(&mut self, array: Vec<Buf<'r>>, class: Class)
-        requires some { array.items ≢ [] }
-        requires each { All (IsReady self.old.owner class) array.items }
+    // Takes own buffers of the class home as they lie in a parcel.
+    fn keep_ready(&mut self, parcel: BufParcel<'r>, class: Class)
+        requires some { parcel.items ≢ [] }
+        requires each { All (IsReady self.old.owner class) parcel.items }
         ensures same { self.new ≡ record self.old { slots = self.new.slots } }
-        ensures slots { IsPermutation (map Kept array.entry.items ++ self.old.slots) self.new.slots }
+        ensures slots { IsPermutation (map Kept parcel.entry.items ++ self.old.slots) self.new.slots }
     {
-        self.by_class[class.number() as usize].keep_whole(array);
+        self.by_class[class.number() as usize].keep_whole(parcel);
     }
 
-    /// Takes out the array of the class that came home last, where it has so many places and names at most
-    /// `most` buffers.
+    /// Takes out the parcel of the class that came home last, where it has so many places and at most `most`
+    /// buffers.
     pub(crate) fn take_whole(
         &mut self,
         class: Class,
         most: usize,
         places: usize,
-    ) -> Option<Vec<Buf<'r>>>
+    ) -> Option<BufParcel<'r>>
         ensures same { self.new ≡ record self.old { slots = self.new.slots } }
         ensures value { MatchOption result (self.new ≡ self.old)
-            (λ a. IsFitting most places a × All (IsReady self.old.owner class) a.items
-            × IsPermutation self.old.slots (map Kept a.items ++ self.new.slots)) }
+            (λ p. IsFitting most places p × All (IsReady self.old.owner class) p.items
+            × IsPermutation self.old.slots (map Kept p.items ++ self.new.slots)) }
     {
         self.by_class[class.number() as usize].take_whole(most, places)
     }
 
-    /// Makes room for arrays of the class, where one found no place.
+    /// Makes room for parcels of the class, where one found no place.
     pub(crate) fn make_room(&mut self, alloc: Global, class: Class)
         ensures { self.new ≡ self.old }
     {
@@ -231,39 +229,4 @@ impl<'r> Homes<'r> {
         let Homes { owner: _, by_class } = self;
         end_all(by_class, endings);
     }
-}
-
-// Empties the buffers of an array, as long as each is of this owner and class and was not passed on. Says whether all
-// are.
-fn empty_alike(array: &mut Vec<Buf<'_>>, owner: u16, class: Class) -> bool
-    ensures { MatchBool result
-        (All (IsPackedOf owner class) array.old.items × (array.new.items ≡ map emptied array.old.items))
-        (EmptiesOwn owner array.old.items array.new.items) }
-{
-    for buf in array.iter_mut() {
-        if !empty_if_alike(buf, owner, class) {
-            return false;
-        }
-    }
-    true
-}
-
-// Empties a buffer, where it is of this owner and class and was not passed on. Says whether it is.
-#[inline]
-fn empty_if_alike(buf: &mut Buf<'_>, owner: u16, class: Class) -> bool
-    ensures { MatchBool result
-        (IsPackedOf owner class buf.old × (buf.new ≡ emptied buf.old))
-        (buf.new ≡ buf.old) }
-{
-    if buf.owner() != owner || buf.class() != class {
-        return false;
-    }
-    if buf.is_reset() {
-        return true;
-    }
-    if buf.forwards() != 0 {
-        return false;
-    }
-    buf.clear();
-    true
 }

@@ -7,7 +7,6 @@ use Rattle.std.proofs.lemmas.Bool.Decides.{nat_tests}
 use Rattle.std.proofs.lemmas.List.{get_or_past}
 use Rattle.std.proofs.lemmas.List.Folds.{list_all_at}
 use Rattle.region_cut.specs.Classes.{class_sizes, size_of}
-use Rattle.slot_chain.specs.Parcels.{IsPacked, IsPackedOf}
 use Rattle.std.proofs.lemmas.List.{reverse-append, append_assoc}
 use Rattle.std.proofs.lemmas.List.Sums.{sum_by_push, sum_by-cons, sum_by-le}
 use Rattle.slot_chain.specs.Buffer.{Buffer}
@@ -21,22 +20,6 @@ reverse_push bs b = reverse-append bs (b ∷ [])
 
 pub append_push : (xs bs : List Buffer) (b : Buffer) → (xs ++ b ∷ []) ++ bs ≡ xs ++ b ∷ bs
 append_push xs bs b = append_assoc xs (b ∷ []) bs
-
-mul_more : (n k : ℕ) → suc n * k ≡ k + n * k
-mul_more n k = omega arith
-
--- the sizes of buffers of one class
-pub sizes_alike : (owner class : ℕ) (bs : List Buffer) → All (IsPackedOf owner class) bs → length bs * size_of class ≡ sizes bs
-sizes_alike owner class [] h = omega arith
-sizes_alike owner class (b ∷ bs) h =
-    let one : size_of b.class ≡ size_of class = ap size_of (h 0 b (omega arith)).1 in
-    let rest = sizes_alike owner class bs (λ k d l. h (suc k) d (omega (arith, l))) in
-    let split = sum_by-cons buffer_size b bs in
-    let more : suc (length bs) * size_of class ≡ size_of class + length bs * size_of class = mul_more (length bs) (size_of class) in
-    more ∙ (ap (λ n. n + length bs * size_of class) (sym one) ∙ (ap (λ n. size_of b.class + n) rest ∙ sym split))
-
-pub packed_alike : (owner class : ℕ) (bs : List Buffer) → All (IsPackedOf owner class) bs → All (IsPacked owner) bs
-packed_alike owner class bs h = λ k d l. (h k d l).0
 
 small : (k : ℕ) → k < 20 → nat_le (size_of k) 1024 ≡ true
 small k h = true_from_ne_false (nat_le (size_of k) 1024) (λ (no : nat_le (size_of k) 1024 ≡ false).

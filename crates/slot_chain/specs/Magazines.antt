@@ -3,6 +3,7 @@ use Rattle.std.specs.Prelude.{◌≡◌, ◌≢◌, ◌<◌, All, List, [], Opti
 use Rattle.std.specs.List.{flat_map}
 use Rattle.std.specs.declared.alloc.Global.{Global}
 use Rattle.slot_chain.specs.Buffer.{Buffer}
+use Rattle.slot_chain.specs.Parcels.{ParcelState}
 use Rattle.slot_chain.specs.declared.portion.Portion.{Portion}
 use Rattle.slot_chain.specs.declared.portion.Portion.TheVariants.{Linked, Array, Whole}
 
@@ -15,13 +16,13 @@ named_in (Some array) = array.items
 abbrev pub items_of : Portion → List Buffer
 items_of (Linked chain) = chain
 items_of (Array array) = array.items
-items_of (Whole array) = array.items
+items_of (Whole parcel) = parcel.items
 
--- the array of a portion, where it has one
-abbrev pub array_of : Portion → Option (Vec Buffer Global)
-array_of (Linked chain) = None
-array_of (Array array) = Some array
-array_of (Whole array) = Some array
+-- those that an array of the portion names
+abbrev pub named_by : Portion → List Buffer
+named_by (Linked chain) = []
+named_by (Array array) = array.items
+named_by (Whole parcel) = parcel.items
 
 -- there is an array, and a place in it
 abbrev pub HasPlace : Option (Vec Buffer Global) → Type 0
@@ -32,15 +33,15 @@ HasPlace (Some array) = vec_len array < vec_capacity array
 abbrev pub IsFilled : Option (Vec Buffer Global) → List Buffer → Type 0
 IsFilled array linked = HasPlace array → linked ≡ []
 
--- the arrays that came as a whole, none where there is no room for any
-abbrev pub arrays_in : Option (Box (Vec (Vec Buffer Global) Global) Global) → List (Vec Buffer Global)
-arrays_in None = []
-arrays_in (Some arrays) = arrays.value.items
+-- the parcels that came as a whole, none where there is no room for any
+abbrev pub parcels_in : Option (Box (Vec ParcelState Global) Global) → List ParcelState
+parcels_in None = []
+parcels_in (Some parcels) = parcels.value.items
 
--- those that arrays name, one array after the other
-abbrev pub named_in_all : List (Vec Buffer Global) → List Buffer
-named_in_all arrays = flat_map (λ (a : Vec Buffer Global). a.items) arrays
+-- the buffers of parcels, one parcel after the other
+abbrev pub packed_in : List ParcelState → List Buffer
+packed_in parcels = flat_map (λ (p : ParcelState). p.items) parcels
 
--- none of the arrays is empty
-abbrev pub AreFilled : List (Vec Buffer Global) → Type 0
-AreFilled arrays = All (λ (a : Vec Buffer Global). a.items ≢ []) arrays
+-- none of the parcels is empty
+abbrev pub AreFilled : List ParcelState → Type 0
+AreFilled parcels = All (λ (p : ParcelState). p.items ≢ []) parcels

@@ -1,6 +1,7 @@
 -- What a contract sees of a parcel.
-use Rattle.std.specs.Prelude.{◌≡◌, ◌≢◌, ℕ, ◌^◌, ◌<◌, ◌≤◌, ◌⊎◌, List, [], ◌∷◌, ◌++◌, length, Some, slice_get, slice_set}
+use Rattle.std.specs.Prelude.{◌≡◌, ◌≢◌, ℕ, ◌^◌, ◌<◌, ◌≤◌, ◌⊎◌, List, [], ◌∷◌, ◌++◌, length, map, Some, slice_get, slice_set}
 use Rattle.slot_chain.specs.Buffer.{Buffer}
+use Rattle.slot_chain.specs.Filling.{emptied}
 
 -- buffers of one allocator, and for how many there is a place
 pub record ParcelState : Type 0 where
@@ -16,9 +17,9 @@ most_places = 2 ^ 50
 abbrev pub IsPacked : ℕ → Buffer → Type 0
 IsPacked owner b = (b.owner ≡ owner) × (b.forwards ≡ 0)
 
--- the same, and of this class
-abbrev pub IsPackedOf : ℕ → ℕ → Buffer → Type 0
-IsPackedOf owner class b = IsPacked owner b × (b.class ≡ class)
+-- the buffer is of this class
+abbrev pub IsOf : ℕ → Buffer → Type 0
+IsOf class b = b.class ≡ class
 
 -- the buffer as it lies in a parcel: it was not passed on, and all else is the same
 abbrev pub unforwarded : Buffer → Buffer
@@ -33,6 +34,10 @@ Packs old b new =
 -- why a buffer doesn't come into it: it is another allocator's, or there is no place
 abbrev pub KeepsOut : ParcelState → Buffer → Type 0
 KeepsOut p b = (b.owner ≢ p.owner) ⊎ (p.places ≤ length p.items)
+
+-- nothing is filled any more of some of its buffers, and all else is as before
+abbrev pub EmptiesSome : ParcelState → ParcelState → Type 0
+EmptiesSome old new = (new ≡ record old { items = new.items }) × (map emptied new.items ≡ map emptied old.items)
 
 -- the buffer at place i became another, which `edits` tells, and the others are as before
 pub record EditsAt (i : ℕ) (edits : Buffer → Buffer → Type 0) (old new : ParcelState) : Type 0 where

@@ -89,15 +89,6 @@ impl<'r> Buf<'r> {
         }
     }
 
-    /// Whether nothing counts as filled, and the count of [`Buf::forwards`] is 0. One look at the buffer's box.
-    #[inline]
-    pub fn is_reset(&self) -> bool
-        ensures { IsTrue result ↔ ((self.now.filled ≡ 0) × (self.now.forwards ≡ 0)) }
-    {
-        // As the box has them: the count of forwards above, how much is filled below.
-        self.node.forwards as u64 * 4_294_967_296 + self.node.filled as u64 == 0
-    }
-
     /// Nothing counts as filled any more, and the count of [`Buf::forwards`] is 0: how a buffer is freed.
     /// Where both hold already, the buffer's box is not written to.
     #[inline]

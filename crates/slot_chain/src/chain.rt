@@ -4,13 +4,14 @@ ghost use Rattle.std.specs.Prelude.{MatchOption, MatchBool, OnOk, OnErr};
 ghost use Rattle.slot_chain.specs.Buffer.{Buffer, ended_of};
 ghost use Rattle.slot_chain.specs.Chains.{IsListed, buffers_from, buffers_of, is_list};
 ghost use Rattle.slot_chain.specs.Counts.{capped, sizes};
-ghost use Rattle.slot_chain.specs.Magazines.{AreFilled, named_in_all};
+ghost use Rattle.slot_chain.specs.Magazines.{AreFilled, packed_in};
 ghost use Rattle.slot_chain.specs.Slots.{AddsSlots, slot_of};
 
 use crate::buf::Buf;
 use crate::error::NoMemory;
 use crate::link::Link;
 use crate::node::Node;
+use crate::parcel::BufParcel;
 use crate::walk::{Walk, add_slots, bytes_in};
 use region_cut::Slot;
 use region_cut::endings::Endings;
@@ -207,11 +208,11 @@ impl<'r> Chain<'r> {
     /// whole.
     pub(crate) fn walk_behind<'a>(
         &'a self,
-        whole: &'a [Vec<Buf<'r>>],
+        whole: &'a [BufParcel<'r>],
         named: &'a [Buf<'r>],
     ) -> Walk<'a, 'r>
         requires { AreFilled whole.now }
-        ensures { result ≡ (named_in_all whole.now ++ named.now) ++ self.now }
+        ensures { result ≡ (packed_in whole.now ++ named.now) ++ self.now }
     {
         Walk::from(whole, named, &self.top)
     }

@@ -2,8 +2,8 @@
 ghost use Rattle.std.specs.Prelude.{◌≡◌, []};
 ghost use Rattle.slot_chain.specs.Magazines.{named_in};
 
-use crate::arrays::Arrays;
 use crate::buf::Buf;
+use crate::parcels::Parcels;
 use std::fmt;
 use std::marker::Model;
 
@@ -14,7 +14,7 @@ use std::marker::Model;
 /// empty ones with the depot of Bonwick and Adams (USENIX 2001). So the C library needn't take memory back
 /// from one thread and give it out to another. Contracts see nothing of it.
 pub struct EmptyMagazine<'r> {
-    pub(crate) whole: Arrays<'r>,
+    pub(crate) whole: Parcels<'r>,
     pub(crate) array: Option<Vec<Buf<'r>>>,
 }
 
@@ -50,13 +50,13 @@ impl<'r> EmptyMagazine<'r> {
     /// One without memory. It takes none.
     pub fn new() -> EmptyMagazine<'r> {
         EmptyMagazine {
-            whole: Arrays::new(),
+            whole: Parcels::new(),
             array: None,
         }
     }
 
-    /// The room for whole arrays, and the array of what is put one by one.
-    pub(crate) fn into_parts(self) -> (Arrays<'r>, Option<Vec<Buf<'r>>>)
+    /// The room for parcels, and the array of what is put one by one.
+    pub(crate) fn into_parts(self) -> (Parcels<'r>, Option<Vec<Buf<'r>>>)
         ensures whole { result.0 ≡ [] }
         ensures array { named_in result.1 ≡ [] }
     {

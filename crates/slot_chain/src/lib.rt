@@ -12,7 +12,6 @@
 #![tactic(auto)]
 
 mod array;
-mod arrays;
 mod below;
 mod buf;
 mod chain;
@@ -25,6 +24,7 @@ mod link;
 mod magazine;
 mod node;
 mod parcel;
+mod parcels;
 mod pointers;
 mod portion;
 mod room;
@@ -32,7 +32,6 @@ mod spot;
 mod stack;
 mod walk;
 
-pub use arrays::Arrays;
 pub use buf::Buf;
 pub use chain::Chain;
 pub use empty::EmptyMagazine;
@@ -40,6 +39,7 @@ pub use error::{Full, NoMemory};
 pub use into_iter::IntoIter;
 pub use magazine::Magazine;
 pub use parcel::BufParcel;
+pub use parcels::Parcels;
 pub use portion::Portion;
 pub use room::Room;
 pub use stack::Stack;

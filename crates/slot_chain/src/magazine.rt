@@ -7,11 +7,12 @@ ghost use Rattle.slot_chain.specs.Slots.{AddsSlots, slot_of};
 ghost use Rattle.slot_chain.specs.Magazines.{named_in, items_of, HasPlace};
 
 use crate::array::{len_of, names_none, offer, pop_named, slice_of, take_named};
-use crate::arrays::Arrays;
 use crate::buf::Buf;
 use crate::chain::Chain;
 use crate::empty::EmptyMagazine;
 use crate::error::NoMemory;
+use crate::parcel::BufParcel;
+use crate::parcels::Parcels;
 use crate::portion::Portion;
 use crate::walk::{Walk, add_slots, bytes_in};
 use region_cut::Slot;
@@ -20,8 +21,7 @@ use std::alloc::Global;
 use std::marker::Model;
 use std::{fmt, mem};
 
-// For how many buffers an array has places, and for how many whole arrays there is room, at least and
-// at most.
+// For how many buffers an array has places, and for how many parcels there is room, at least and at most.
 const LEAST: u16 = 16;
 
 const MOST: u16 = 4096;
@@ -32,11 +32,11 @@ const WEIGHT: u16 = 16;
 
 const OFTEN: u16 = 24;
 
-// For how many buffers an array is to be made, and for how many whole arrays room: 0 where none is wanted.
+// For how many buffers an array is to be made, and for how many parcels room: 0 where none is wanted.
 #[derive(Clone, Copy)]
 struct Wanted {
     buffers: u16,
-    arrays: u16,
+    parcels: u16,
     // Each list that was longer than its array adds `WEIGHT`, and each other takes 1 away.
     overflows: u16,
 }
@@ -46,14 +46,14 @@ struct Wanted {
 ///
 /// A [`Chain`] writes to the box of each buffer, whose cache line then has to move from core to core.
 /// A magazine (Bonwick and Adams, USENIX 2001) is an array of pointers to the boxes, and writes to
-/// none. What finds no place in the array is linked, as in a chain. Arrays that come as a whole
-/// ([`Magazine::append`]) are kept as they are.
+/// none. What finds no place in the array is linked, as in a chain. Parcels ([`Magazine::append`]) are
+/// kept as they are.
 ///
 /// Only [`Magazine::make_room`] and [`Magazine::list_slots`] take memory; no other call can fail. A
 /// magazine may be dropped, with all its buffers.
 #[must_use]
 pub struct Magazine<'r> {
-    whole: Arrays<'r>,
+    whole: Parcels<'r>,
     // What was put one by one.
     array: Option<Vec<Buf<'r>>>,
     linked: Chain<'r>,
@@ -103,7 +103,7 @@ impl<'r> Magazine<'r> {
     {
         Magazine::wanting(Wanted {
             buffers: 0,
-            arrays: 0,
+            parcels: 0,
             overflows: 0,
         })
     }
@@ -112,7 +112,7 @@ impl<'r> Magazine<'r> {
         ensures { result ≡ [] }
     {
         Magazine {
-            whole: Arrays::new(),
+            whole: Parcels::new(),
             array: None,
             linked: Chain::new(),
             wanted,
@@ -129,17 +129,17 @@ impl<'r> Magazine<'r> {
         }
     }
 
-    /// Puts the buffers of an array to the others. Where there is room for the array it is kept as it
-    /// is, and neither it nor a buffer is looked at; else each buffer is put.
-    pub fn append(&mut self, array: Vec<Buf<'r>>)
-        ensures { IsPermutation (self.old ++ array.entry.items) self.new }
+    /// Puts the buffers of a parcel to the others. Where there is room for the parcel it is kept as it
+    /// is, and no buffer is looked at; else each buffer is put.
+    pub fn append(&mut self, parcel: BufParcel<'r>)
+        ensures { IsPermutation (self.old ++ parcel.entry.items) self.new }
     {
-        if array.is_empty() {
+        if parcel.is_empty() {
             return;
         }
-        if let Some(array) = self.whole.put(array) {
-            self.wanted.arrays = more_than(self.places_for_arrays());
-            self.push_all(array);
+        if let Some(parcel) = self.whole.put(parcel) {
+            self.wanted.parcels = more_than(self.places_for_parcels());
+            self.push_all(parcel.into_buffers());
         }
     }
 
@@ -166,8 +166,8 @@ impl<'r> Magazine<'r> {
         pop_whole(&mut self.whole, &mut self.array)
     }
 
-    /// Takes out the buffers that came last, as they lie: those that are linked, or else those of the last
-    /// array. It is `None` where there is no buffer. Takes constant time.
+    /// Takes out the buffers that came last, as they lie: those that are linked, or else those of the
+    /// array, or else the last parcel. It is `None` where there is no buffer. Takes constant time.
     pub fn pop_portion(&mut self) -> Option<Portion<'r>>
         ensures { MatchOption result ((self.old ≡ []) × (self.new ≡ []))
             (λ p. (items_of p ≢ []) × (self.old ≡ self.new ++ items_of p)) }
@@ -178,8 +178,8 @@ impl<'r> Magazine<'r> {
         if let Some(array) = take_named(&mut self.array) {
             return Some(Portion::Array(array));
         }
-        let array = self.whole.take()?;
-        Some(Portion::Whole(array))
+        let parcel = self.whole.take()?;
+        Some(Portion::Whole(parcel))
     }
 
     /// Puts the array of a [`Portion::Array`] back, once it is emptied, so that [`Magazine::into_empty`]
@@ -212,23 +212,23 @@ impl<'r> Magazine<'r> {
         ensures { self.new ≡ self.old }
     {
         let (whole, array) = empty.into_parts();
-        self.reuse_arrays(whole);
+        self.reuse_parcels(whole);
         if let Some(array) = array {
             self.reuse_array(array);
         }
     }
 
-    // Takes room for whole arrays, where there is less. It is taken where none is wanted too, and goes on
+    // Takes room for parcels, where there is less. It is taken where none is wanted too, and goes on
     // with the next list then: another sender may be the one that wants it.
-    fn reuse_arrays(&mut self, whole: Arrays<'r>)
+    fn reuse_parcels(&mut self, whole: Parcels<'r>)
         requires { whole ≡ [] }
         ensures { self.new ≡ self.old }
     {
         let places = whole.places();
         if places > self.whole.places() && self.whole.is_empty() {
             self.whole = whole;
-            if places >= self.wanted.arrays as usize {
-                self.wanted.arrays = 0;
+            if places >= self.wanted.parcels as usize {
+                self.wanted.parcels = 0;
             }
         }
     }
@@ -253,7 +253,7 @@ impl<'r> Magazine<'r> {
         };
         Wanted {
             buffers,
-            arrays: self.places_for_arrays(),
+            parcels: self.places_for_parcels(),
             overflows,
         }
     }
@@ -268,9 +268,9 @@ impl<'r> Magazine<'r> {
         }
     }
 
-    // For how many whole arrays there should be room in such a list: for none where none found no place.
-    fn places_for_arrays(&self) -> u16 {
-        self.wanted.arrays.max(at_most(self.whole.places()))
+    // For how many parcels there should be room in such a list: for none where none found no place.
+    fn places_for_parcels(&self) -> u16 {
+        self.wanted.parcels.max(at_most(self.whole.places()))
     }
 
     /// Takes out all buffers, with their array. What is put here then is linked, until there is room
@@ -290,7 +290,7 @@ impl<'r> Magazine<'r> {
     pub fn make_room(&mut self, alloc: Global)
         ensures { self.new ≡ self.old }
     {
-        self.make_room_for_arrays(alloc);
+        self.make_room_for_parcels(alloc);
         if self.wanted.buffers == 0 || !self.is_empty() {
             return;
         }
@@ -299,15 +299,15 @@ impl<'r> Magazine<'r> {
         }
     }
 
-    // Makes room for whole arrays, where some is wanted and there is none of them.
-    fn make_room_for_arrays(&mut self, alloc: Global)
+    // Makes room for parcels, where some is wanted and there is none of them.
+    fn make_room_for_parcels(&mut self, alloc: Global)
         ensures { self.new ≡ self.old }
     {
-        if self.wanted.arrays == 0 || !self.whole.is_empty() {
+        if self.wanted.parcels == 0 || !self.whole.is_empty() {
             return;
         }
-        if self.whole.make_room(alloc, self.wanted.arrays as usize) {
-            self.wanted.arrays = 0;
+        if self.whole.make_room(alloc, self.wanted.parcels as usize) {
+            self.wanted.parcels = 0;
         }
     }
 
@@ -393,16 +393,16 @@ fn more_than(places: u16) -> u16 {
     places.saturating_mul(2).max(LEAST).min(MOST)
 }
 
-// Takes the last buffer of the array that came last as a whole, where the other array names none, and
-// puts what is left in its place.
+// Takes the last buffer of the parcel that came last, where the array names none, and puts what is left in
+// its place.
 #[cold]
 #[inline(never)]
-fn pop_whole<'r>(whole: &mut Arrays<'r>, array: &mut Option<Vec<Buf<'r>>>) -> Option<Buf<'r>>
+fn pop_whole<'r>(whole: &mut Parcels<'r>, array: &mut Option<Vec<Buf<'r>>>) -> Option<Buf<'r>>
     requires { named_in array.old ≡ [] }
     ensures { MatchOption result ((whole.old ≡ []) × (whole.new ≡ []) × (named_in array.new ≡ []))
         (λ b. whole.old ≡ (whole.new ++ named_in array.new) ++ b ∷ []) }
 {
-    let mut last = whole.take()?;
+    let mut last = whole.take()?.into_buffers();
     let buf = last.take_last();
     *array = Some(last);
     Some(buf)

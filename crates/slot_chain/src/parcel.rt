@@ -1,12 +1,12 @@
 //! Buffers of one allocator that are handed over and freed as a whole.
 ghost use Rattle.std.specs.Prelude.{◌≡◌, ◌+◌, ◌<◌, ◌≤◌, ◌↔◌, [], ◌∷◌, ◌++◌, length, map, All, IsTrue, MatchOption};
-ghost use Rattle.std.specs.Prelude.{MatchResult, IfOk, IfSome, Some, slice_get};
+ghost use Rattle.std.specs.Prelude.{MatchBool, MatchResult, IfOk, IfSome, Some, slice_get};
 ghost use Rattle.std.specs.Prelude.{vec_capacity};
 ghost use Rattle.region_cut.specs.Classes.{size_of};
 ghost use Rattle.slot_chain.specs.Buffer.{ended_of};
 ghost use Rattle.slot_chain.specs.Counts.{capped, sizes};
-ghost use Rattle.slot_chain.specs.Filling.{holding};
-ghost use Rattle.slot_chain.specs.Parcels.{EditsAt, IsPacked, IsPackedOf, KeepsOut, Packs, most_places};
+ghost use Rattle.slot_chain.specs.Filling.{emptied, holding};
+ghost use Rattle.slot_chain.specs.Parcels.{EditsAt, EmptiesSome, IsOf, IsPacked, KeepsOut, Packs, most_places};
 ghost use Rattle.std.specs.Fn.{FnOnceReturnsAtMut};
 
 use crate::buf::Buf;
@@ -15,7 +15,7 @@ use region_cut::Class;
 use region_cut::endings::Endings;
 use std::alloc::Global;
 use std::marker::Model;
-use std::{fmt, mem};
+use std::fmt;
 
 // For how many buffers a parcel has places at most. No machine has the memory for more pointers. With it the sum of
 // the sizes is less than 2^64, so that it is added up without a check.
@@ -194,18 +194,14 @@ impl<'r> BufParcel<'r> {
         self.buffers[at].set_len(len);
     }
 
-    /// Takes an array in place of its own, where it has no buffer, and hands its own back. The array has as
-    /// many places, and its buffers are all of one class. None of them is looked at. Takes constant time.
-    pub fn exchange(&mut self, class: Class, array: Vec<Buf<'r>>) -> Vec<Buf<'r>>
-        requires none { self.old.items ≡ [] }
-        requires places { vec_capacity array ≡ self.old.places }
-        requires packed { All (IsPackedOf self.old.owner class) array.items }
-        ensures value { self.new ≡ record self.old { items = array.entry.items } }
-        ensures none { result.items ≡ [] }
+    /// Empties the buffers, as long as each is of this class, and says whether all are. A buffer of which
+    /// nothing is filled is not written to. Takes a walk over them.
+    pub fn empty_alike(&mut self, class: Class) -> bool
+        ensures { MatchBool result
+            (All (IsOf class) self.old.items × (self.new ≡ record self.old { items = map emptied self.old.items }))
+            (EmptiesSome self.old self.new) }
     {
-        let replaced = mem::replace(&mut self.buffers, array);
-        self.bytes = self.buffers.len() as u64 * class.size() as u64;
-        replaced
+        empty_alike(self.buffers.as_mut_slice(), class)
     }
 
     /// Lets all buffers go: it is then known what each ends as. Takes a walk over them.
@@ -227,6 +223,21 @@ impl<'r> BufParcel<'r> {
         } = self;
         buffers
     }
+}
+
+// Empties buffers, as long as each is of this class. Says whether all are.
+fn empty_alike(buffers: &mut [Buf<'_>], class: Class) -> bool
+    ensures { MatchBool result
+        (All (IsOf class) buffers.old × (buffers.new ≡ map emptied buffers.old))
+        (map emptied buffers.new ≡ map emptied buffers.old) }
+{
+    for buf in buffers.iter_mut() {
+        if buf.class() != class {
+            return false;
+        }
+        buf.clear();
+    }
+    true
 }
 
 /// Lets go the buffers that an array names: it is then known what each ends as.

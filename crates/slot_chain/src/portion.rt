@@ -1,9 +1,10 @@
 //! What comes out of a magazine at once.
 ghost use Rattle.std.specs.Prelude.{◌≡◌};
-ghost use Rattle.slot_chain.specs.Magazines.{array_of};
+ghost use Rattle.slot_chain.specs.Magazines.{named_by, named_in};
 
 use crate::buf::Buf;
 use crate::chain::Chain;
+use crate::parcel::BufParcel;
 use std::fmt;
 
 /// Buffers of a [`Magazine`](crate::Magazine), one behind the other, as they lie in it.
@@ -13,19 +14,19 @@ pub enum Portion<'r> {
     Linked(Chain<'r>),
     /// Those that were put one by one, in the magazine's own array.
     Array(Vec<Buf<'r>>),
-    /// Those of an array that came as a whole.
-    Whole(Vec<Buf<'r>>),
+    /// Those of a parcel that came as a whole: all are of one owner, which it knows.
+    Whole(BufParcel<'r>),
 }
 
 impl<'r> Portion<'r> {
     /// The array, or `None` where the buffers are linked: they are let go then.
     pub fn into_array(self) -> Option<Vec<Buf<'r>>>
-        ensures { result ≡ array_of self.entry }
+        ensures { named_in result ≡ named_by self.entry }
     {
         match self {
             Portion::Linked(_) => None,
             Portion::Array(array) => Some(array),
-            Portion::Whole(array) => Some(array),
+            Portion::Whole(parcel) => Some(parcel.into_buffers()),
         }
     }
 }
@@ -36,7 +37,7 @@ impl fmt::Debug for Portion<'_> {
         match self {
             Portion::Linked(chain) => write!(f, "Linked({} buffers)", chain.len()),
             Portion::Array(array) => write!(f, "Array({} buffers)", array.len()),
-            Portion::Whole(array) => write!(f, "Whole({} buffers)", array.len()),
+            Portion::Whole(parcel) => write!(f, "Whole({} buffers)", parcel.len()),
         }
     }
 }

@@ -4,10 +4,10 @@ ghost use Rattle.slot_chain.specs.Buffer.{Buffer, ended_of};
 ghost use Rattle.slot_chain.specs.Counts.{capped};
 ghost use Rattle.slot_chain.specs.Slots.{AddsSlots, slot_of};
 
-use crate::arrays::Arrays;
 use crate::buf::Buf;
 use crate::chain::Chain;
 use crate::error::NoMemory;
+use crate::parcels::Parcels;
 use crate::pointers::Pointers;
 use crate::walk::add_slots;
 use region_cut::Slot;
@@ -112,20 +112,20 @@ impl<'r> Stack<'r> {
         self.linked.len().saturating_add(self.named.len() as u64)
     }
 
-    /// Adds the slots of its buffers and of those that the arrays name to the end of `slots`, in no order.
+    /// Adds the slots of its buffers and of those of the parcels to the end of `slots`, in no order.
     /// Where memory for that is refused, `slots` is as before. Takes a walk over the buffers.
     pub fn list_slots_with(
         &self,
-        arrays: &Arrays<'r>,
+        parcels: &Parcels<'r>,
         slots: &mut Vec<Slot>,
     ) -> Result<(), NoMemory>
-        ensures ok { OnOk result (AddsSlots (map slot_of (arrays.now ++ self.now)) slots.old.items slots.new.items) }
+        ensures ok { OnOk result (AddsSlots (map slot_of (parcels.now ++ self.now)) slots.old.items slots.new.items) }
         ensures err { OnErr result (slots.new.items ≡ slots.old.items) }
     {
         let start = slots.len();
         let walk = self
             .linked
-            .walk_behind(arrays.as_slice(), Default::default());
+            .walk_behind(parcels.as_slice(), Default::default());
         add_slots(walk, slots)?;
         if let Err(NoMemory) = self.named.list_slots(slots) {
             slots.truncate(start);

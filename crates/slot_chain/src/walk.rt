@@ -2,13 +2,14 @@
 ghost use Rattle.std.specs.Prelude.{◌≡◌, [], ◌∷◌, ◌++◌, map, MatchOption, OnOk, OnErr};
 ghost use Rattle.slot_chain.specs.Chains.{buffer_of, buffers_of, is_list};
 ghost use Rattle.slot_chain.specs.Counts.{capped, sizes};
-ghost use Rattle.slot_chain.specs.Magazines.{AreFilled, named_in_all};
+ghost use Rattle.slot_chain.specs.Magazines.{AreFilled, packed_in};
 ghost use Rattle.slot_chain.specs.Slots.{AddsSlots, slot_of};
 
 use crate::buf::Buf;
 use crate::error::NoMemory;
 use crate::link::Link;
 use crate::node::Node;
+use crate::parcel::BufParcel;
 use region_cut::{Class, Slot};
 use std::fmt;
 use std::marker::Model;
@@ -28,8 +29,8 @@ pub struct Tag {
 /// the buffers that are still to be shown; the next one is the last of them.
 #[derive(Drop)]
 pub struct Walk<'a, 'r> {
-    // arrays that came as a whole: shown last
-    whole: &'a [Vec<Buf<'r>>],
+    // parcels that came as a whole: shown last
+    whole: &'a [BufParcel<'r>],
     // what an array names: shown before them
     named: &'a [Buf<'r>],
     // the top of the chain that is still to be shown
@@ -43,24 +44,24 @@ impl<'a, 'r> Model for Walk<'a, 'r> {
     ghost Value = { List Buffer };
 
     ghost use Rattle.slot_chain.specs.Chains.{buffers_of, is_list};
-    ghost use Rattle.slot_chain.specs.Magazines.{named_in_all, AreFilled};
+    ghost use Rattle.slot_chain.specs.Magazines.{packed_in, AreFilled};
 
-    ghost view = { λ w. (named_in_all w.whole.now ++ w.named.now) ++ buffers_of w.at.now };
+    ghost view = { λ w. (packed_in w.whole.now ++ w.named.now) ++ buffers_of w.at.now };
 
     ghost invariant = { λ w. AreFilled w.whole.now × is_list w.at.now };
 }
 
 impl<'a, 'r> Walk<'a, 'r> {
-    /// A walk over the list of that top, then over what an array names, and then over what those
-    /// arrays name that came as a whole.
+    /// A walk over the list of that top, then over what an array names, and then over those parcels that
+    /// came as a whole.
     pub(crate) fn from(
-        whole: &'a [Vec<Buf<'r>>],
+        whole: &'a [BufParcel<'r>],
         named: &'a [Buf<'r>],
         at: &'a Link<Node<'r>>,
     ) -> Walk<'a, 'r>
         requires filled { AreFilled whole.now }
         requires listed { is_list at.now }
-        ensures { result ≡ (named_in_all whole.now ++ named.now) ++ buffers_of at.now }
+        ensures { result ≡ (packed_in whole.now ++ named.now) ++ buffers_of at.now }
     {
         Walk { whole, named, at }
     }
@@ -88,33 +89,33 @@ impl<'a, 'r> Iterator for Walk<'a, 'r> {
     }
 }
 
-// The last buffer that an array names, or else the arrays that came as a whole, and what is left of them.
+// The last buffer that an array names, or else that of the parcels that came as a whole, and what is left of them.
 fn split_named<'a, 'r>(
-    whole: &'a [Vec<Buf<'r>>],
+    whole: &'a [BufParcel<'r>],
     named: &'a [Buf<'r>],
-) -> Option<(&'a Buf<'r>, &'a [Buf<'r>], &'a [Vec<Buf<'r>>])>
+) -> Option<(&'a Buf<'r>, &'a [Buf<'r>], &'a [BufParcel<'r>])>
     requires { AreFilled whole.now }
-    ensures { MatchOption result (named_in_all whole.now ++ named.now ≡ [])
+    ensures { MatchOption result (packed_in whole.now ++ named.now ≡ [])
         (λ s. AreFilled s.2.now
-        × (named_in_all whole.now ++ named.now ≡ (named_in_all s.2.now ++ s.1.now) ++ s.0.now ∷ [])) }
+        × (packed_in whole.now ++ named.now ≡ (packed_in s.2.now ++ s.1.now) ++ s.0.now ∷ [])) }
 {
     match named.split_last() {
         Some((last, rest)) => Some((last, rest, whole)),
-        None => split_arrays(whole),
+        None => split_parcels(whole),
     }
 }
 
-// The last buffer that the arrays name, and what is left of them.
+// The last buffer of the parcels, and what is left of them.
 #[tactic(auto, using(crate::proofs::Filled::last_filled))]
-fn split_arrays<'a, 'r>(
-    whole: &'a [Vec<Buf<'r>>],
-) -> Option<(&'a Buf<'r>, &'a [Buf<'r>], &'a [Vec<Buf<'r>>])>
+fn split_parcels<'a, 'r>(
+    whole: &'a [BufParcel<'r>],
+) -> Option<(&'a Buf<'r>, &'a [Buf<'r>], &'a [BufParcel<'r>])>
     requires { AreFilled whole.now }
-    ensures { MatchOption result (named_in_all whole.now ≡ [])
-        (λ s. AreFilled s.2.now × (named_in_all whole.now ≡ (named_in_all s.2.now ++ s.1.now) ++ s.0.now ∷ [])) }
+    ensures { MatchOption result (packed_in whole.now ≡ [])
+        (λ s. AreFilled s.2.now × (packed_in whole.now ≡ (packed_in s.2.now ++ s.1.now) ++ s.0.now ∷ [])) }
 {
-    let (array, rest) = whole.split_last()?;
-    let (last, named) = array.as_slice().split_last()?;
+    let (parcel, rest) = whole.split_last()?;
+    let (last, named) = parcel.buffers().split_last()?;
     Some((last, named, rest))
 }
 

@@ -169,15 +169,15 @@ fn a_stack_takes_none(rt: HostRuntime) {
     }
 }
 
-// Two arrays, of which a list without room keeps none: their buffers are linked.
-fn append_arrays<'r>(
+// Two parcels, of which a list without room keeps none: their buffers are linked.
+fn append_parcels<'r>(
     rt: &impl Abort,
     first: BufParcel<'r>,
     second: BufParcel<'r>,
     mut list: Magazine<'r>,
 ) {
-    list.append(first.into_buffers());
-    list.append(second.into_buffers());
+    list.append(first);
+    list.append(second);
     same(rt, "the slots of both", list.len(), 8);
 }
 
@@ -197,13 +197,13 @@ fn append(rt: &impl Abort, alloc: Global) -> Result<(), NoMemory> {
     let first = packed(alloc, &mut chain)?;
     let second = packed(alloc, &mut chain)?;
     set(alloc, Mark::TakesNone);
-    append_arrays(rt, first, second, Magazine::new());
+    append_parcels(rt, first, second, Magazine::new());
     set(alloc, Mark::MayTake);
     Ok(())
 }
 
 #[test]
-fn appended_arrays_take_none(rt: HostRuntime) {
+fn appended_parcels_take_none(rt: HostRuntime) {
     if append(&rt, rt.alloc()).is_err() {
         assert!(rt; append(&rt, rt.alloc()).is_ok());
     }
@@ -234,7 +234,7 @@ fn emptied<'r>(
             None => return Ok(list.into_empty()),
             Some(Portion::Array(array)) => list.put_back(unloaded(array, chain)),
             Some(Portion::Linked(_chain)) => return Err(NoMemory),
-            Some(Portion::Whole(_array)) => assert!(rt; false, "no array came as a whole"),
+            Some(Portion::Whole(_parcel)) => assert!(rt; false, "no parcel came as a whole"),
         }
     }
     assert!(rt; false, "one array");

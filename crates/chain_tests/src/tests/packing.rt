@@ -257,3 +257,91 @@ fn a_parcel_is_printed_without_its_buffers(rt: HostRuntime) {
         assert!(rt; print(&rt, rt.alloc()).is_ok());
     }
 }
+
+// A buffer of the chain goes in, of which so many bytes are filled.
+fn put_filled<'r>(
+    rt: &impl Abort,
+    parcel: &mut BufParcel<'r>,
+    chain: &mut Chain<'r>,
+    filled: usize,
+) {
+    let mut buf = chain.pop().expect(rt, "a buffer");
+    assert!(rt; filled <= buf.capacity());
+    buf.set_len(filled);
+    assert!(rt; parcel.push(buf).is_ok());
+}
+
+// So many bytes of its buffers are filled, from the first to the last.
+fn has_filled(rt: &impl Abort, parcel: &BufParcel<'_>, want: &[usize]) {
+    let mut want = want.iter();
+    for buf in parcel.buffers() {
+        assert_eq!(rt; want.next().copied(), Some(buf.len()));
+    }
+    assert!(rt; want.next().is_none());
+}
+
+// An empty parcel is alike in each class, and stays empty.
+fn empty_no_buffer(rt: &impl Abort, alloc: Global) -> Result<(), NoMemory> {
+    let of_512 = Class::new(15).expect(rt, "the class of 512 bytes");
+    let mut parcel = BufParcel::new(alloc, 9, 2)?;
+    assert!(rt; parcel.empty_alike(of_512) && parcel.empty_alike(Class::FIRST));
+    assert!(rt; parcel.is_empty());
+    Ok(())
+}
+
+#[test]
+fn an_empty_parcel_is_alike_in_each_class(rt: HostRuntime) {
+    if empty_no_buffer(&rt, rt.alloc()).is_err() {
+        assert!(rt; empty_no_buffer(&rt, rt.alloc()).is_ok());
+    }
+}
+
+// Some are filled, one of them wholly: then none is. Those of one class are not alike in another.
+fn empty_all(rt: &impl Abort, alloc: Global) -> Result<(), NoMemory> {
+    let of_512 = Class::new(15).expect(rt, "the class of 512 bytes");
+    let of_16 = class_for(16).expect(rt, "a class of 16 bytes");
+    let mut region = Vec::from_elem(alloc, 0u8, 2 * CHUNK)?;
+    let (mut large, _small) = two_sizes(rt, alloc, &mut region)?;
+    let mut parcel = BufParcel::new(alloc, 9, 3)?;
+    put_filled(rt, &mut parcel, &mut large, 512);
+    put_filled(rt, &mut parcel, &mut large, 0);
+    put_filled(rt, &mut parcel, &mut large, 1);
+    assert!(rt; !parcel.empty_alike(of_16));
+    has_filled(rt, &parcel, &[512, 0, 1]);
+    assert!(rt; parcel.empty_alike(of_512));
+    has_filled(rt, &parcel, &[0, 0, 0]);
+    same(rt, "the bytes of three", parcel.bytes_total(), 1536);
+    check_buffers(rt, parcel.buffers(), &[7, 6, 5]);
+    Ok(())
+}
+
+#[test]
+fn all_are_emptied_where_all_are_of_the_class(rt: HostRuntime) {
+    if empty_all(&rt, rt.alloc()).is_err() {
+        assert!(rt; empty_all(&rt, rt.alloc()).is_ok());
+    }
+}
+
+// The last is of another class, and then one behind it is of the class again: those before it are emptied.
+fn empty_some(rt: &impl Abort, alloc: Global) -> Result<(), NoMemory> {
+    let of_512 = Class::new(15).expect(rt, "the class of 512 bytes");
+    let mut region = Vec::from_elem(alloc, 0u8, 2 * CHUNK)?;
+    let (mut large, mut small) = two_sizes(rt, alloc, &mut region)?;
+    let mut parcel = BufParcel::new(alloc, 9, 4)?;
+    put_filled(rt, &mut parcel, &mut large, 512);
+    put_filled(rt, &mut parcel, &mut large, 3);
+    put_filled(rt, &mut parcel, &mut small, 16);
+    assert!(rt; !parcel.empty_alike(of_512));
+    has_filled(rt, &parcel, &[0, 0, 16]);
+    put_filled(rt, &mut parcel, &mut large, 5);
+    assert!(rt; !parcel.empty_alike(of_512));
+    has_filled(rt, &parcel, &[0, 0, 16, 5]);
+    Ok(())
+}
+
+#[test]
+fn those_before_one_of_another_class_are_emptied(rt: HostRuntime) {
+    if empty_some(&rt, rt.alloc()).is_err() {
+        assert!(rt; empty_some(&rt, rt.alloc()).is_ok());
+    }
+}

@@ -13,12 +13,11 @@ invariant_of-self c =
     let here : digit s.digits c.args.parcel.owner s.round ≡ c.digit-k.result = rw (first, ← c.owner.ensures.value) (sym c.digit-k.ensures.value) in
     let h = c.append_at.ensures in
     rw h.2
-    (IsRow-append _ _ _ s.magazines.items _ c.args.parcel.items h.0 room c.self.invariant (all_digit _ _ _ _ c.args.parcel.items c.owner.ensures.packed here) asked
-    (rw c.into_buffers.ensures.items at h.1))
+    (IsRow-append _ _ _ s.magazines.items _ c.args.parcel.items h.0 room c.self.invariant (all_digit _ _ _ _ c.args.parcel.items c.owner.ensures.packed here) asked h.1)
 
 pub returns-clause-items : goal.returns-clause-items
 returns-clause-items c =
     let places = c.self.invariant.by_digit.places in
     let room : c.digit-k.result < length c.self.inside.magazines.items = omega (arith, places, c.digit-k.ensures.high) in
     let h = c.append_at.ensures in
-    rw (h.2, ← c.self.view_is) (append_moves c.self.inside.magazines.items _ c.args.parcel.items h.0 room (rw c.into_buffers.ensures.items at h.1))
+    rw (h.2, ← c.self.view_is) (append_moves c.self.inside.magazines.items _ c.args.parcel.items h.0 room h.1)

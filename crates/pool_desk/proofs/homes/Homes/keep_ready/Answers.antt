@@ -14,9 +14,9 @@ invariant_of-self c =
     let e = c.deref_mut.ensures.value in let within : k < length hs = rw c.self.invariant.count l in
     let one = taken_up hs ds k c.index-deref_mut-number.result e within in
     let n = c.keep_whole.new.self in
-    let come = map {A = Buffer} {B = AtHome} (λ x. Kept x) c.args.array.items in
+    let come = map {A = Buffer} {B = AtHome} (λ x. Kept x) c.args.parcel.items in
     let owner : c.self.inside.owner ≡ c.args.self.now.owner = ap (λ (h : HomesState). h.owner) c.self.view_is in
-    let each : All (IsReady c.self.inside.owner k) c.args.array.items = rw (owner, c.number.ensures.value) c.requires.each in
+    let each : All (IsReady c.self.inside.owner k) c.args.parcel.items = rw (owner, c.number.ensures.value) c.requires.each in
     keep_keeps c.self.inside.owner k hs (put_back hs ds k n) come c.self.invariant l (ready_home _ _ _ each)
     (put_kept hs ds k _ n e within one c.keep_whole.ensures.same) (put_keeps hs ds k _ n come e within one c.keep_whole.ensures.slots)
 
@@ -34,7 +34,7 @@ returns-clause-slots c =
     let e = c.deref_mut.ensures.value in let within : k < length hs = rw c.self.invariant.count l in
     let one = taken_up hs ds k c.index-deref_mut-number.result e within in
     let n = c.keep_whole.new.self in
-    let come = map {A = Buffer} {B = AtHome} (λ x. Kept x) c.args.array.items in
+    let come = map {A = Buffer} {B = AtHome} (λ x. Kept x) c.args.parcel.items in
     rw (← c.self.view_is)
     (keep_slots c.self.inside.owner k hs (put_back hs ds k n) come c.self.invariant l
     (put_kept hs ds k _ n e within one c.keep_whole.ensures.same) (put_keeps hs ds k _ n come e within one c.keep_whole.ensures.slots))
