@@ -48,9 +48,7 @@ pub(crate) fn append_at<'r>(magazines: &mut Magazines<'r>, k: usize, parcel: Buf
     ensures { (list : List Buffer) × IsPermutation (slice_index_or magazines.old.items k [] ++ parcel.entry.items) list
         × (magazines.new.items ≡ slice_set magazines.old.items k list) }
 {
-    let mut magazine = take_at(magazines, k);
-    magazine.append(parcel);
-    set_at(magazines, k, magazine);
+    magazines[k].append(parcel);
 }
 
 /// Takes out the whole magazine at `k`.

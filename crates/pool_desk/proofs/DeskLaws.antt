@@ -1,5 +1,5 @@
 -- What freeing and passing on do to a desk.
-use Rattle.std.proofs.Common.{◌≡◌, ◌≢◌, ℕ, ◌<◌, ◌≤◌, [], ◌∷◌, ◌++◌, sym, ap, ◌∙◌, arith, All, List, map, IsPermutation, Bool, true, false}
+use Rattle.std.proofs.Common.{◌≡◌, ◌≢◌, ℕ, ◌<◌, ◌≤◌, [], ◌∷◌, ◌++◌, sym, ap, ◌∙◌, arith, All, map, IsPermutation, Bool, true, false}
 use Rattle.std.proofs.lemmas.List.Sorted.{IsPermutation-trans, IsPermutation-append_comm}
 use Rattle.slot_chain.specs.Buffer.{Buffer}
 use Rattle.slot_chain.specs.Counts.{sizes}
@@ -18,10 +18,6 @@ use Rattle.pool_desk.specs.Handling.{GoesOn}
 abbrev pub with_cache : DeskState → CacheState → DeskState
 with_cache d c = record { number = c.number; digits = c.digits; limit = c.limit; worker = d.worker; home = d.home; drawn = d.drawn; cached = c.items }
 
--- the desk with other homes
-abbrev pub with_homes : DeskState → HomesState → DeskState
-with_homes d h = record d { home = h.slots; drawn = h.drawn }
-
 -- the desk of a cache and of homes
 abbrev pub desk_of : CacheState → HomesState → ℕ → DeskState
 desk_of c h worker = record {
@@ -33,10 +29,6 @@ desk_of c h worker = record {
   drawn = h.drawn;
   cached = c.items;
 }
-
--- other slots are at home
-pub homes_same : (d : DeskState) (owner : ℕ) (n : HomesState) → n ≡ record { owner = owner; slots = n.slots; drawn = d.drawn } → with_homes d n ≡ record d { home = n.slots }
-homes_same d owner n same = ap (with_homes d) same
 
 -- the cache of a desk
 abbrev pub cache_of : DeskState → CacheState

@@ -2,8 +2,7 @@
 use Rattle.std.proofs.Common.{◌≡◌, ◌≢◌, ℕ, zero, suc, ◌+◌, ◌-◌, List, [], ◌∷◌, ◌++◌, length, refl, sym, ap, ◌∙◌, subst, arith, All, IsPermutation, append_assoc, map, take, drop, ltb, rules, tests}
 use Rattle.std.proofs.lemmas.List.{map-append}
 use Rattle.std.proofs.lemmas.List.Elements.{All-append, All-cons, All-nil, All-contains, All-contains_itself, All-weaker, Contains-append_left, Contains-append_right, Contains-push}
-use Rattle.std.specs.Prelude.{◌≤◌, ◌↔◌, IsTrue, Contains, Option, Some, None, MatchOption, Result, Ok, Err, MatchResult, Vec, vec_capacity}
-use Rattle.std.specs.declared.alloc.Global.{Global}
+use Rattle.std.specs.Prelude.{◌≤◌, ◌↔◌, IsTrue, Contains, Option, Some, None, MatchOption, Result, Ok, Err, MatchResult}
 use Rattle.std.proofs.lemmas.List.Sorted.{IsPermutation-refl, IsPermutation-sym, IsPermutation-trans, IsPermutation-append_left, IsPermutation-append_right, IsPermutation-append_comm, IsPermutation-cons, IsPermutation-map, All-permutation}
 use Rattle.std.specs.Borrow.{GName, MutBor}
 use Rattle.region_cut.specs.declared.slot.Slot.{Slot}
@@ -15,7 +14,8 @@ use Rattle.region_cut.specs.Bumps.{left_of, part_of, HoldsPart, GivesNext}
 use Rattle.region_cut.specs.Classes.{slots_of, size_of}
 use Rattle.slot_chain.specs.Buffer.{Buffer}
 use Rattle.slot_chain.specs.Filling.{emptied}
-use Rattle.slot_chain.specs.Parcels.{IsOf, IsPacked, ParcelState}
+use Rattle.slot_chain.specs.Parcels.{EmptiesSome, IsOf, IsPacked, ParcelState}
+use Rattle.slot_chain.proofs.Emptied.{emptied_all}
 use Rattle.pool_desk.specs.declared.error.DeskError.{DeskError}
 use Rattle.pool_desk.specs.NextSlots.{GivesNextSlot}
 use Rattle.pool_desk.specs.Homes.{HomeState, IsRefused, AtHome, IsAtHome, IsReady, LiesIn, comes_home, unused_from, unused_of, IsUnused, GivesOne, Draws, taken_next}
@@ -217,6 +217,22 @@ ready_owner a owner class (b ∷ bs) some h g = sym (h 0 b (omega arith)).0 ∙ 
 pub emptied_home : (bs : List Buffer) → map {A = Buffer} {B = AtHome} (λ x. Kept x) (map emptied bs) ≡ map comes_home bs
 emptied_home [] = refl
 emptied_home (b ∷ bs) = ap (λ hs. comes_home b ∷ hs) (emptied_home bs)
+
+-- of those that may be lent as they lie nothing is to be emptied
+pub ready_comes : (owner class : ℕ) (bs : List Buffer) → All (IsReady owner class) bs → map {A = Buffer} {B = AtHome} (λ x. Kept x) bs ≡ map comes_home bs
+ready_comes owner class [] h = refl
+ready_comes owner class (b ∷ bs) h =
+    let same : b ≡ emptied b = ap (λ n. record b { filled = n }) (h 0 b (omega arith)).1 in
+    ap (λ (x : Buffer). Kept x ∷ map {A = Buffer} {B = AtHome} (λ y. Kept y) bs) same
+    ∙ ap (λ hs. comes_home b ∷ hs) (ready_comes owner class bs (λ k d l. h (suc k) d (omega (arith, l))))
+
+-- a parcel whose buffers were all emptied
+pub emptied_whole : (old new : ParcelState) → new ≡ record old { items = map emptied old.items } → EmptiesSome old new
+emptied_whole old new e = rw e (refl, emptied_all old.items (map emptied old.items) refl)
+
+pub emptied_some : (bs : List Buffer) → bs ≢ [] → map emptied bs ≢ []
+emptied_some [] some e = some refl
+emptied_some (b ∷ bs) some e = absurd (omega (arith, ap (λ (l : List Buffer). length l) e))
 
 -- they come home as before, whatever was filled
 pub home_alike : (old new : List Buffer) → map emptied new ≡ map emptied old → map comes_home new ≡ map comes_home old

@@ -224,9 +224,13 @@ impl<'r> Desk<'r> {
         ensures same { self.new ≡ record self.old { home = self.new.home } }
         ensures home { IsPermutation (map comes_home parcel.entry.items ++ self.old.home) self.new.home }
     {
-        if let Some(parcel) = self.homes.keep_whole(parcel) {
-            let emptied = self.homes.keep_all(parcel.into_buffers(), placing);
-            self.spares.keep(emptied);
+        let mut parcel = parcel;
+        match self.homes.class_of_whole(&mut parcel) {
+            Some(class) => self.homes.keep_whole(parcel, class),
+            None => {
+                let emptied = self.homes.keep_all(parcel.into_buffers(), placing);
+                self.spares.keep(emptied);
+            }
         }
     }
 

@@ -1,5 +1,5 @@
 //! All slots at home of one owner.
-ghost use Rattle.std.specs.Prelude.{◌≡◌, ◌≢◌, ◌<◌, ◌↔◌, [], ◌∷◌, ◌++◌, IsTrue, IsPermutation, MatchOption, MatchResult, OnOk};
+ghost use Rattle.std.specs.Prelude.{◌≡◌, ◌≢◌, ◌<◌, ◌↔◌, [], ◌∷◌, ◌++◌, IsTrue, IsPermutation, IfSome, MatchOption, MatchResult, OnOk};
 ghost use Rattle.std.specs.Prelude.{OnErr, All, length, map};
 ghost use Rattle.region_cut.specs.Classes.{slots_of};
 ghost use Rattle.slot_chain.specs.Buffer.{Buffer, ended_of, owner_limit};
@@ -137,26 +137,21 @@ impl<'r> Homes<'r> {
         array
     }
 
-    /// Takes the buffers of an own parcel home as they lie, each emptied, where all are of one class and
-    /// there is a place for it. Else it hands the parcel back: some of its buffers may be emptied then.
-    pub(crate) fn keep_whole(&mut self, parcel: BufParcel<'r>) -> Option<BufParcel<'r>>
-        requires { parcel.owner ≡ self.old.owner }
-        ensures same { self.new ≡ record self.old { slots = self.new.slots } }
-        ensures value { MatchOption result
-            (IsPermutation (map comes_home parcel.entry.items ++ self.old.slots) self.new.slots)
-            (λ p. EmptiesSome parcel.entry p × (self.new ≡ self.old)) }
+    /// The class of an own parcel that may come home as it lies, each of its buffers emptied: all are of that
+    /// class, and there is a place for it. Else some of its buffers may be emptied.
+    pub(crate) fn class_of_whole(&mut self, parcel: &mut BufParcel<'r>) -> Option<Class>
+        requires { parcel.old.owner ≡ self.old.owner }
+        ensures same { self.new ≡ self.old }
+        ensures emptied { EmptiesSome parcel.old parcel.new }
+        ensures ready { IfSome result (λ class. (parcel.new.items ≢ []) × All (IsReady self.old.owner class) parcel.new.items) }
     {
-        let mut parcel = parcel;
         let _packed = parcel.owner();
-        let Some(first) = parcel.buffers().first() else {
-            return Some(parcel);
-        };
-        let class = first.class();
-        if !self.has_room(class) || !parcel.empty_alike(class) {
-            return Some(parcel);
+        let class = parcel.buffers().first()?.class();
+        if self.has_room(class) && parcel.empty_alike(class) {
+            Some(class)
+        } else {
+            None
         }
-        self.keep_ready(parcel, class);
-        None
     }
 
     // Whether there is a place for a parcel of the class.
@@ -166,8 +161,8 @@ impl<'r> Homes<'r> {
         self.by_class[class.number() as usize].has_room()
     }
 
-    // Takes own buffers of the class home as they lie in a parcel.
-    fn keep_ready(&mut self, parcel: BufParcel<'r>, class: Class)
+    /// Takes own buffers of the class home as they lie in a parcel.
+    pub(crate) fn keep_whole(&mut self, parcel: BufParcel<'r>, class: Class)
         requires some { parcel.items ≢ [] }
         requires each { All (IsReady self.old.owner class) parcel.items }
         ensures same { self.new ≡ record self.old { slots = self.new.slots } }

@@ -113,10 +113,27 @@ fn take<'r>(arrays: &mut Option<Vec<Vec<Buf<'r>>>>, places: usize) -> Option<Vec
     match arrays {
         None => None,
         Some(arrays) => {
-            let at = last_with_room(arrays.as_slice(), places)?;
-            Some(arrays.remove(at))
+            // mostly the last one has it
+            let last = arrays.pop()?;
+            if last.capacity() >= places {
+                return Some(last);
+            }
+            arrays.push_reserved(last);
+            take_before(arrays, places)
         }
     }
+}
+
+// The same, where the last one may have too little room.
+#[cold]
+#[inline(never)]
+fn take_before<'r>(arrays: &mut Vec<Vec<Buf<'r>>>, places: usize) -> Option<Vec<Buf<'r>>>
+    requires { AreEmptied arrays.old.items }
+    ensures emptied { AreEmptied arrays.new.items }
+    ensures array { IfSome result (λ a. (a.items ≡ []) × (places ≤ vec_capacity a)) }
+{
+    let at = last_with_room(arrays.as_slice(), places)?;
+    Some(arrays.remove(at))
 }
 
 // Makes at least so many places, and twice as many as there are.

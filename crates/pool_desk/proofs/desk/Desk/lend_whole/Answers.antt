@@ -1,9 +1,5 @@
-use Rattle.std.proofs.Common.{◌≡◌, ◌++◌, All, IsPermutation, map, ap, refl, sym, ◌∙◌}
-use Rattle.slot_chain.specs.Buffer.{Buffer}
-use Rattle.slot_chain.specs.Parcels.{ParcelState}
-use Rattle.pool_desk.specs.Desks.{DeskState}
-use Rattle.pool_desk.specs.Homes.{AtHome, IsReady}
-use Rattle.pool_desk.specs.Homes.AtHome.{Kept}
+use Rattle.std.proofs.Common.{◌≡◌, All, sym, ◌∙◌}
+use Rattle.pool_desk.specs.Homes.{IsReady}
 use Rattle.pool_desk.proofs.DeskLaws.{lent_whole}
 use Rattle.pool_desk.proofs.HomeLaws.{ready_owner}
 use Rattle.pool_desk.proofs.desk.Desk.lend_whole.Goals as goal
