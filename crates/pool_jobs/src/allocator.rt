@@ -227,9 +227,9 @@ impl<
         self.lend_at_home(class)
     }
 
-    // Why no buffer of the class is lent. Where memory has come meanwhile, one is.
-    #[cold]
-    #[inline(never)]
+    // Why no buffer of the class is lent. Where memory has come meanwhile, one is. It is inlined: else each loan
+    // would clear a place in memory for its answer.
+    #[inline(always)]
     #[tactic(auto, using(crate::proofs::Fillings::lent_empty))]
     pub(crate) fn why_none(&mut self, class: Class) -> Result<Buffer<'r, J>, PoolError>
         requires { class < classes_of (profile_of J.names.digits.bits) }
