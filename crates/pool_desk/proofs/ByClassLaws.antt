@@ -1,7 +1,6 @@
 -- The homes of all classes, joined.
 use Rattle.std.proofs.Common.{◌≡◌, ◌≢◌, ℕ, zero, suc, ◌<◌, List, [], ◌∷◌, ◌++◌, length, get_or, set, refl, sym, ap, ◌∙◌, subst, arith, append_assoc, append-nil, All, IsPermutation, ◌⊎◌, inl, inr, ⊎_elim}
-use Rattle.std.specs.Prelude.{Any, Contains, Option, Some, None, MatchOption, Result, Ok, Err, MatchResult, Vec, map}
-use Rattle.std.specs.declared.alloc.Global.{Global}
+use Rattle.std.specs.Prelude.{Any, Contains, Option, Some, None, MatchOption, Result, Ok, Err, MatchResult, map}
 use Rattle.std.specs.List.{flat_map}
 use Rattle.std.proofs.lemmas.List.{get_or-set_same, get_or-set_other, length-append, length-set, get_or_append_left}
 use Rattle.std.proofs.Math.Seq.{get_or-append_seam}

@@ -1,7 +1,6 @@
 -- One home among the homes of the classes is taken up and put back.
 use Rattle.std.proofs.Common.{◌≡◌, ℕ, ◌<◌, List, ◌++◌, IsPermutation, length, get_or, set, take, drop, sym, ap, ◌∙◌, subst}
-use Rattle.std.specs.Prelude.{All, Option, Some, None, MatchOption, Result, Ok, Err, MatchResult, Vec, map}
-use Rattle.std.specs.declared.alloc.Global.{Global}
+use Rattle.std.specs.Prelude.{All, Option, Some, None, MatchOption, Result, Ok, Err, MatchResult, map}
 use Rattle.std.specs.List.{refill}
 use Rattle.std.proofs.lemmas.List.{get_or-set_same, get_or_default, length-set, set-get_or}
 use Rattle.std.proofs.Math.Seq.{take-append_seam}

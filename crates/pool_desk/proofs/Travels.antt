@@ -7,23 +7,13 @@ use Rattle.pool_desk.specs.contracts.desk.Desk as Desk
 use Rattle.pool_desk.specs.contracts.home.Home as Home
 use Rattle.pool_desk.specs.contracts.homes.Homes as Homes
 use Rattle.pool_desk.specs.contracts.spares.Spares as Spares
-use Rattle.slot_chain.proofs.below.Below.TheLaws.TheKnot.{send-Below, send-Node}
-use Rattle.slot_chain.proofs.lease.Lease.TheSendSync.{the_send as lease_send}
-use Rattle.slot_chain.proofs.link.Link.TheSendSync.{the_send as link_send}
-use Rattle.slot_chain.specs.contracts.spot.Spot as Spot
-use Rattle.slot_chain.specs.contracts.pointers.Pointers as Pointers
+use Rattle.slot_chain.proofs.Travels.{late_array_send}
 use Rattle.slot_chain.specs.contracts.stack.Stack as Stack
 use Rattle.region_cut.proofs.part.Bump.TheSendSync.{the_send as bump_send}
 use Rattle.region_cut.proofs.endings.ties.Ties.TheSendSync.{the_send as ties_send}
 
-spot_send : (a : NamedLft) → IsSend (Spot.the_row a)
-spot_send a = search (sendable, crosses, send-Node, send-Below, link_send, lease_send) depth 40 fits 6000
-
-pointers_send : (a : NamedLft) → IsSend (Pointers.the_row a)
-pointers_send a = search (sendable, crosses, spot_send) depth 40 fits 6000
-
 pub stack_send : (a : NamedLft) → IsSend (Stack.the_row a)
-stack_send a = search (sendable, crosses, chain_send, pointers_send) depth 40 fits 6000
+stack_send a = search (sendable, crosses, chain_send, buf_send, late_array_send) depth 40 fits 6000
 
 pub home_send : (a : NamedLft) → IsSend (Home.the_row a)
 home_send a = search (sendable, crosses, parcels_send, stack_send, bump_send, ties_send) depth 40 fits 6000

@@ -49,7 +49,7 @@ pub(crate) struct Home<'r> {
     bump: Option<Bump<'r>>,
     ties: Ties,
     // Nothing reads it: with it a home takes 128 bytes.
-    apart: [u64; 2],
+    apart: [u64; 4],
 }
 
 impl<'r> Model for Home<'r> {
@@ -99,7 +99,7 @@ impl<'r> Home<'r> {
             whole: Parcels::new(),
             bump: None,
             ties: Ties::new(),
-            apart: [0; 2],
+            apart: [0; 4],
         }
     }
 

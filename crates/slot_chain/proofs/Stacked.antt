@@ -1,10 +1,11 @@
 -- Stacks: what is linked, then what an array names.
-use Rattle.std.proofs.Common.{◌≡◌, ◌∙◌, List, [], ◌∷◌, ◌++◌, map, sym, ap, subst, append_assoc, append-nil, IsPermutation}
-use Rattle.std.proofs.lemmas.List.{map-append}
-use Rattle.std.proofs.lemmas.List.Sorted.{IsPermutation-append_comm, IsPermutation-append_left, IsPermutation-append_right}
+use Rattle.std.proofs.Common.{◌≡◌, List, [], ◌∷◌, ◌++◌, map, sym, subst, append_assoc, IsPermutation}
+use Rattle.std.proofs.lemmas.List.Sorted.{IsPermutation-append_comm, IsPermutation-append_right, IsPermutation-map, IsPermutation-trans}
+use Rattle.std.specs.Prelude.{OnOk, Result, Ok, Err}
 use Rattle.region_cut.specs.declared.slot.Slot.{Slot}
 use Rattle.slot_chain.specs.Buffer.{Buffer}
 use Rattle.slot_chain.specs.Slots.{AddsSlots, slot_of}
+use Rattle.slot_chain.specs.declared.error.NoMemory.{NoMemory}
 use Rattle.slot_chain.proofs.Tops.{front_is_none}
 
 -- one more is linked
@@ -21,14 +22,18 @@ behind_is_none ls ns l e = rw l at e
 pub both_are_none : (ls ns : List Buffer) → ls ++ ns ≡ [] → (ls ≡ []) × (ns ≡ [])
 both_are_none ls ns e = let l = front_is_none ls ns e in (l, behind_is_none ls ns l e)
 
--- what the array names is added behind what a walk showed
-pub listed : (ws ls ns walked : List Buffer) (old mid new : List Slot) → walked ≡ (ws ++ []) ++ ls
-    → AddsSlots (map slot_of walked) old mid → new ≡ mid ++ map slot_of ns → AddsSlots (map slot_of (ws ++ (ls ++ ns))) old new
-listed ws ls ns walked old mid new e h a =
-    let all : map slot_of (ws ++ (ls ++ ns)) ≡ map slot_of walked ++ map slot_of ns =
-    ap (map slot_of) (sym (append_assoc ws ls ns) ∙ sym (ap (λ l. l ++ ns) (e ∙ ap (λ l. l ++ ls) (append-nil ws)))) ∙ map-append slot_of walked ns in
-    record {
-      added = h.added ++ map slot_of ns;
-      appended = a ∙ (ap (λ l. l ++ map slot_of ns) h.appended ∙ append_assoc old h.added (map slot_of ns));
-      each = subst (λ l. IsPermutation l (h.added ++ map slot_of ns)) (sym all) (IsPermutation-append_left (map slot_of ns) _ _ h.each);
-    }
+-- a walk shows them in another order
+walked : (ws ls ns : List Buffer) → IsPermutation (ws ++ (ls ++ ns)) ((ws ++ ns) ++ ls)
+walked ws ls ns =
+    subst (λ l. IsPermutation (ws ++ (ls ++ ns)) l) (sym (append_assoc ws ns ls))
+    (IsPermutation-append_right ws (ls ++ ns) (ns ++ ls) (IsPermutation-append_comm ls ns))
+
+-- the slots of a walk are those of the stack, and of what stands beside it
+pub listed : (ws ls ns walk : List Buffer) (result : Result (Unit {0}) NoMemory) (old new : List Slot) → walk ≡ (ws ++ ns) ++ ls
+    → OnOk result (AddsSlots (map slot_of walk) old new) → OnOk result (AddsSlots (map slot_of (ws ++ (ls ++ ns))) old new)
+listed ws ls ns walk (Err e) old new is h = h
+listed ws ls ns walk (Ok t) old new is h = record {
+  added = h.added;
+  appended = h.appended;
+  each = IsPermutation-trans _ _ _ (IsPermutation-map slot_of _ _ (subst (λ l. IsPermutation (ws ++ (ls ++ ns)) l) (sym is) (walked ws ls ns))) h.each;
+}

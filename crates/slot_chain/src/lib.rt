@@ -19,16 +19,15 @@ mod empty;
 mod error;
 mod filling;
 mod into_iter;
+mod late_handle;
 mod lease;
 mod link;
 mod magazine;
 mod node;
 mod parcel;
 mod parcels;
-mod pointers;
 mod portion;
 mod room;
-mod spot;
 mod stack;
 mod walk;
 

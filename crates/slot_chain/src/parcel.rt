@@ -13,9 +13,9 @@ use crate::buf::Buf;
 use crate::error::NoMemory;
 use region_cut::Class;
 use region_cut::endings::Endings;
-use std::alloc::Global;
-use std::marker::Model;
+use std::alloc::{Allocator, Global};
 use std::fmt;
+use std::marker::Model;
 
 // For how many buffers a parcel has places at most. No machine has the memory for more pointers. With it the sum of
 // the sizes is less than 2^64, so that it is added up without a check.
@@ -241,7 +241,7 @@ fn empty_alike(buffers: &mut [Buf<'_>], class: Class) -> bool
 }
 
 /// Lets go the buffers that an array names: it is then known what each ends as.
-pub(crate) fn end_each<'r>(buffers: Vec<Buf<'r>>, endings: &mut Endings<'r>)
+pub(crate) fn end_each<'r, A: Allocator>(buffers: Vec<Buf<'r>, A>, endings: &mut Endings<'r>)
     ensures { endings.new ≡ record endings.old { known = map ended_of buffers.entry.items ++ endings.old.known } }
 {
     let mut buffers = buffers;

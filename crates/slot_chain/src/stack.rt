@@ -7,8 +7,9 @@ ghost use Rattle.slot_chain.specs.Slots.{AddsSlots, slot_of};
 use crate::buf::Buf;
 use crate::chain::Chain;
 use crate::error::NoMemory;
+use crate::late_handle::LateHandle;
+use crate::parcel::end_each;
 use crate::parcels::Parcels;
-use crate::pointers::Pointers;
 use crate::walk::add_slots;
 use region_cut::Slot;
 use region_cut::endings::Endings;
@@ -28,7 +29,8 @@ use std::marker::Model;
 #[derive(Drop)]
 pub struct Stack<'r> {
     linked: Chain<'r>,
-    named: Pointers<'r>,
+    // It has no memory before `make_room`.
+    named: Vec<Buf<'r>, LateHandle<Global>>,
 }
 
 impl<'r> Model for Stack<'r> {
@@ -37,7 +39,7 @@ impl<'r> Model for Stack<'r> {
 
     ghost Value = { List Buffer };
 
-    ghost view = { λ s. s.linked ++ s.named };
+    ghost view = { λ s. s.linked ++ s.named.items };
 }
 
 impl<'r> Stack<'r> {
@@ -47,7 +49,7 @@ impl<'r> Stack<'r> {
     {
         Stack {
             linked: Chain::new(),
-            named: Pointers::new(),
+            named: Vec::new(LateHandle::none()),
         }
     }
 
@@ -63,7 +65,9 @@ impl<'r> Stack<'r> {
     pub fn store(&mut self, buf: Buf<'r>)
         ensures { IsPermutation (self.old ++ buf.entry ∷ []) self.new }
     {
-        if let Some(buf) = self.named.offer(buf) {
+        if self.named.len() < self.named.capacity() {
+            self.named.push_reserved(buf);
+        } else {
             link(&mut self.linked, buf);
         }
     }
@@ -82,7 +86,7 @@ impl<'r> Stack<'r> {
 
     /// For how many buffers its array has places.
     pub fn places(&self) -> usize {
-        self.named.places()
+        self.named.capacity()
     }
 
     /// Makes room in the array for pointers to so many buffers, where it has less and names none. Where
@@ -90,8 +94,11 @@ impl<'r> Stack<'r> {
     pub fn make_room(&mut self, alloc: Global, places: usize)
         ensures { self.new ≡ self.old }
     {
-        if self.places() < places && self.named.is_empty() {
-            self.named.make_room(alloc, places);
+        if self.places() >= places || !self.named.is_empty() {
+            return;
+        }
+        if let Ok(named) = Vec::with_capacity(LateHandle::of(alloc), places) {
+            self.named = named;
         }
     }
 
@@ -122,16 +129,10 @@ impl<'r> Stack<'r> {
         ensures ok { OnOk result (AddsSlots (map slot_of (parcels.now ++ self.now)) slots.old.items slots.new.items) }
         ensures err { OnErr result (slots.new.items ≡ slots.old.items) }
     {
-        let start = slots.len();
         let walk = self
             .linked
-            .walk_behind(parcels.as_slice(), Default::default());
-        add_slots(walk, slots)?;
-        if let Err(NoMemory) = self.named.list_slots(slots) {
-            slots.truncate(start);
-            return Err(NoMemory);
-        }
-        Ok(())
+            .walk_behind(parcels.as_slice(), self.named.as_slice());
+        add_slots(walk, slots)
     }
 
     /// Lets go all buffers: it is then known what each ends as. Takes a walk over them.
@@ -139,7 +140,7 @@ impl<'r> Stack<'r> {
         ensures { endings.new ≡ record endings.old { known = map ended_of self.entry ++ endings.old.known } }
     {
         let Stack { linked, named } = self;
-        named.end(endings);
+        end_each(named, endings);
         linked.end(endings);
     }
 }

@@ -1,4 +1,4 @@
-use Rattle.std.proofs.Common.{◌≡◌, ◌<◌, ◌∙◌, ap, length, map, rules}
+use Rattle.std.proofs.Common.{◌<◌, ◌∙◌, ap, length, map, rules}
 use Rattle.std.proofs.lemmas.List.{set-get_or}
 use Rattle.slot_chain.specs.Filling.{emptied}
 use Rattle.slot_chain.specs.Parcels.{IsOf}

@@ -1,5 +1,4 @@
-use Rattle.std.proofs.Common.{◌≡◌, ◌++◌, true, false, length, map, take, drop}
-use Rattle.std.specs.Prelude.{Bool, MatchBool}
+use Rattle.std.proofs.Common.{◌≡◌, ◌++◌, length, map, take, drop}
 use Rattle.slot_chain.specs.Filling.{emptied}
 use Rattle.slot_chain.proofs.Emptied.{alike_so, packed_alike, sizes_alike, written_back}
 use Rattle.slot_chain.proofs.parcel.BufParcel.empty_alike.Goals as goal

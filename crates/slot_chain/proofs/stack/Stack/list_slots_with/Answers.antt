@@ -5,5 +5,5 @@ pub returns-clause-ok : goal.returns-clause-ok
 returns-clause-ok c =
     let s = c.self.inside in
     rw (← c.self.view_is)
-    (listed c.args.parcels.now s.linked s.named c.walk_behind-walk.result _ _ _
-    (rw (c.as_slice.ensures.value, c.default.ensures) at c.walk_behind-walk.ensures) c.in_ok-add_slots.ensures.ok c.in_default.ensures.ok)
+    (listed c.args.parcels.now s.linked s.named.items c.walk_behind-walk.result c.add_slots.result _ _
+    (rw (c.as_slice.ensures.value, c.as_slice-2.ensures.value) at c.walk_behind-walk.ensures) c.add_slots.ensures.ok)

@@ -1,7 +1,7 @@
 use Rattle.slot_chain.proofs.Stacked.{linked_more}
 use Rattle.slot_chain.proofs.stack.Stack.store.Goals as goal
 
-pub returns-in-Some : goal.returns-in-Some
-returns-in-Some c =
+pub returns-else-len-capacity : goal.returns-else-len-capacity
+returns-else-len-capacity c =
     let s = c.self.inside in
-    rw (← c.self.view_is, c.link.ensures, c.in-Some.ensures.0, c.in-Some.ensures.1) (linked_more s.linked s.named c.args.buf)
+    rw (← c.self.view_is, c.link.ensures) (linked_more s.linked s.named.items c.args.buf)
