@@ -1,5 +1,5 @@
 -- The list of a magazine's buffers.
-use Rattle.std.specs.Prelude.{◌≡◌, ◌≢◌, ◌<◌, All, List, [], Option, Some, None, Box, Vec, vec_len, vec_capacity}
+use Rattle.std.specs.Prelude.{◌≡◌, ◌≢◌, ◌<◌, All, List, [], Option, Some, None, Box, Vec, vec_len, vec_capacity, IsSomeAnd}
 use Rattle.std.specs.List.{flat_map}
 use Rattle.std.specs.declared.alloc.Global.{Global}
 use Rattle.slot_chain.specs.Buffer.{Buffer}
@@ -18,11 +18,12 @@ items_of (Linked chain) = chain
 items_of (Array array) = array.items
 items_of (Whole parcel) = parcel.items
 
--- those that an array of the portion names
-abbrev pub named_by : Portion → List Buffer
-named_by (Linked chain) = []
-named_by (Array array) = array.items
-named_by (Whole parcel) = parcel.items
+-- the array that a portion gives: a part's own, one with the buffers and the places of a parcel, none for what is linked
+abbrev pub IsArrayOf : Portion → Option (Vec Buffer Global) → Type 0
+IsArrayOf (Linked chain) array = array ≡ None
+IsArrayOf (Array own) array = array ≡ Some own
+IsArrayOf (Whole parcel) array = IsSomeAnd array
+    (λ (a : Vec Buffer Global). (a.items ≡ parcel.items) × (vec_capacity a ≡ parcel.places))
 
 -- there is an array, and a place in it
 abbrev pub HasPlace : Option (Vec Buffer Global) → Type 0

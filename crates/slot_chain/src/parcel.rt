@@ -215,6 +215,7 @@ impl<'r> BufParcel<'r> {
     pub fn into_buffers(self) -> Vec<Buf<'r>>
         ensures items { result.items ≡ self.entry.items }
         ensures packed { All (IsPacked self.entry.owner) result.items }
+        ensures places { vec_capacity result ≡ self.entry.places }
     {
         let BufParcel {
             owner: _,

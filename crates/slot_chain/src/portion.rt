@@ -1,6 +1,5 @@
 //! What comes out of a magazine at once.
-ghost use Rattle.std.specs.Prelude.{◌≡◌};
-ghost use Rattle.slot_chain.specs.Magazines.{named_by, named_in};
+ghost use Rattle.slot_chain.specs.Magazines.{IsArrayOf};
 
 use crate::buf::Buf;
 use crate::chain::Chain;
@@ -21,7 +20,7 @@ pub enum Portion<'r> {
 impl<'r> Portion<'r> {
     /// The array, or `None` where the buffers are linked: they are let go then.
     pub fn into_array(self) -> Option<Vec<Buf<'r>>>
-        ensures { named_in result ≡ named_by self.entry }
+        ensures { IsArrayOf self.entry result }
     {
         match self {
             Portion::Linked(_) => None,
