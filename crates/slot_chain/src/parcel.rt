@@ -30,13 +30,14 @@ const MOST_PLACES: usize = 1_125_899_906_842_624;
 /// Only [`BufParcel::new`] takes memory. A parcel may be dropped, with all its buffers.
 #[must_use]
 pub struct BufParcel<'r> {
-    owner: u16,
+    // Less than 2^16. It is as wide as the rest, so that no gap behind it is copied where a parcel moves.
+    owner: u64,
     bytes: u64,
     buffers: Vec<Buf<'r>>,
 }
 
 impl<'r> Model for BufParcel<'r> {
-    ghost use Rattle.std.specs.Prelude.{◌≡◌, ◌≤◌, All, vec_capacity};
+    ghost use Rattle.std.specs.Prelude.{◌≡◌, ◌<◌, ◌≤◌, ◌^◌, All, vec_capacity};
     ghost use Rattle.slot_chain.specs.Counts.{sizes};
     ghost use Rattle.slot_chain.specs.Parcels.{ParcelState, IsPacked, most_places};
 
@@ -45,7 +46,7 @@ impl<'r> Model for BufParcel<'r> {
     ghost view = { λ p. record { owner = p.owner; places = vec_capacity p.buffers; items = p.buffers.items } };
 
     ghost invariant = { λ p. All (IsPacked p.owner) p.buffers.items
-        × (p.bytes ≡ sizes p.buffers.items) × (vec_capacity p.buffers ≤ most_places) };
+        × (p.bytes ≡ sizes p.buffers.items) × (vec_capacity p.buffers ≤ most_places) × (p.owner < 2 ^ 16) };
 }
 
 // By hand, so that it is proved here once, and not again in each crate that lets one go.
@@ -83,7 +84,7 @@ impl<'r> BufParcel<'r> {
             return Err(NoMemory);
         }
         Ok(BufParcel {
-            owner,
+            owner: u64::from(owner),
             bytes: 0,
             buffers: array,
         })
@@ -97,7 +98,7 @@ impl<'r> BufParcel<'r> {
         ensures packed { All (IsPacked self.now.owner) self.now.items }
     {
         let _known = &self.buffers;
-        self.owner
+        self.owner as u16
     }
 
     /// The sum of the sizes of the buffers in bytes, in constant time.
@@ -152,7 +153,7 @@ impl<'r> BufParcel<'r> {
         ensures { MatchResult result (λ _. Packs self.old buf.entry self.new)
             (λ b. (b ≡ buf.entry) × (self.new ≡ self.old) × KeepsOut self.old buf.entry) }
     {
-        if buf.owner() != self.owner || self.is_full() {
+        if buf.owner() != self.owner as u16 || self.is_full() {
             return Err(buf);
         }
         let mut buf = buf;
@@ -214,8 +215,8 @@ impl<'r> BufParcel<'r> {
     /// All of its buffers, in the order in which they came.
     pub fn into_buffers(self) -> Vec<Buf<'r>>
         ensures items { result.items ≡ self.entry.items }
-        ensures packed { All (IsPacked self.entry.owner) result.items }
         ensures places { vec_capacity result ≡ self.entry.places }
+        ensures packed { All (IsPacked self.entry.owner) result.items }
     {
         let BufParcel {
             owner: _,
