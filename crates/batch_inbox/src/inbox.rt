@@ -1,6 +1,6 @@
 //! The inbox.
 ghost use Rattle.std.specs.Prelude.{◌≡◌, ℕ, ◌≤◌, [], ◌∷◌, ◌++◌};
-ghost use Rattle.std.specs.Prelude.{length, Some, slice_get, IfOk, IfErr, IfNone, MatchResult, MatchOption};
+ghost use Rattle.std.specs.Prelude.{length, Some, slice_get, IfOk, IfErr, IfNone, IsTrue, MatchResult, MatchOption};
 ghost use Rattle.crossbeam_queue.specs.Fifo.{Learns};
 ghost use Rattle.batch_inbox.specs.Limits.{sender_limit};
 ghost use Rattle.batch_inbox.specs.Order.{IsInOrder};
@@ -143,6 +143,39 @@ impl<'r> Inbox<'r> {
     /// told of the empty queue. This call knows nothing of the lesson, so it can't be told where
     /// the queue was never empty.
     pub fn take_and<L: Lesson<Batch<'r>, View<'r>>, R: Wait>(
+        &self,
+        rt: &R,
+        seat: &mut TakeSeat<'r>,
+    ) -> Option<Batch<'r>>
+        requires seat { seat.old.inbox ≡ self.now }
+        requires lesson { (pass : ℕ) → Learns IsInOrder pass (view_of seat.old) (L.fact (view_of seat.old)) }
+        ensures seat { (seat.new.inbox ≡ seat.old.inbox) × (seat.new.senders ≡ seat.old.senders) }
+        ensures batch { MatchOption result
+            (seat.new.taken ≡ seat.old.taken)
+            (λ x. (seat.new.taken ≡ seat.old.taken ++ x ∷ []) × (place_of x ≡ self.now.place)) }
+        ensures empty { IfNone result (L.fact (view_of seat.old) []) }
+    {
+        if self.is_empty::<L>(seat) {
+            return None;
+        }
+        self.pop::<L, R>(rt, seat)
+    }
+
+    // Whether nothing is there. If so, the fact is true of an empty queue. It is asked first, since it makes no place for
+    // a batch: most looks find none.
+    #[inline(always)]
+    fn is_empty<L: Lesson<Batch<'r>, View<'r>>>(&self, seat: &mut TakeSeat<'r>) -> bool
+        requires seat { seat.old.inbox ≡ self.now }
+        requires lesson { (pass : ℕ) → Learns IsInOrder pass (view_of seat.old) (L.fact (view_of seat.old)) }
+        ensures same { seat.new ≡ seat.old }
+        ensures empty { IsTrue result → L.fact (view_of seat.old) [] }
+    {
+        self.queue.is_empty_as::<L>(&mut seat.pass)
+    }
+
+    // Takes the first batch, as `take_and` does.
+    #[inline(never)]
+    fn pop<L: Lesson<Batch<'r>, View<'r>>, R: Wait>(
         &self,
         rt: &R,
         seat: &mut TakeSeat<'r>,
