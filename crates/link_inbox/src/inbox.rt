@@ -1,6 +1,7 @@
 //! The inbox.
 ghost use Rattle.std.specs.Prelude.{◌≡◌, ℕ, ◌≤◌, [], ◌∷◌, ◌++◌};
 ghost use Rattle.std.specs.Prelude.{length, Some, None, IfOk, IfErr, MatchResult, MatchOption};
+ghost use Rattle.atomic_table.specs.Table.{rest};
 ghost use Rattle.batch_inbox.specs.Limits.{sender_limit};
 ghost use Rattle.batch_inbox.specs.Views.{place_of};
 ghost use Rattle.batch_inbox.specs.declared.error.PostError.TheVariants.{NoNode};
@@ -8,7 +9,7 @@ ghost use Rattle.link_inbox.specs.States.{AreSeatsOf, AreNew, AreAtRest};
 
 use crate::load::Load;
 use crate::opening::{opened, seated};
-use crate::rule::{FREE, NODES, Nodes};
+use crate::rule::{FREE, NODES, Nodes, SharedNodes, Token};
 use crate::seats::{Attached, SendSeat, TakeSeat};
 use crate::steps::{Attaches, Frees, Links, Prepares, Takes};
 use batch_inbox::PostError;
@@ -179,10 +180,8 @@ impl<'r> LinkInbox<'r> {
         if found == 0 {
             return None;
         }
-        let left = Load::vacant(mem::take(&mut seat.empty));
-        let batch = words
-            .exchange(&mut seat.token, found as usize, left)
-            .into_batch();
+        let empty = mem::take(&mut seat.empty);
+        let batch = lift(words, &mut seat.token, found as usize, empty);
         words.store::<Frees>(&mut seat.token, front as usize + 1, FREE);
         seat.front = found;
         batch
@@ -206,6 +205,26 @@ impl<'r> LinkInbox<'r> {
     {
         mem::take(&mut seat.empty)
     }
+}
+
+// Takes the batch out of the node that a seat took last, and leaves an empty magazine there. It is a function of its
+// own, so that a look that finds no batch makes no place for one.
+#[inline(never)]
+fn lift<'r>(
+    nodes: &SharedNodes<'r>,
+    token: &mut Token<'r>,
+    node: usize,
+    empty: EmptyMagazine<'r>,
+) -> Option<Batch<'r>>
+    requires { (token.old.table_id ≡ nodes.now.table_id)
+        × ((old : _) × (token.old.me.1 ≡ (node, old) ∷ rest token.old.me.1)) }
+    ensures same { (token.new.table_id ≡ token.old.table_id) × (token.new.id ≡ token.old.id) }
+    ensures batch { token.old.me.1 ≡ (node, result) ∷ rest token.old.me.1 }
+    ensures left { token.new.me ≡ (token.old.me.0, (node, None) ∷ rest token.old.me.1) }
+{
+    nodes
+        .exchange(token, node, Load::vacant(empty))
+        .into_batch()
 }
 
 // The batches are not printed.
