@@ -3,6 +3,7 @@ ghost use Rattle.std.specs.Prelude.{◌≡◌, ◌<◌, ◌≤◌, [], ◌++◌,
 ghost use Rattle.std.specs.Prelude.{MatchOption, MatchResult};
 ghost use Rattle.slot_chain.specs.Buffer.{Buffer};
 ghost use Rattle.digit_route.specs.Digits.{common};
+ghost use Rattle.pool_desk.specs.Steps.{CountsOf, Handles};
 ghost use Rattle.slot_balance.specs.Limits.{most_taken};
 ghost use Rattle.pool_fabric.specs.Names.{box_at};
 ghost use Rattle.pool_fabric.specs.Seats.{seat_of, AreSeatsBy, AreBoxes};
@@ -16,7 +17,7 @@ use crate::station::Station;
 use crate::store::Store;
 use batch_inbox::{Mail, Mailbox, Receiver, Sender};
 use digit_route::{Batch, Posting, Refused};
-use pool_desk::Desk;
+use pool_desk::{Counts, Desk};
 use slot_chain::EmptyMagazine;
 use std::fmt;
 use std::sync::{Mutex, Wait};
@@ -320,8 +321,7 @@ impl<'r, T: Receiver, S: Sender, M: Mail<'r, TakeSeat = T, SendSeat = S>, J: Nam
             let Some(batch) = inbox.take(rt, seat) else {
                 return taken;
             };
-            let (counts, empty) = desk.handle_and_empty(batch);
-            inbox.return_empty(rt, seat, empty);
+            let counts = handle_taken(rt, inbox, desk, seat, batch);
             handled = handled.saturating_add(counts.home.saturating_add(counts.on));
             if handled >= MOST_HANDLED {
                 return taken + 1;
@@ -329,6 +329,29 @@ impl<'r, T: Receiver, S: Sender, M: Mail<'r, TakeSeat = T, SendSeat = S>, J: Nam
         }
         MOST_TAKEN
     }
+}
+
+// Handles a batch that was taken from the desk's inbox, and leaves its memory to those who send there. It is a function
+// of its own, so that a look that finds no batch makes no place for one.
+#[inline(never)]
+fn handle_taken<'r, T: Receiver, S: Sender, M: Mail<'r, TakeSeat = T, SendSeat = S>, R: Wait>(
+    rt: &R,
+    inbox: &M,
+    desk: &mut Desk<'r>,
+    seat: &mut T,
+    batch: Batch<'r>,
+) -> Counts
+    requires address { batch.address ≡ desk.old.number }
+    requires digits { batch.digits ≡ desk.old.digits }
+    requires seat { T.inbox seat.old ≡ M.id inbox.now }
+    ensures parts { Handles desk.old batch.entry.items desk.new }
+    ensures counts { CountsOf desk.old.number batch.entry.items result }
+    ensures seat { (T.inbox seat.new ≡ T.inbox seat.old) × (T.senders seat.new ≡ T.senders seat.old)
+        × (T.taken seat.new ≡ T.taken seat.old) }
+{
+    let (counts, empty) = desk.handle_and_empty(batch);
+    inbox.return_empty(rt, seat, empty);
+    counts
 }
 
 // The stations are not printed, nor what is in the inboxes.

@@ -14,28 +14,23 @@ take-requires g c κs =
     let number = c.from-at.ensures ∙ c.number.ensures.value in
     ((refl, tt), c.loop-taken.invariant.inbox ∙ c.requires.seat ∙ ap (box_at g.J.Naming.names) (sym number) ∙ sym box.0)
 
-pub handle_and_empty-empty-requires-clause-address : goal.handle_and_empty-empty-requires-clause-address
-handle_and_empty-empty-requires-clause-address g c =
+pub handle_taken-counts-requires : goal.handle_taken-counts-requires
+handle_taken-counts-requires g c κs =
     let at = c.from-at.result in
     let in_boxes : at < length c.args.self.now.inboxes.items = omega (arith, c.if-at-len.false, c.len.ensures, c.args.self.now.inboxes.ok) in
     let box = c.args.self.now.boxes.each at _ (get_map g.M.Mailbox.id _ at _ (slice_get_read _ _ at _ refl in_boxes c.index-inbox.ensures)) in
     let number = c.from-at.ensures ∙ c.number.ensures.value in
-    ap (λ (p : Place). p.address) (c.in-Some.ensures.batch.1 ∙ box.1) ∙ number ∙ sym c.loop-taken.invariant.number
-
-pub handle_and_empty-empty-requires-clause-digits : goal.handle_and_empty-empty-requires-clause-digits
-handle_and_empty-empty-requires-clause-digits g c =
-    let at = c.from-at.result in
-    let in_boxes : at < length c.args.self.now.inboxes.items = omega (arith, c.if-at-len.false, c.len.ensures, c.args.self.now.inboxes.ok) in
-    let box = c.args.self.now.boxes.each at _ (get_map g.M.Mailbox.id _ at _ (slice_get_read _ _ at _ refl in_boxes c.index-inbox.ensures)) in
-    ap (λ (p : Place). p.digits) (c.in-Some.ensures.batch.1 ∙ box.1) ∙ sym (c.loop-taken.invariant.digits ∙ c.requires.digits)
-
-pub return_empty-requires : goal.return_empty-requires
-return_empty-requires g c κs =
-    let at = c.from-at.result in
-    let in_boxes : at < length c.args.self.now.inboxes.items = omega (arith, c.if-at-len.false, c.len.ensures, c.args.self.now.inboxes.ok) in
-    let box = c.args.self.now.boxes.each at _ (get_map g.M.Mailbox.id _ at _ (slice_get_read _ _ at _ refl in_boxes c.index-inbox.ensures)) in
-    let number = c.from-at.ensures ∙ c.number.ensures.value in
-    ((refl, tt), c.in-Some.ensures.seat.0 ∙ (c.loop-taken.invariant.inbox ∙ (c.requires.seat ∙ (ap (box_at g.J.Naming.names) (sym number) ∙ sym box.0))))
+    let i = c.loop-taken.invariant in
+    let place = c.in-Some.ensures.batch.1 ∙ box.1 in (
+      (refl, tt),
+      (
+        ap (λ (p : Place). p.address) place ∙ number ∙ sym i.number,
+        (
+          ap (λ (p : Place). p.digits) place ∙ sym (i.digits ∙ c.requires.digits),
+          c.in-Some.ensures.seat.0 ∙ (i.inbox ∙ (c.requires.seat ∙ (ap (box_at g.J.Naming.names) (sym number) ∙ sym box.0))),
+        ),
+      ),
+    )
 
 pub loop-taken-init : goal.loop-taken-init
 loop-taken-init g c =
@@ -46,18 +41,18 @@ pub returns-then-handled-ge-MOST_HANDLED-clause-takes : goal.returns-then-handle
 returns-then-handled-ge-MOST_HANDLED-clause-takes g c =
     let i = c.loop-taken.invariant in
     let e = c.in-Some.ensures in
-    let back = c.return_empty.ensures in
-    takes_more _ _ _ _ _ _ _ c.in-Some.batch i.taken (back.0 ∙ e.seat.0, back.1 ∙ e.seat.1) (back.2 ∙ e.batch.0) c.handle_and_empty-empty.ensures.parts
+    let back = c.handle_taken-counts.ensures.seat in
+    takes_more _ _ _ _ _ _ _ c.in-Some.batch i.taken (back.0 ∙ e.seat.0, back.1 ∙ e.seat.1) (back.2 ∙ e.batch.0) c.handle_taken-counts.ensures.parts
     (rw (← i.counted) i.few)
 
 pub loop-taken-preserved : goal.loop-taken-preserved
 loop-taken-preserved g c =
     let i = c.loop-taken.invariant in
     let e = c.in-Some.ensures in
-    let h = c.handle_and_empty-empty.ensures.parts in
-    let back = c.return_empty.ensures in
-    let more = counts_more _ _ _ _ _ _ _ _ _ c.handle_and_empty-empty.result.0 c.in-Some.batch i.taken i.counted i.few (back.0 ∙ e.seat.0, back.1 ∙ e.seat.1) (back.2 ∙ e.batch.0) h
-    c.handle_and_empty-empty.ensures.counts (rw c.saturating_add.ensures at c.saturating_add-handled.ensures) c.if-handled-ge-MOST_HANDLED.false in
+    let h = c.handle_taken-counts.ensures.parts in
+    let back = c.handle_taken-counts.ensures.seat in
+    let more = counts_more _ _ _ _ _ _ _ _ _ c.handle_taken-counts.result c.in-Some.batch i.taken i.counted i.few (back.0 ∙ e.seat.0, back.1 ∙ e.seat.1) (back.2 ∙ e.batch.0) h
+    c.handle_taken-counts.ensures.counts (rw c.saturating_add.ensures at c.saturating_add-handled.ensures) c.if-handled-ge-MOST_HANDLED.false in
     record {
       taken = more.0;
       counted = more.1;
