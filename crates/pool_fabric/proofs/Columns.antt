@@ -1,5 +1,5 @@
 -- Rows of seats, and the seats at one inbox.
-use Rattle.std.proofs.Common.{◌≡◌, ℕ, ◌+◌, ◌<◌, List, [], ◌∷◌, ◌++◌, length, refl, sym, ap, ◌∙◌, arith, Some, length-append}
+use Rattle.std.proofs.Common.{◌≡◌, ℕ, ◌+◌, ◌<◌, List, [], ◌∷◌, ◌++◌, length, refl, ap, ◌∙◌, arith, Some, length-append}
 use Rattle.std.specs.Prelude.{slice_get}
 use Rattle.slot_balance.specs.Seats.{AreParted}
 use Rattle.slot_balance.proofs.Rows.{get_front, get_seam, parted_last, parted_other}

@@ -1,12 +1,11 @@
 -- What a fabric is opened from.
-use Rattle.std.proofs.Common.{◌≡◌, ℕ, ◌≤◌, List, [], ◌∷◌, ◌++◌, length, map, reverse, refl, sym, ap, ◌∙◌, Some, Bool, ◌^◌, subst}
-use Rattle.std.specs.Prelude.{slice_get, true}
+use Rattle.std.proofs.Common.{◌≡◌, ℕ, ◌≤◌, List, length, map, reverse, refl, sym, ◌∙◌, Some, ◌^◌, subst}
+use Rattle.std.specs.Prelude.{slice_get}
 use Rattle.std.proofs.lemmas.List.Sorted.{IsPermutation-reverse}
 use Rattle.std.proofs.lemmas.Option.{get_or_from_slice_get}
 use Rattle.region_cut.specs.declared.part.Part.{Part}
 use Rattle.region_cut.specs.Parts.{number_of}
 use Rattle.digit_route.specs.Digits.{Scheme}
-use Rattle.digit_route.specs.States.{BatchState}
 use Rattle.batch_inbox.specs.States.{InboxId, TakeState}
 use Rattle.pool_fabric.specs.Names.{box_at}
 use Rattle.digit_route.specs.Limits.{largest_limit}
@@ -14,7 +13,7 @@ use Rattle.pool_fabric.specs.Ledgers.{whole}
 use Rattle.pool_fabric.specs.Pages.{PageState, new_page}
 use Rattle.slot_balance.specs.Weights.{weigh}
 use Rattle.pool_fabric.specs.Accounts.{of_part}
-use Rattle.pool_fabric.specs.Seats.{SeatState, seat_of, AreBoxes, NoneSent}
+use Rattle.pool_fabric.specs.Seats.{SeatState, AreBoxes}
 use Rattle.pool_fabric.specs.Stocks.{StockState, IsFull}
 use Rattle.pool_fabric.specs.Opened.{AreColumns, AreNewTakes, AreOpened, IsOpening, names_of, most_desks}
 use Rattle.slot_balance.proofs.Sums.{weigh-map, weigh-permutation}

@@ -1,7 +1,7 @@
 -- A new station keeps what its type says, and seats are taken out of columns.
-use Rattle.std.proofs.Common.{◌≡◌, ℕ, suc, ◌+◌, List, [], ◌∷◌, ◌++◌, length, refl, sym, ap, ◌∙◌, arith, Some, length-append, map}
+use Rattle.std.proofs.Common.{◌≡◌, ℕ, ◌+◌, List, [], ◌∷◌, ◌++◌, length, sym, ap, ◌∙◌, arith, map}
 use Rattle.slot_chain.specs.Slots.{slot_of}
-use Rattle.std.specs.Prelude.{slice_get, true}
+use Rattle.std.specs.Prelude.{slice_get}
 use Rattle.batch_inbox.specs.States.{TakeState}
 use Rattle.slot_balance.specs.Weights.{weigh}
 use Rattle.pool_fabric.specs.Names.{Names, box_at}

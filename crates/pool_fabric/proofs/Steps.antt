@@ -13,12 +13,12 @@ use Rattle.pool_fabric.specs.Names.{Names, box_at}
 use Rattle.pool_fabric.specs.Pages.{PageState, drawn_for, lent_on, lent_all_on, freed_on}
 use Rattle.pool_fabric.specs.Seats.{SeatState, AreSeatsBy}
 use Rattle.batch_inbox.specs.States.{TakeState}
-use Rattle.pool_fabric.specs.Accounts.{of_buffer, of_batch, of_home, of_chunk, of_drawn}
+use Rattle.pool_fabric.specs.Accounts.{of_drawn}
 use Rattle.slot_balance.specs.Posts.{Posts, TakesSome}
 use Rattle.pool_fabric.specs.Calls.{ClaimsPart}
 use Rattle.pool_fabric.specs.Stations.{StationState, KeepsLoans, IsSeated, IsStation}
 use Rattle.slot_chain.specs.Slots.{slot_of}
-use Rattle.slot_balance.proofs.Sums.{weigh-append, weigh-snoc}
+use Rattle.slot_balance.proofs.Sums.{weigh-snoc}
 use Rattle.slot_balance.proofs.Rows.{map-snoc}
 use Rattle.std.proofs.lemmas.List.{map-append}
 use Rattle.pool_fabric.proofs.DeskSums.{claimed_chunk, gave_chunks}

@@ -11,8 +11,7 @@ use Rattle.atomic_blocks.proofs.web.Web.TheSendSync.{the_sync as line_sync}
 use Rattle.crossbeam_utils.specs.contracts.cache_padded.CachePadded as CachePadded
 use Rattle.loan_ledger.proofs.Travels.{loans_send, receipt_send}
 use Rattle.region_cut.proofs.part.Part.TheSendSync.{the_send as part_send}
-use Rattle.slot_chain.specs.contracts.buf.Buf as Buf
-use Rattle.digit_route.proofs.Travels.{buf_send, batch_send, empty_send, parcel_send as packed_send}
+use Rattle.digit_route.proofs.Travels.{batch_send, empty_send, parcel_send as packed_send}
 use Rattle.pool_desk.proofs.Travels.{desk_send}
 use Rattle.pool_desk.specs.contracts.desk.Desk as Desk
 use Rattle.slot_balance.proofs.Travels.{notes_send}

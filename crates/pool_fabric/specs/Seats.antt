@@ -1,5 +1,5 @@
 -- The seats of one sender.
-use Rattle.std.specs.Prelude.{◌≡◌, ℕ, true, List, [], length, Some, slice_get}
+use Rattle.std.specs.Prelude.{◌≡◌, ℕ, true, List, length, Some, slice_get}
 use Rattle.batch_inbox.specs.States.{InboxId}
 use Rattle.pool_fabric.specs.Names.{Names, box_at}
 pub use Rattle.slot_balance.specs.Seats.{SeatState, seat_of}

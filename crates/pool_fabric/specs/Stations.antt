@@ -1,6 +1,5 @@
 -- What a contract sees of a station, and what its type keeps.
-use Rattle.std.specs.Prelude.{◌≡◌, ℕ, ◌+◌, ◌^◌, ◌<◌, List, [], length, map}
-use Rattle.region_cut.specs.declared.slot.Slot.{Slot}
+use Rattle.std.specs.Prelude.{◌≡◌, ℕ, ◌^◌, ◌<◌, List, [], length, map}
 use Rattle.slot_chain.specs.Buffer.{Buffer}
 use Rattle.slot_chain.specs.Slots.{slot_of}
 use Rattle.pool_desk.specs.Desks.{DeskState, IdleState}

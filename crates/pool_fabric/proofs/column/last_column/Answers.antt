@@ -1,4 +1,4 @@
-use Rattle.std.proofs.Common.{map, sym, ◌∙◌}
+use Rattle.std.proofs.Common.{sym, ◌∙◌}
 use Rattle.slot_balance.proofs.Posting.{length-mapped}
 use Rattle.slot_balance.proofs.Rows.{parted_count, parted_sum}
 use Rattle.pool_fabric.specs.Seats.{seat_of}
