@@ -12,8 +12,8 @@ use Rattle.pool_desk.specs.Homes.{IsReady}
 use Rattle.pool_fabric.specs.Calls.{LendsTogether}
 use Rattle.pool_fabric.specs.Names.{Names}
 use Rattle.pool_fabric.specs.Stations.{StationState}
-use Rattle.pool_jobs.specs.Bursts.{Fills, HasNoMore, LendsInto, TakesNone, WantsNoSlot, packed}
-use Rattle.pool_jobs.specs.Serving.{HasOnlyUnused, IsClassFor, Keeps, Serves, ServesClass}
+use Rattle.pool_jobs.specs.Bursts.{Fills, LendsInto, TakesNone, WantsNoSlot, packed}
+use Rattle.pool_jobs.specs.Serving.{HasNoMore, HasOnlyUnused, IsClassFor, Keeps, Serves, ServesClass}
 use Rattle.pool_jobs.specs.declared.error.PoolError.{PoolError}
 use Rattle.pool_jobs.specs.declared.error.PoolError.TheVariants.{TooLarge, UsedUp, NoMemory}
 use Rattle.pool_jobs.proofs.Looking.{Step}
@@ -189,7 +189,7 @@ into_owner names n count old mid p q k h own =
 -- a class that has no slot is that of a size
 pub served_size : (names : Names) (n c : ℕ) (old : StationState) (e : PoolError) (new : StationState) → IsClassFor names n c
     → ServesClass names old c (Err e) new → Serves names old n (Err e) new
-served_size names n c old TooLarge new is h = absurd h
+served_size names n c old TooLarge new is h = absurd h.0
 served_size names n c old UsedUp new is h = ((c, is, h.0), h.1)
 served_size names n c old NoMemory new is h = ((c, is, h.0), h.1)
 
@@ -207,15 +207,13 @@ keeps_same names old new e d =
 -- a class that has no slot to lend has no more of them
 served_out : (names : Names) (c : ℕ) (old : StationState) (e : PoolError) (new : StationState) → ServesClass names old c (Err e) new
     → HasNoMore c new × Keeps names old new
-served_out names c old TooLarge new h = absurd h
+served_out names c old TooLarge new h = absurd h.0
 served_out names c old UsedUp new h = (inl h.0, h.1)
 served_out names c old NoMemory new h = (inr h.0, h.1)
 
 class_since : (names : Names) (old mid : StationState) (c : ℕ) (e : PoolError) (new : StationState) → Step old mid
     → ServesClass names mid c (Err e) new → ServesClass names old c (Err e) new
-class_since names old mid c TooLarge new s h = absurd h
-class_since names old mid c UsedUp new s h = (h.0, keeps_since names old mid new s h.1)
-class_since names old mid c NoMemory new s h = (h.0, keeps_since names old mid new s h.1)
+class_since names old mid c e new s h = (h.0, keeps_since names old mid new s h.1)
 
 -- none was lent, and then the class had none
 pub class_none : (names : Names) (n count c : ℕ) (old mid : StationState) (p q : ParcelState) (k : ℕ) (e : PoolError) (new : StationState) (r : ParcelState)

@@ -6,5 +6,6 @@ pub mod Largest
 pub mod Looking
 pub mod Lost
 pub mod Promised
+pub mod Refusals
 pub mod Travels
 pub mod Waits

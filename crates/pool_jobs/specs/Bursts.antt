@@ -2,10 +2,9 @@
 use Rattle.std.specs.Prelude.{◌≡◌, ◌≢◌, ℕ, ◌-◌, ◌≤◌, ◌⊎◌, List, [], ◌∷◌, ◌++◌, All, Result, Ok, Err, length, map}
 use Rattle.slot_chain.specs.Buffer.{Buffer}
 use Rattle.slot_chain.specs.Parcels.{ParcelState, unforwarded}
-use Rattle.pool_desk.specs.HomesState.{LacksClass}
 use Rattle.pool_fabric.specs.Names.{Names}
 use Rattle.pool_fabric.specs.Stations.{StationState}
-use Rattle.pool_jobs.specs.Serving.{HasOnlyUnused, IsClassFor, SameDesk, Serves}
+use Rattle.pool_jobs.specs.Serving.{HasNoMore, HasOnlyUnused, IsClassFor, SameDesk, Serves}
 use Rattle.pool_jobs.specs.declared.error.PoolError.{PoolError}
 
 -- These buffers of the desk's own were lent out, one after the other: each of the least class that holds n bytes, and
@@ -34,10 +33,6 @@ pub record LendsInto (names : Names) (n count : ℕ) (old : StationState) (p : P
 -- why no buffer comes into a parcel: none is asked for, it is another allocator's, or it has no place
 abbrev pub TakesNone : ℕ → ℕ → ParcelState → Type 0
 TakesNone count number p = (count ≡ 0) ⊎ (p.owner ≢ number) ⊎ (p.places ≤ length p.items)
-
--- no slot of the class is at home, or each one there wants memory
-abbrev pub HasNoMore : ℕ → StationState → Type 0
-HasNoMore c s = LacksClass c s.desk.home ⊎ HasOnlyUnused c s
 
 -- A class holds n bytes, and buffers of it were lent into the parcel, until it took no more; or at least one was, and
 -- then the class had no more. Or none was, for the reasons that one buffer is refused for.

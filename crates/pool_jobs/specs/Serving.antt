@@ -1,5 +1,5 @@
 -- What an allocator answers.
-use Rattle.std.specs.Prelude.{◌≡◌, ℕ, [], ◌∷◌, ◌++◌, All, Result, Ok, Err}
+use Rattle.std.specs.Prelude.{◌≡◌, ◌⊎◌, ℕ, [], ◌∷◌, ◌++◌, All, Result, Ok, Err}
 use Rattle.region_cut.specs.Classes.{IsLeastFor, NoClassFor}
 use Rattle.slot_chain.specs.Buffer.{Buffer}
 use Rattle.digit_route.specs.Profiles.{profile_of}
@@ -38,13 +38,20 @@ abbrev pub HasOnlyUnused : ℕ → StationState → Type 0
 HasOnlyUnused c s =
     HasClass c s.desk.home × All (λ (a : AtHome). class_at a ≡ c → IsUnused a) s.desk.home
 
--- A buffer of this class is lent out; or none is, since no slot of the class is at home, or each slot there wants
--- memory.
+-- no slot of the class is at home, or each one there wants memory
+abbrev pub HasNoMore : ℕ → StationState → Type 0
+HasNoMore c s = LacksClass c s.desk.home ⊎ HasOnlyUnused c s
+
+-- why no buffer of this class is lent: no slot of it is at home, or each slot there wants memory
+abbrev pub RefusesClass : ℕ → PoolError → StationState → Type 0
+RefusesClass c TooLarge s = ⊥
+RefusesClass c UsedUp s = LacksClass c s.desk.home
+RefusesClass c NoMemory s = HasOnlyUnused c s
+
+-- a buffer of this class is lent out, or none is
 abbrev pub ServesClass : Names → StationState → ℕ → Result Buffer PoolError → StationState → Type 0
 ServesClass names old c (Ok b) new = (b.class ≡ c) × LendsOut names old b new
-ServesClass names old c (Err TooLarge) new = ⊥
-ServesClass names old c (Err UsedUp) new = LacksClass c new.desk.home × Keeps names old new
-ServesClass names old c (Err NoMemory) new = HasOnlyUnused c new × Keeps names old new
+ServesClass names old c (Err e) new = RefusesClass c e new × Keeps names old new
 
 -- A buffer of the right class is lent out.
 -- Or none is: no class holds n bytes, or no slot of the class is at home, or each slot there wants memory.

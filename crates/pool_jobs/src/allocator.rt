@@ -3,14 +3,14 @@ ghost use Rattle.std.specs.Prelude.{◌≡◌, ◌≢◌, ◌<◌, ◌≤◌, �
 ghost use Rattle.region_cut.specs.Classes.{size_of, classes_of, largest_of, NoClassFor};
 ghost use Rattle.digit_route.specs.Profiles.{profile_of};
 ghost use Rattle.slot_balance.specs.Limits.{most_taken};
-ghost use Rattle.pool_jobs.specs.Serving.{IsClassFor, Keeps, SameDesk, Serves, ServesClass};
+ghost use Rattle.pool_jobs.specs.Serving.{HasNoMore, IsClassFor, Keeps, RefusesClass, SameDesk, Serves, ServesClass};
 ghost use Rattle.pool_jobs.specs.declared.error.PoolError.TheVariants.{TooLarge, UsedUp};
 
 use crate::error::PoolError;
 use crate::gate::Gate;
 use crate::waiting::Pauses;
 use batch_inbox::{Mail, Mailbox, Receiver, Sender};
-use pool_desk::{DeskError, Freed};
+use pool_desk::Freed;
 use pool_fabric::{Buffer, Fabric, HeldStation, Naming, Parcel};
 use region_cut::Class;
 use slot_chain::NoMemory;
@@ -206,12 +206,16 @@ impl<
 
     // Lends a buffer of the class where one is at home and wants no memory that isn't there.
     #[inline(always)]
-    #[tactic(auto, using(crate::proofs::Fillings::lent_empty))]
+    #[tactic(auto, using(crate::proofs::Fillings::lent_empty, crate::proofs::Refusals::has_no_more))]
     pub(crate) fn lend_at_home(&mut self, class: Class) -> Option<Buffer<'r, J>>
         requires { class < classes_of (profile_of J.names.digits.bits) }
-        ensures { MatchOption result (self.new ≡ self.old) (λ b. ServesClass J.names self.old class (Ok b) self.new) }
+        ensures { MatchOption result ((self.new ≡ self.old) × HasNoMore class self.new)
+            (λ b. ServesClass J.names self.old class (Ok b) self.new) }
     {
-        self.station.alloc_class(self.alloc, class).ok()
+        match self.station.alloc_class(self.alloc, class) {
+            Ok(buffer) => Some(buffer),
+            Err(_) => None,
+        }
     }
 
     // Fetches a slot of the class, and lends it, where none was at home or each wants memory. It answers in
@@ -220,26 +224,25 @@ impl<
     #[inline(never)]
     pub(crate) fn lend_fetched<R: Wait>(&mut self, rt: &R, class: Class) -> Option<Buffer<'r, J>>
         requires { class < classes_of (profile_of J.names.digits.bits) }
-        ensures { MatchOption result (Keeps J.names self.old self.new)
+        ensures { MatchOption result (Keeps J.names self.old self.new × HasNoMore class self.new)
             (λ b. ServesClass J.names self.old class (Ok b) self.new) }
     {
         self.fetch(rt, class);
         self.lend_at_home(class)
     }
 
-    // Why no buffer of the class is lent. Where memory has come meanwhile, one is. It is inlined: else each loan
-    // would clear a place in memory for its answer.
-    #[inline(always)]
-    #[tactic(auto, using(crate::proofs::Fillings::lent_empty))]
-    pub(crate) fn why_none(&mut self, class: Class) -> Result<Buffer<'r, J>, PoolError>
-        requires { class < classes_of (profile_of J.names.digits.bits) }
-        ensures { ServesClass J.names self.old class result self.new }
+    // Why no buffer of the class was lent. It is asked out of line, and by no call that gives a buffer: else the
+    // compiler keeps a flag for each loan.
+    #[cold]
+    #[inline(never)]
+    pub(crate) fn why_none(&self, class: Class) -> PoolError
+        requires { HasNoMore class self.now }
+        ensures { RefusesClass class result self.now }
     {
-        match self.station.alloc_class(self.alloc, class) {
-            Ok(buffer) => Ok(buffer),
-            Err(DeskError::NeedChunk(_)) => Err(PoolError::UsedUp),
-            Err(DeskError::NoMemory) => Err(PoolError::NoMemory),
-            Err(_) => unreachable!(),
+        if self.station.has_home(class) {
+            PoolError::NoMemory
+        } else {
+            PoolError::UsedUp
         }
     }
 
@@ -256,6 +259,7 @@ impl<
     // One function from here to the desk, but for what is seldom: the compiler looks at a flag behind each
     // call that may wait, inlined or not.
     #[inline(always)]
+    #[tactic(auto, using(crate::proofs::Refusals::refused))]
     pub fn alloc<R: Wait>(&mut self, rt: &R, size: usize) -> Result<Buffer<'r, J>, PoolError>
         ensures { Serves J.names self.old size result self.new }
     {
@@ -270,7 +274,7 @@ impl<
                     Some(buffer) => Ok(buffer),
                     None => match self.lend_fetched(rt, class) {
                         Some(buffer) => Ok(buffer),
-                        None => self.why_none(class),
+                        None => Err(self.why_none(class)),
                     },
                 }
             }

@@ -1,7 +1,7 @@
 //! Parcels that are filled by one call.
 ghost use Rattle.std.specs.Prelude.{◌≡◌, ◌≢◌, ◌+◌, ◌≤◌, ◌<◌, ◌⊎◌, ◌↔◌, length, IsTrue, IfOk, MatchResult};
-ghost use Rattle.pool_jobs.specs.Bursts.{Fills, HasNoMore, LendsInto, WantsNoSlot};
-ghost use Rattle.pool_jobs.specs.Serving.{IsClassFor, Keeps, ServesClass};
+ghost use Rattle.pool_jobs.specs.Bursts.{Fills, LendsInto, WantsNoSlot};
+ghost use Rattle.pool_jobs.specs.Serving.{HasNoMore, IsClassFor, Keeps, ServesClass};
 ghost use Rattle.region_cut.specs.Classes.{classes_of};
 ghost use Rattle.digit_route.specs.Profiles.{profile_of};
 ghost use Rattle.pool_jobs.specs.declared.error.PoolError.TheVariants.{UsedUp};
@@ -200,7 +200,7 @@ impl<
             Some(buffer) => buffer,
             None => match self.lend_fetched(rt, class) {
                 Some(buffer) => buffer,
-                None => self.why_none(class)?,
+                None => return Err(self.why_none(class)),
             },
         };
         let Ok(()) = parcel.push(buffer) else {
