@@ -1,6 +1,6 @@
 -- Why no buffer is lent.
-use Rattle.std.proofs.Common.{◌≡◌, ◌≢◌, ◌⊎◌, inl, inr, ⊎_elim, ℕ, List, [], ◌∷◌, All, Any, Result, Ok, Err, ap, ◌∙◌}
-use Rattle.pool_desk.specs.Homes.{AtHome, class_at}
+use Rattle.std.proofs.Common.{inl, inr, ⊎_elim, ℕ, Err, ap, ◌∙◌}
+use Rattle.pool_desk.specs.Homes.{class_at}
 use Rattle.pool_desk.specs.HomesState.{HasClass, IsWanting, LacksClass}
 use Rattle.pool_desk.specs.declared.error.DeskError.{DeskError}
 use Rattle.pool_desk.specs.declared.error.DeskError.TheVariants as Desk

@@ -1,5 +1,5 @@
 -- What the filling of a parcel does.
-use Rattle.std.specs.Prelude.{◌≡◌, ◌≢◌, ℕ, ◌-◌, ◌≤◌, ◌⊎◌, List, [], ◌∷◌, ◌++◌, All, Result, Ok, Err, length, map}
+use Rattle.std.specs.Prelude.{◌≡◌, ◌≢◌, ℕ, ◌-◌, ◌≤◌, ◌⊎◌, List, ◌++◌, All, Result, Ok, Err, length, map}
 use Rattle.slot_chain.specs.Buffer.{Buffer}
 use Rattle.slot_chain.specs.Parcels.{ParcelState, unforwarded}
 use Rattle.pool_fabric.specs.Names.{Names}

@@ -1,4 +1,4 @@
-use Rattle.std.proofs.Common.{refl, ◌∙◌}
+use Rattle.std.proofs.Common.{refl}
 use Rattle.pool_jobs.proofs.Bursts.{filled_from, keeps_same}
 use Rattle.pool_jobs.proofs.allocator.Allocator.fill.Goals as goal
 use Rattle.pool_jobs.proofs.allocator.Allocator.fill.Goals.{in-None, in-Some}
