@@ -11,6 +11,8 @@ static pthread_cond_t moved = PTHREAD_COND_INITIALIZER;
 static fv_buf queue[SLOTS];
 static size_t sent, received, flushed;
 static holders held;
+static fv_allocator producer, consumer;
+static pthread_t thread;
 
 static void *consume(void *argument) {
   fv_allocator *mine = argument;
@@ -45,7 +47,8 @@ static void alloc_waiting(fv_allocator *mine, fv_buf *buf, counts *counted) {
     uint32_t answer = fv_alloc(mine, buf, 512);
     if (answer == FV_OK) return;
     ANSWERS(answer, FV_USED_UP);
-    counted->waits++;
+    /* nobody frees before the first wait, so that there is one however the threads run */
+    if (counted->waits++ == 0) CHECK(pthread_create(&thread, NULL, consume, &consumer) == 0);
     pthread_mutex_lock(&lock);
     while (flushed == seen) pthread_cond_wait(&moved, &lock);
     pthread_mutex_unlock(&lock);
@@ -55,8 +58,6 @@ static void alloc_waiting(fv_allocator *mine, fv_buf *buf, counts *counted) {
 
 int main(void) {
   unsigned char *region = new_region(1); /* one chunk: eight slots of 512 bytes */
-  static fv_allocator producer, consumer;
-  pthread_t thread;
   counts counted = {0, 0};
   held = new_holders(region, FV_CHUNK);
   fv_pool_init(&pool);
@@ -65,7 +66,6 @@ int main(void) {
   ANSWERS(fv_pool_open(&pool, region, FV_CHUNK, 2, 6, 65536), FV_OK);
   ANSWERS(fv_pool_attach(&pool, &producer), FV_OK);
   ANSWERS(fv_pool_attach(&pool, &consumer), FV_OK);
-  CHECK(pthread_create(&thread, NULL, consume, &consumer) == 0);
   for (size_t i = 0; i < COUNT; i++) {
     fv_buf buf;
     fv_buf_init(&buf);
