@@ -8,6 +8,7 @@ import pathlib
 import re
 import shutil
 import subprocess
+import sys
 
 TOP = pathlib.Path(__file__).resolve().parent.parent
 FOLDERS = ("must-fail", "wrong-bodies")
@@ -111,9 +112,17 @@ def batch_of(edits):
     return batch or edits[:1]
 
 
+def place_of(function, text):
+    """Where the function starts and ends in this text of its file."""
+    for name, above, start, _, end in spans(text):
+        if (name, above) == (function.name, function.above):
+            return start, end
+    raise BadEdit(f"{function.file} has no function `{function.name}`")
+
+
 def lines_of(function, text):
     """The first and the last line of the function in this text of its file, with the attributes above it."""
-    start, end = next((it[2], it[4]) for it in spans(text) if it[:2] == (function.name, function.above))
+    start, end = place_of(function, text)
     first = text.count("\n", 0, start)
     lines = text.split("\n")
     while first and lines[first - 1] and not lines[first - 1].endswith(("{", "}", ";")):
@@ -135,7 +144,7 @@ def type_of(header):
 
 def proofs_of(function, text):
     """What the paths of proofs by hand for this function look like: they lie below its type's module, or its own."""
-    start = next(it[2] for it in spans(text) if it[:2] == (function.name, function.above))
+    start, _ = place_of(function, text)
     block = [it for it in BLOCK.finditer(text, 0, start)][-1:]
     if block and re.compile(r"^}", re.M).search(text, block[0].end(), start) is None:
         return re.compile(rf"proofs/(?:\w+/)*{type_of(block[0][1])}(?:[A-Z]\w*)?/{function.name}/")
@@ -171,7 +180,7 @@ def answered_by(crate, functions):
 
 def written(folder, batch, left_out=()):
     """Gives the crate in this folder the changes of the batch, and nothing else, and takes from it the files that are
-    left out; answers the texts of its files."""
+    left out; answers the texts of its files. Ends the program where a function of an edit isn't found in them."""
     texts, own = {}, TOP / "crates" / folder.name
     for path in sorted(it for part in PARTS for it in (own / part).rglob("*.*t*") if it.is_file()):
         file = str(path.relative_to(own))
@@ -185,4 +194,10 @@ def written(folder, batch, left_out=()):
         if not (folder / file).exists() or (folder / file).read_text() != text:
             (folder / file).write_text(text)
         texts[file] = text
+    for edit in batch:
+        try:
+            for function in edit.functions:
+                place_of(function, texts[function.file])
+        except BadEdit as why:
+            sys.exit(f"{edit.crate}/{edit.name}: with this edit {why}")
     return texts
