@@ -3,3 +3,4 @@ pub mod Refusals
 pub mod Views
 pub mod Order
 pub mod States
+pub mod Taking

@@ -1,10 +1,9 @@
 //! The inbox.
 ghost use Rattle.std.specs.Prelude.{◌≡◌, ℕ, ◌≤◌, [], ◌∷◌, ◌++◌};
-ghost use Rattle.std.specs.Prelude.{length, Some, slice_get, IfOk, IfErr, IfNone, IsTrue, MatchResult, MatchOption};
-ghost use Rattle.crossbeam_queue.specs.Fifo.{Learns};
+ghost use Rattle.std.specs.Prelude.{length, Some, slice_get, IfOk, IfErr, IfNone, IsTrue, MatchResult};
 ghost use Rattle.batch_inbox.specs.Limits.{sender_limit};
-ghost use Rattle.batch_inbox.specs.Order.{IsInOrder};
-ghost use Rattle.batch_inbox.specs.States.{SendState, AreSeatsOf, AreNew, left, view_of};
+ghost use Rattle.batch_inbox.specs.States.{SendState, AreSeatsOf, AreNew, left};
+ghost use Rattle.batch_inbox.specs.Taking.{IsSameSeat, TakesAtMostOne, ReceiverLearns, HoldsOfEmpty};
 ghost use Rattle.batch_inbox.specs.Views.{batches_of, place_of};
 ghost use Rattle.batch_inbox.specs.declared.error.PostError.TheVariants.{NoRoom};
 
@@ -127,10 +126,8 @@ impl<'r> Inbox<'r> {
     /// the call ([`Inbox::take_and`] has that as a clause).
     pub fn take<R: Wait>(&self, rt: &R, seat: &mut TakeSeat<'r>) -> Option<Batch<'r>>
         requires { seat.old.inbox ≡ self.now }
-        ensures seat { (seat.new.inbox ≡ seat.old.inbox) × (seat.new.senders ≡ seat.old.senders) }
-        ensures batch { MatchOption result
-            (seat.new.taken ≡ seat.old.taken)
-            (λ x. (seat.new.taken ≡ seat.old.taken ++ x ∷ []) × (place_of x ≡ self.now.place)) }
+        ensures seat { IsSameSeat seat.old seat.new }
+        ensures batch { TakesAtMostOne self.now.place seat.old.taken seat.new.taken result }
     {
         self.take_and::<Nothing, R>(rt, seat)
     }
@@ -148,12 +145,10 @@ impl<'r> Inbox<'r> {
         seat: &mut TakeSeat<'r>,
     ) -> Option<Batch<'r>>
         requires seat { seat.old.inbox ≡ self.now }
-        requires lesson { (pass : ℕ) → Learns IsInOrder pass (view_of seat.old) (L.fact (view_of seat.old)) }
-        ensures seat { (seat.new.inbox ≡ seat.old.inbox) × (seat.new.senders ≡ seat.old.senders) }
-        ensures batch { MatchOption result
-            (seat.new.taken ≡ seat.old.taken)
-            (λ x. (seat.new.taken ≡ seat.old.taken ++ x ∷ []) × (place_of x ≡ self.now.place)) }
-        ensures empty { IfNone result (L.fact (view_of seat.old) []) }
+        requires lesson { ReceiverLearns seat.old L.fact }
+        ensures seat { IsSameSeat seat.old seat.new }
+        ensures batch { TakesAtMostOne self.now.place seat.old.taken seat.new.taken result }
+        ensures empty { IfNone result (HoldsOfEmpty seat.old L.fact) }
     {
         if self.is_empty::<L>(seat) {
             return None;
@@ -166,9 +161,9 @@ impl<'r> Inbox<'r> {
     #[inline(always)]
     fn is_empty<L: Lesson<Batch<'r>, View<'r>>>(&self, seat: &mut TakeSeat<'r>) -> bool
         requires seat { seat.old.inbox ≡ self.now }
-        requires lesson { (pass : ℕ) → Learns IsInOrder pass (view_of seat.old) (L.fact (view_of seat.old)) }
+        requires lesson { ReceiverLearns seat.old L.fact }
         ensures same { seat.new ≡ seat.old }
-        ensures empty { IsTrue result → L.fact (view_of seat.old) [] }
+        ensures empty { IsTrue result → HoldsOfEmpty seat.old L.fact }
     {
         self.queue.is_empty_as::<L>(&mut seat.pass)
     }
@@ -181,12 +176,10 @@ impl<'r> Inbox<'r> {
         seat: &mut TakeSeat<'r>,
     ) -> Option<Batch<'r>>
         requires seat { seat.old.inbox ≡ self.now }
-        requires lesson { (pass : ℕ) → Learns IsInOrder pass (view_of seat.old) (L.fact (view_of seat.old)) }
-        ensures seat { (seat.new.inbox ≡ seat.old.inbox) × (seat.new.senders ≡ seat.old.senders) }
-        ensures batch { MatchOption result
-            (seat.new.taken ≡ seat.old.taken)
-            (λ x. (seat.new.taken ≡ seat.old.taken ++ x ∷ []) × (place_of x ≡ self.now.place)) }
-        ensures empty { IfNone result (L.fact (view_of seat.old) []) }
+        requires lesson { ReceiverLearns seat.old L.fact }
+        ensures seat { IsSameSeat seat.old seat.new }
+        ensures batch { TakesAtMostOne self.now.place seat.old.taken seat.new.taken result }
+        ensures empty { IfNone result (HoldsOfEmpty seat.old L.fact) }
     {
         self.queue.pop_as::<Takes<L>, R>(rt, &mut seat.pass)
     }

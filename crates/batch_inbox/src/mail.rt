@@ -5,6 +5,7 @@
 ghost use Rattle.std.specs.Prelude.{◌≡◌, ℕ, true, ◌≤◌, [], ◌∷◌, ◌++◌, length};
 ghost use Rattle.std.specs.Prelude.{Some, slice_get, MatchResult, MatchOption};
 ghost use Rattle.batch_inbox.specs.States.{SendState, AreSeatsOf, left};
+ghost use Rattle.batch_inbox.specs.Taking.{TakesAtMostOne};
 ghost use Rattle.batch_inbox.specs.Views.{batches_of, place_of};
 
 use crate::{Inbox, PostError, Rest, SendSeat, TakeSeat};
@@ -108,10 +109,8 @@ pub trait Mail<'r>: Mailbox {
         requires { Self.TakeSeat.inbox seat.old ≡ Self.id self.now }
         ensures seat { (Self.TakeSeat.inbox seat.new ≡ Self.TakeSeat.inbox seat.old)
             × (Self.TakeSeat.senders seat.new ≡ Self.TakeSeat.senders seat.old) }
-        ensures batch { MatchOption result
-            (Self.TakeSeat.taken seat.new ≡ Self.TakeSeat.taken seat.old)
-            (λ x. (Self.TakeSeat.taken seat.new ≡ Self.TakeSeat.taken seat.old ++ x ∷ [])
-            × (place_of x ≡ (Self.id self.now).place)) };
+        ensures batch { TakesAtMostOne (Self.id self.now).place
+            (Self.TakeSeat.taken seat.old) (Self.TakeSeat.taken seat.new) result };
 
     /// Leaves the memory of a batch that was taken to those who send here. It may be let go instead.
     fn return_empty<R: Wait>(&self, rt: &R, seat: &mut Self::TakeSeat, empty: EmptyMagazine<'r>)

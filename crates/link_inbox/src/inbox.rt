@@ -1,8 +1,9 @@
 //! The inbox.
 ghost use Rattle.std.specs.Prelude.{◌≡◌, ℕ, ◌≤◌, [], ◌∷◌, ◌++◌};
-ghost use Rattle.std.specs.Prelude.{length, Some, None, IfOk, IfErr, MatchResult, MatchOption};
+ghost use Rattle.std.specs.Prelude.{length, Some, None, IfOk, IfErr, MatchResult};
 ghost use Rattle.atomic_table.specs.Table.{rest};
 ghost use Rattle.batch_inbox.specs.Limits.{sender_limit};
+ghost use Rattle.batch_inbox.specs.Taking.{IsSameSeat, TakesAtMostOne};
 ghost use Rattle.batch_inbox.specs.Views.{place_of};
 ghost use Rattle.batch_inbox.specs.declared.error.PostError.TheVariants.{NoNode};
 ghost use Rattle.link_inbox.specs.States.{AreSeatsOf, AreNew, AreAtRest};
@@ -169,10 +170,8 @@ impl<'r> LinkInbox<'r> {
     /// and one store where there is a batch.
     pub fn take(&self, seat: &mut TakeSeat<'r>) -> Option<Batch<'r>>
         requires { seat.old.inbox ≡ self.now }
-        ensures seat { (seat.new.inbox ≡ seat.old.inbox) × (seat.new.senders ≡ seat.old.senders) }
-        ensures batch { MatchOption result
-            (seat.new.taken ≡ seat.old.taken)
-            (λ x. (seat.new.taken ≡ seat.old.taken ++ x ∷ []) × (place_of x ≡ self.now.place)) }
+        ensures seat { IsSameSeat seat.old seat.new }
+        ensures batch { TakesAtMostOne self.now.place seat.old.taken seat.new.taken result }
     {
         let words = &self.nodes.shared;
         let front = seat.front;
