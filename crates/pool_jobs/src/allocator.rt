@@ -21,8 +21,8 @@ use std::time::{Clock, Duration, Instant};
 use std::{fmt, io};
 
 // How many buffers are lent between two looks into the inbox, where slots of each class are at home all
-// the while.
-const LOOK_EVERY: u64 = 64;
+// the while. A batch has hundreds, so most looks find none.
+const LOOK_EVERY: u64 = 128;
 
 // How often it looks again where the stock is empty.
 const MOST_LOOKS: u32 = 64;
@@ -128,7 +128,7 @@ impl<
     }
 
     // Whether it is time for a look into the inbox, where so many buffers are asked for: one of them is the
-    // next after 64 others.
+    // next after 128 others.
     #[inline(always)]
     pub(crate) fn is_to_look(&self, count: u64) -> bool {
         let lent = self.station.lent_count() % LOOK_EVERY;
@@ -250,7 +250,7 @@ impl<
     ///
     /// It lends a slot at home. Where its class has none there, it takes what came, as [`Allocator::collect`]
     /// does, and draws a chunk of the stock where that brings none; where the stock is empty it takes on.
-    /// After each 64 buffers that it lends it looks into the inbox, so that no sender waits until this
+    /// After each 128 buffers that it lends it looks into the inbox, so that no sender waits until this
     /// allocator runs out of a class.
     ///
     /// [`PoolError::TooLarge`]: no class is large enough. [`PoolError::UsedUp`]: no slot of the class

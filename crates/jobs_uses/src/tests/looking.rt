@@ -15,17 +15,17 @@ fn batches_left<R: AllocGlobal + Wait>(rt: &R, trial: Trial) -> Result<u32, Fail
     Ok(looked.batches.ok().ok_or("a buffer")?)
 }
 
-// Two buffers were lent before: with 62 more, 64 are. Refuses an allocator that looks at each loan.
+// Two buffers were lent before: with 126 more, 128 are. Refuses an allocator that looks at each loan.
 #[test]
-fn sixty_four_loans_bring_no_look(rt: HostRuntime) -> Result<(), Fail> {
-    assert_eq!(rt; batches_left(&rt, Trial::Look(62))?, 1);
+fn no_look_before_the_129th_loan(rt: HostRuntime) -> Result<(), Fail> {
+    assert_eq!(rt; batches_left(&rt, Trial::Look(126))?, 1);
     Ok(())
 }
 
 // Refuses an allocator that looks only where a class runs out.
 #[test]
-fn the_next_loan_brings_one(rt: HostRuntime) -> Result<(), Fail> {
-    assert_eq!(rt; batches_left(&rt, Trial::Look(63))?, 0);
+fn the_129th_loan_brings_a_look(rt: HostRuntime) -> Result<(), Fail> {
+    assert_eq!(rt; batches_left(&rt, Trial::Look(127))?, 0);
     Ok(())
 }
 
