@@ -28,7 +28,7 @@ from refused_memory import LIBRARY, spread
 
 TOP = pathlib.Path(__file__).resolve().parent.parent
 SECONDS = 60
-PROGRAMS = ["first_pool", "pipeline", "example_decoder", "example_shipper"]
+PROGRAMS = ["first_pool", "line_search", "pipeline", "example_decoder", "example_shipper"]
 GOES_ON = {"first_pool", "pipeline"}
 ENDS_WITH = {"example_decoder": (1, 3)}
 

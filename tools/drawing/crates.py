@@ -31,6 +31,7 @@ WORDS = {
     "fustrevol": "what programs name",
     "pipeline": "program, with parcels",
     "first_pool": "the README's program",
+    "line_search": "reads and prints",
     "syslog_lines": "lines of logs",
     "example_shipper": "ships logs",
     "packet_headers": "headers of packets",

@@ -27,11 +27,11 @@ impl Task for Stage {
         8
     }
 
-    fn run<H: Heap, R: Wait + Clock>(self, rt: &R, heap: &mut H, to: Edges<H>) -> Self::Answer {
+    fn run<H: Heap, R: Wait + Clock>(self, rt: &R, heap: &mut H, edges: Edges<H>) -> Self::Answer {
         match self {
-            Stage::Fill => fill(rt, heap, &to),
-            Stage::Look => Ok(look(rt, heap, &to, Some(2))),
-            Stage::Check => Ok(look(rt, heap, &to, None)),
+            Stage::Fill => fill(rt, heap, &edges),
+            Stage::Look => Ok(look(rt, heap, &edges, Some(2))),
+            Stage::Check => Ok(look(rt, heap, &edges, None)),
         }
     }
 }
@@ -54,17 +54,33 @@ fn packet<H: Heap, R: Wait + Clock>(rt: &R, heap: &mut H, n: u32) -> Result<H::B
     Ok(buffer)
 }
 
-fn fill<H: Heap, R: Wait + Clock>(rt: &R, heap: &mut H, to: &Edges<H>) -> <Stage as Task>::Answer {
+// Puts 25 packets into a parcel, of this number and those behind it.
+fn pack<H: Heap, R: Wait + Clock>(
+    rt: &R,
+    heap: &mut H,
+    parcel: &mut H::Parcel,
+    first: u32,
+) -> Result<(), PoolError> {
+    for n in 0..25 {
+        let _full = parcel.push(packet(rt, heap, first.wrapping_add(n))?);
+    }
+    Ok(())
+}
+
+fn fill<H: Heap, R: Wait + Clock>(
+    rt: &R,
+    heap: &mut H,
+    edges: &Edges<H>,
+) -> <Stage as Task>::Answer {
     for burst in 0..40 {
         let mut parcel = heap.parcel(25)?;
-        for n in 0..25 {
-            let _full = parcel.push(packet(rt, heap, 25 * burst + n)?);
-        }
-        to.send_or_free(rt, heap, 1, Message::Parcel(parcel));
+        let packed = pack(rt, heap, &mut parcel, 25 * burst);
+        edges.send_or_free(rt, heap, 1, Message::Parcel(parcel)); // a `?` before would lose it
+        packed?;
     }
     for n in 1_000..2_000 {
         let buffer = packet(rt, heap, n)?;
-        to.send_or_free(rt, heap, 1, Message::Buffer(buffer));
+        edges.send_or_free(rt, heap, 1, Message::Buffer(buffer));
     }
     Ok((2_000, 1_998))
 }
@@ -78,10 +94,15 @@ fn see(seen: &mut (u32, u32), data: &[u8]) {
 }
 
 // Looks at each packet, and hands it on or frees it.
-fn look<H: Heap, R: Wait>(rt: &R, heap: &mut H, to: &Edges<H>, next: Option<usize>) -> (u32, u32) {
+fn look<H: Heap, R: Wait>(
+    rt: &R,
+    heap: &mut H,
+    edges: &Edges<H>,
+    next: Option<usize>,
+) -> (u32, u32) {
     let mut seen = (0, 0);
     for _ in rt.forever() {
-        let Some(message) = to.receive(rt, heap) else {
+        let Some(message) = edges.receive(rt, heap) else {
             break;
         };
         match &message {
@@ -95,7 +116,7 @@ fn look<H: Heap, R: Wait>(rt: &R, heap: &mut H, to: &Edges<H>, next: Option<usiz
         match next {
             None => message.free(rt, heap),
             Some(next) => {
-                to.send_or_free(rt, heap, next, message);
+                edges.send_or_free(rt, heap, next, message);
             }
         }
     }
