@@ -1,11 +1,12 @@
 -- The homes of all classes, joined.
 use Rattle.std.proofs.Common.{◌≡◌, ◌≢◌, ℕ, zero, suc, ◌<◌, List, [], ◌∷◌, ◌++◌, length, get_or, set, refl, sym, ap, ◌∙◌, subst, arith, append_assoc, append-nil, All, IsPermutation, ◌⊎◌, inl, inr, ⊎_elim}
-use Rattle.std.specs.Prelude.{Any, Contains, Option, Some, None, MatchOption, Result, Ok, Err, MatchResult, map}
+use Rattle.std.specs.Prelude.{Any, Bool, true, false, Contains, IsTrue, ◌↔◌, Option, Some, None, MatchBool, MatchOption, Result, Ok, Err, MatchResult, map}
+use Rattle.std.proofs.lemmas.Bool.{false≢true}
 use Rattle.std.specs.List.{flat_map}
 use Rattle.std.proofs.lemmas.List.{get_or-set_same, get_or-set_other, length-append, length-set, get_or_append_left}
 use Rattle.std.proofs.Math.Seq.{get_or-append_seam}
 use Rattle.std.proofs.lemmas.Grind.{flat_map-append}
-use Rattle.std.proofs.lemmas.List.Elements.{All-append, All-contains, All-contains_itself, All-nil, All-weaker, Contains-append_right}
+use Rattle.std.proofs.lemmas.List.Elements.{All-append, All-cons, All-contains, All-contains_itself, All-nil, All-weaker, Contains-append_right}
 use Rattle.std.proofs.lemmas.List.Sorted.{IsPermutation-refl, IsPermutation-sym, IsPermutation-trans, IsPermutation-append_left, IsPermutation-append_right, IsPermutation-append_comm, Contains-permutation, All-permutation}
 use Rattle.region_cut.specs.Carved.{Carved}
 use Rattle.region_cut.specs.Classes.{class_count, slots_of}
@@ -16,7 +17,7 @@ use Rattle.pool_desk.specs.declared.error.DeskError.{DeskError}
 use Rattle.pool_desk.specs.declared.error.DeskError.TheVariants.{TooLarge, NeedChunk, NotNeeded, Unsettled, NoMemory}
 use Rattle.pool_desk.specs.Homes.{AtHome, HomeState, IsAtHome, IsReady, LiesIn, IsOwn, GivesOne, Names, Draws, IsUncut, class_at, IsUnused, IsRefused, unused_from}
 use Rattle.pool_desk.specs.Homes.AtHome.{Kept, Fresh}
-use Rattle.pool_desk.specs.HomesState.{HomesState, slots_of_home, drawn_at, no_home, home_at, empties, IsHome, AreHomes, HasClass, LacksClass, IsWanting}
+use Rattle.pool_desk.specs.HomesState.{HomesState, slots_of_home, drawn_at, no_home, home_at, empties, IsHome, AreHomes, HasChunk, LacksChunk, HasClass, LacksClass, IsWanting}
 use Rattle.pool_desk.specs.Spares.{IsFitting}
 use Rattle.pool_desk.proofs.HomeLaws.{unused_class}
 
@@ -157,14 +158,30 @@ none_joined owner k hs are l none =
 abbrev pub with_slots : HomeState → List AtHome → List Carved → HomeState
 with_slots h slots drawn = record h { slots = slots; drawn = drawn }
 
-are_with : (owner k : ℕ) (hs : List HomeState) (slots : List AtHome) (drawn : List Carved) → AreHomes owner hs → k < class_count → All (IsAtHome owner k) slots
-    → AreHomes owner (set hs k (with_slots (home_at hs k) slots drawn))
-are_with owner k hs slots drawn are l all =
-    are_set owner k hs (with_slots (home_at hs k) slots drawn) are l
-    (record { owner_is = (are.each k l).owner_is; class_is = (are.each k l).class_is; each = all })
-
 All-tail : {X : Type 0} (P : X → Type 0) (x : X) (xs : List X) → All P (x ∷ xs) → All P xs
 All-tail P x xs h = λ k d l. h (suc k) d (omega (arith, l))
+
+-- this chunk was drawn for the class
+abbrev pub IsFor : ℕ → Carved → Type 0
+IsFor class c = c.class ≡ class
+
+are_with : (owner k : ℕ) (hs : List HomeState) (slots : List AtHome) (drawn : List Carved) → AreHomes owner hs → k < class_count → All (IsAtHome owner k) slots
+    → All (IsFor k) drawn → AreHomes owner (set hs k (with_slots (home_at hs k) slots drawn))
+are_with owner k hs slots drawn are l all chunks =
+    are_set owner k hs (with_slots (home_at hs k) slots drawn) are l
+    (record { owner_is = (are.each k l).owner_is; class_is = (are.each k l).class_is; each = all; chunks = chunks })
+
+-- a chunk that gives a slot stays the class's
+names_chunks : (k : ℕ) (from : AtHome) (b : Buffer) (old new : List Carved) → All (IsFor k) old → Names from b old new → All (IsFor k) new
+names_chunks k (Kept a) b old new all same = rw same all
+names_chunks k (Fresh u) b old new all t =
+    let before : All (IsFor k) (t.from ∷ t.others) = All-permutation (IsFor k) old (t.from ∷ t.others) t.before all in
+    All-permutation (IsFor k) _ new (IsPermutation-sym _ _ t.after)
+    (All-cons (IsFor k) _ t.others (before 0 t.from (omega arith)) (All-tail (IsFor k) t.from t.others before))
+
+-- so does one that is drawn for it
+draws_chunks : (k : ℕ) (part : Part) (old new : List Carved) → All (IsFor k) old → Draws part k old new → All (IsFor k) new
+draws_chunks k part old new all d = All-permutation (IsFor k) (d.drawn ∷ old) new d.added (All-cons (IsFor k) d.drawn old d.uncut.class_is all)
 
 some_any : {X : Type 0} (P : X → Type 0) (xs ys : List X) → xs ≢ [] → All P xs → Any P (xs ++ ys)
 some_any P [] ys ne all = absurd (ne refl)
@@ -191,6 +208,30 @@ lacking owner k hs are l none =
 
 pub lacks_joined : (owner k : ℕ) (hs : List HomeState) → AreHomes owner hs → k < class_count → (HasClass k (flat_map slots_of_home hs) → ⊥) → LacksClass k (flat_map slots_of_home hs)
 lacks_joined owner k hs are l none = none_joined owner k hs are l (lacking owner k hs are l none)
+
+-- a chunk of class k is there where the home k has one
+chunk_joined : (owner k : ℕ) (hs : List HomeState) → AreHomes owner hs → k < class_count → (home_at hs k).drawn ≢ [] → HasChunk k (flat_map drawn_at hs)
+chunk_joined owner k hs are l ne =
+    Any-permutation (IsFor k) _ _ (IsPermutation-sym _ _ (apart drawn_at hs k (rw are.count l)))
+    (some_any (IsFor k) (home_at hs k).drawn (without drawn_at hs k) ne (are.each k l).chunks)
+
+-- what holds of each chunk of each home
+All-chunks : (P : Carved → Type 0) (hs : List HomeState) → ((k : ℕ) → k < length hs → All P (home_at hs k).drawn) → All P (flat_map drawn_at hs)
+All-chunks P [] each = All-nil P
+All-chunks P (h ∷ hs) each = All-append P h.drawn (flat_map drawn_at hs) (each 0 (omega arith)) (All-chunks P hs (λ k l. each (suc k) (omega arith)))
+
+none_chunked : (owner k : ℕ) (hs : List HomeState) → AreHomes owner hs → k < class_count → (home_at hs k).drawn ≡ [] → LacksChunk k (flat_map drawn_at hs)
+none_chunked owner k hs are l none =
+    All-chunks (λ (c : Carved). c.class ≢ k) hs (λ j m. split_at (same_or_not k j)
+    (λ (e : k ≡ j). rw (← e, none) (All-nil _))
+    (λ (ne : k ≢ j). All-weaker (IsFor j) (λ (c : Carved). c.class ≢ k) (λ c is e. ne (sym e ∙ is)) (home_at hs j).drawn (are.each j (rw are.count at m)).chunks))
+
+-- whether the home k has a chunk says whether class k has one
+pub chunk_told : (owner k : ℕ) (hs : List HomeState) (r : Bool) → AreHomes owner hs → k < class_count → (IsTrue r ↔ ((home_at hs k).drawn ≢ []))
+    → MatchBool r (HasChunk k (flat_map drawn_at hs)) (LacksChunk k (flat_map drawn_at hs))
+chunk_told owner k hs true are l is = chunk_joined owner k hs are l (is.0 refl)
+chunk_told owner k hs false are l is =
+    none_chunked owner k hs are l (split_at (none_or (home_at hs k).drawn) (λ e. e) (λ ne. absurd (false≢true (is.1 ne))))
 
 unused_joined : (owner k : ℕ) (hs : List HomeState) → AreHomes owner hs → k < class_count → All IsUnused (home_at hs k).slots
     → All (λ (s : AtHome). class_at s ≡ k → IsUnused s) (flat_map slots_of_home hs)
@@ -219,7 +260,8 @@ alloc_keeps owner k hs hs' (Ok b) are l same g =
     subst (AreHomes owner) (sym same)
     (are_with owner k hs (home_at hs' k).slots (home_at hs' k).drawn are l
     (All-tail (IsAtHome owner k) g.from (home_at hs' k).slots
-    (All-permutation (IsAtHome owner k) (home_at hs k).slots (g.from ∷ (home_at hs' k).slots) g.others (are.each k l).each)))
+    (All-permutation (IsAtHome owner k) (home_at hs k).slots (g.from ∷ (home_at hs' k).slots) g.others (are.each k l).each))
+    (names_chunks k g.from b (home_at hs k).drawn (home_at hs' k).drawn (are.each k l).chunks g.names))
 alloc_keeps owner k hs hs' (Err e) are l same g = subst (AreHomes owner) (sym g.1) are
 
 -- what the homes show
@@ -241,11 +283,14 @@ abbrev pub claimed : Part → ℕ → List AtHome
 claimed part class = unused_from part.chunk class part.bytes.ghost_name (slots_of class) 0 part.bytes.now
 
 pub claim_keeps : (owner : ℕ) (part : Part) (k : ℕ) (hs hs' : List HomeState) → AreHomes owner hs → k < class_count
-    → hs' ≡ set hs k (with_slots (home_at hs k) (claimed part (home_at hs k).class) (home_at hs' k).drawn) → AreHomes owner hs'
-claim_keeps owner part k hs hs' are l same =
+    → hs' ≡ set hs k (with_slots (home_at hs k) (claimed part (home_at hs k).class) (home_at hs' k).drawn)
+    → Draws part (home_at hs k).class (home_at hs k).drawn (home_at hs' k).drawn → AreHomes owner hs'
+claim_keeps owner part k hs hs' are l same d =
+    let drawn : Draws part k (home_at hs k).drawn (home_at hs' k).drawn = subst (λ c. Draws part c (home_at hs k).drawn (home_at hs' k).drawn) (are.each k l).class_is d in
     subst (AreHomes owner) (sym same)
     (are_with owner k hs _ _ are l (subst (λ c. All (IsAtHome owner k) (claimed part c)) (sym (are.each k l).class_is)
-    (unused_class owner part.chunk k part.bytes.ghost_name (slots_of k) 0 part.bytes.now)))
+    (unused_class owner part.chunk k part.bytes.ghost_name (slots_of k) 0 part.bytes.now))
+    (draws_chunks k part (home_at hs k).drawn (home_at hs' k).drawn (are.each k l).chunks drawn))
 
 pub claim_slots : (owner : ℕ) (part : Part) (k : ℕ) (hs hs' : List HomeState) → AreHomes owner hs → k < class_count → (home_at hs k).slots ≡ []
     → hs' ≡ set hs k (with_slots (home_at hs k) (claimed part (home_at hs k).class) (home_at hs' k).drawn)
@@ -277,7 +322,8 @@ pub keep_keeps : (owner k : ℕ) (hs hs' : List HomeState) (come : List AtHome) 
 keep_keeps owner k hs hs' come are l own same p =
     subst (AreHomes owner) (sym same)
     (are_with owner k hs (home_at hs' k).slots (home_at hs k).drawn are l
-    (All-permutation (IsAtHome owner k) (come ++ (home_at hs k).slots) (home_at hs' k).slots p (All-append (IsAtHome owner k) come _ own (are.each k l).each)))
+    (All-permutation (IsAtHome owner k) (come ++ (home_at hs k).slots) (home_at hs' k).slots p (All-append (IsAtHome owner k) come _ own (are.each k l).each))
+    (are.each k l).chunks)
 
 pub keep_slots : (owner k : ℕ) (hs hs' : List HomeState) (come : List AtHome) → AreHomes owner hs → k < class_count
     → hs' ≡ set hs k (with_slots (home_at hs k) (home_at hs' k).slots (home_at hs k).drawn)
@@ -311,7 +357,8 @@ take_keeps owner most places k hs hs' (Some a) are l same t =
     subst (AreHomes owner) (sym same)
     (are_with owner k hs (home_at hs' k).slots (home_at hs k).drawn are l
     (All-behind (IsAtHome owner k) (map {A = Buffer} {B = AtHome} (λ x. Kept x) a.items) (home_at hs' k).slots
-    (All-permutation (IsAtHome owner k) (home_at hs k).slots _ t.2 (are.each k l).each)))
+    (All-permutation (IsAtHome owner k) (home_at hs k).slots _ t.2 (are.each k l).each))
+    (are.each k l).chunks)
 
 pub take_shown : (owner most places k : ℕ) (hs hs' : List HomeState) (o : Option ParcelState) → AreHomes owner hs → k < class_count
     → hs' ≡ set hs k (with_slots (home_at hs k) (home_at hs' k).slots (home_at hs k).drawn) → TakesAt most places k hs o hs'
@@ -348,5 +395,5 @@ empties_drawn owner (suc n) = flat_map-append drawn_at (empties owner n) _ ∙ (
 pub empties_are : (owner : ℕ) → AreHomes owner (empties owner class_count)
 empties_are owner = record {
   count = empties_length owner class_count;
-  each = λ k l. rw (empties_at owner class_count k l) (record { owner_is = refl; class_is = refl; each = All-nil _ });
+  each = λ k l. rw (empties_at owner class_count k l) (record { owner_is = refl; class_is = refl; each = All-nil _; chunks = All-nil _ });
 }

@@ -29,11 +29,12 @@ unfoldable pub empties : ℕ → ℕ → List HomeState
 empties owner zero = []
 empties owner (suc n) = empties owner n ++ record { owner = owner; class = n; slots = []; drawn = [] } ∷ []
 
--- the home has slots of this owner and class alone
+-- the home has slots of this owner and class alone, and its chunks were drawn for the class
 pub record IsHome (owner class : ℕ) (h : HomeState) : Type 0 where
   pub owner_is : h.owner ≡ owner
   pub class_is : h.class ≡ class
   pub each : All (IsAtHome owner class) h.slots
+  pub chunks : All (λ (c : Carved). c.class ≡ class) h.drawn
 
 -- one home for each class, in order
 pub record AreHomes (owner : ℕ) (hs : List HomeState) : Type 0 where
@@ -46,6 +47,13 @@ HasClass class slots = Any (λ (s : AtHome). class_at s ≡ class) slots
 
 abbrev pub LacksClass : ℕ → List AtHome → Type 0
 LacksClass class slots = All (λ (s : AtHome). class_at s ≢ class) slots
+
+-- a chunk was drawn for the class, and none was
+abbrev pub HasChunk : ℕ → List Carved → Type 0
+HasChunk class drawn = Any (λ (c : Carved). c.class ≡ class) drawn
+
+abbrev pub LacksChunk : ℕ → List Carved → Type 0
+LacksChunk class drawn = All (λ (c : Carved). c.class ≢ class) drawn
 
 -- why no slot of the class is given out: none is there, or memory was refused where those that are there were never
 -- handed out

@@ -9,7 +9,7 @@ ghost use Rattle.digit_route.specs.Limits.{largest_limit};
 ghost use Rattle.digit_route.specs.Route.{IsCached, RouteFault};
 ghost use Rattle.slot_chain.specs.Slots.{AddsSlots, slot_of};
 ghost use Rattle.digit_route.specs.Route.{GivesBucket};
-ghost use Rattle.pool_desk.specs.HomesState.{HasClass};
+ghost use Rattle.pool_desk.specs.HomesState.{HasChunk, LacksChunk, HasClass};
 ghost use Rattle.pool_desk.specs.Desks.{profile_at};
 ghost use Rattle.pool_desk.specs.Homes.{IsOwn, comes_home, kept_in};
 ghost use Rattle.pool_desk.specs.Slots.{slots_in};
@@ -121,6 +121,14 @@ impl<'r> Desk<'r> {
         ensures { IsTrue result ↔ HasClass class self.now.home }
     {
         self.homes.has(class)
+    }
+
+    /// Whether a chunk was ever claimed for the class. Where none was and none is left to be claimed, no slot of
+    /// the class will ever come home. Takes constant time.
+    pub fn has_drawn(&self, class: Class) -> bool
+        ensures { MatchBool result (HasChunk class self.now.drawn) (LacksChunk class self.now.drawn) }
+    {
+        self.homes.has_drawn(class)
     }
 
     /// Takes a part for a class that has no slot at home, and hands it back with

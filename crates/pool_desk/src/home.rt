@@ -53,9 +53,10 @@ pub(crate) struct Home<'r> {
 }
 
 impl<'r> Model for Home<'r> {
-    ghost use Rattle.std.specs.Prelude.{◌≡◌, ◌++◌, ◌<◌, map, All, IfSome};
+    ghost use Rattle.std.specs.Prelude.{◌≡◌, [], ◌++◌, ◌<◌, map, All, IfSome, None};
     ghost use Rattle.slot_chain.specs.Buffer.{Buffer, owner_limit};
     ghost use Rattle.region_cut.specs.declared.part.Bump.{Bump};
+    ghost use Rattle.region_cut.specs.Carved.{Carved};
     ghost use Rattle.pool_desk.specs.Homes.{HomeState, AtHome, IsReady, LiesIn, unused, open_chunk};
     ghost use Rattle.pool_desk.specs.Homes.AtHome.{Kept};
 
@@ -71,7 +72,9 @@ impl<'r> Model for Home<'r> {
     ghost invariant = { λ h. (h.owner < owner_limit)
         × All (LiesIn h.owner h.class) h.list
         × All (IsReady h.owner h.class) h.whole
-        × IfSome h.bump (λ (b : Bump). b.class ≡ h.class) };
+        × IfSome h.bump (λ (b : Bump). b.class ≡ h.class)
+        × All (λ (c : Carved). c.class ≡ h.class) h.ties.all
+        × (h.bump ≡ None → h.ties.all ≡ []) };
 }
 
 impl Default for Home<'_> {
@@ -117,6 +120,13 @@ impl<'r> Home<'r> {
             None => false,
             Some(bump) => bump.left() > 0,
         }
+    }
+
+    /// Whether it ever took a part.
+    pub(crate) fn has_drawn(&self) -> bool
+        ensures { IsTrue result ↔ (self.now.drawn ≢ []) }
+    {
+        self.bump.is_some()
     }
 
     /// Takes a part for the class, where no slot is there.

@@ -1,5 +1,5 @@
 //! All slots at home of one owner.
-ghost use Rattle.std.specs.Prelude.{◌≡◌, ◌≢◌, ◌<◌, ◌↔◌, [], ◌∷◌, ◌++◌, IsTrue, IsPermutation, IfSome, MatchOption, MatchResult, OnOk};
+ghost use Rattle.std.specs.Prelude.{◌≡◌, ◌≢◌, ◌<◌, ◌↔◌, [], ◌∷◌, ◌++◌, IsTrue, IsPermutation, IfSome, MatchBool, MatchOption, MatchResult, OnOk};
 ghost use Rattle.std.specs.Prelude.{OnErr, All, length, map};
 ghost use Rattle.region_cut.specs.Classes.{slots_of};
 ghost use Rattle.slot_chain.specs.Buffer.{Buffer, ended_of, owner_limit};
@@ -9,7 +9,7 @@ ghost use Rattle.pool_desk.specs.Homes.{Draws, GivesOne, IsOwn, IsReady, comes_h
 ghost use Rattle.pool_desk.specs.Spares.{IsFitting};
 ghost use Rattle.pool_desk.specs.Homes.AtHome.{Kept};
 ghost use Rattle.slot_chain.specs.Slots.{AddsSlots};
-ghost use Rattle.pool_desk.specs.HomesState.{HasClass, LacksClass, IsWanting};
+ghost use Rattle.pool_desk.specs.HomesState.{HasChunk, LacksChunk, HasClass, LacksClass, IsWanting};
 
 use crate::DeskError;
 use crate::by_class::{ByClass, add_all, count_all, empty_homes, end_all};
@@ -77,6 +77,13 @@ impl<'r> Homes<'r> {
         ensures { IsTrue result ↔ HasClass class self.now.slots }
     {
         self.by_class[class.number() as usize].has()
+    }
+
+    /// Whether a part was ever taken for the class.
+    pub(crate) fn has_drawn(&self, class: Class) -> bool
+        ensures { MatchBool result (HasChunk class self.now.drawn) (LacksChunk class self.now.drawn) }
+    {
+        self.by_class[class.number() as usize].has_drawn()
     }
 
     /// Takes a part for a class of which no slot is there.

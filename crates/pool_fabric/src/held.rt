@@ -1,9 +1,9 @@
 //! A station that a worker holds.
-ghost use Rattle.std.specs.Prelude.{◌≡◌, ◌≢◌, ◌<◌, ◌≤◌, ◌%◌, ◌^◌, ◌↔◌, [], length, IsTrue, MatchResult, IfOk};
+ghost use Rattle.std.specs.Prelude.{◌≡◌, ◌≢◌, ◌<◌, ◌≤◌, ◌%◌, ◌^◌, ◌↔◌, [], length, IsTrue, MatchBool, MatchResult, IfOk};
 ghost use Rattle.slot_chain.specs.Counts.{capped, sizes};
 ghost use Rattle.region_cut.specs.Classes.{classes_of};
 ghost use Rattle.pool_desk.specs.Desks.{profile_at};
-ghost use Rattle.pool_desk.specs.HomesState.{HasClass};
+ghost use Rattle.pool_desk.specs.HomesState.{HasChunk, LacksChunk, HasClass};
 ghost use Rattle.pool_fabric.specs.Calls.{Lends, LendsClass, LendsParcel, TakesAllBack, TakesBack};
 
 use crate::buffer::Buffer;
@@ -93,6 +93,13 @@ impl<'r, T: Receiver, S: Sender, J: Naming> HeldStation<'r, T, S, J> {
         ensures { IsTrue result ↔ HasClass class self.now.desk.home }
     {
         self.desk.has_home(class)
+    }
+
+    /// Whether a chunk was ever claimed for the class, as [`Desk::has_drawn`] tells it.
+    pub fn has_drawn(&self, class: Class) -> bool
+        ensures { MatchBool result (HasChunk class self.now.desk.drawn) (LacksChunk class self.now.desk.drawn) }
+    {
+        self.desk.has_drawn(class)
     }
 
     /// How many buffers it lent, modulo 2^64.

@@ -36,7 +36,11 @@ fn has(rt: &impl Abort, desk: &Desk<'_>, number: u32, want: bool) {
     assert!(rt; desk.has_home(class(number)) == want);
 }
 
-// It has the slots of its class alone.
+fn has_drawn(rt: &impl Abort, desk: &Desk<'_>, number: u32, want: bool) {
+    assert!(rt; desk.has_drawn(class(number)) == want);
+}
+
+// It has the slots and the chunk of its class alone.
 pub(crate) fn gives<'r>(
     rt: &impl Abort,
     alloc: Global,
@@ -44,9 +48,12 @@ pub(crate) fn gives<'r>(
     parts: &mut Vec<Part<'r>>,
 ) {
     has(rt, desk, 15, false);
+    has_drawn(rt, desk, 15, false);
     claim(rt, desk, parts, class(15));
     has(rt, desk, 15, true);
     has(rt, desk, 14, false);
+    has_drawn(rt, desk, 15, true);
+    has_drawn(rt, desk, 14, false);
     let first = lend_next(rt, alloc, desk, 0);
     let second = lend_next(rt, alloc, desk, 1);
     let _third = lend_next(rt, alloc, desk, 2);

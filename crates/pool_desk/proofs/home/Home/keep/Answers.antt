@@ -7,13 +7,13 @@ pub invariant_of-self : goal.invariant_of-self
 invariant_of-self c =
     let h = c.self.inside in
     let own : LiesIn h.owner h.class c.args.buf = rw (← c.self.view_is) at c.requires in
-    (c.self.invariant.0, all_one_more (LiesIn h.owner h.class) _ _ _ c.self.invariant.1 own c.push.ensures, c.self.invariant.2, c.self.invariant.3)
+    (c.self.invariant.0, all_one_more (LiesIn h.owner h.class) _ _ _ c.self.invariant.1 own c.push.ensures, c.self.invariant.2, c.self.invariant.3, c.self.invariant.4, c.self.invariant.5)
 
 pub invariant_of-self-in-Named : goal.invariant_of-self-in-Named
 invariant_of-self-in-Named c =
     let h = c.self.inside in
     let own : LiesIn h.owner h.class c.args.buf = rw (← c.self.view_is) at c.requires in
-    (c.self.invariant.0, all_one_more (LiesIn h.owner h.class) _ _ _ c.self.invariant.1 own c.store.ensures, c.self.invariant.2, c.self.invariant.3)
+    (c.self.invariant.0, all_one_more (LiesIn h.owner h.class) _ _ _ c.self.invariant.1 own c.store.ensures, c.self.invariant.2, c.self.invariant.3, c.self.invariant.4, c.self.invariant.5)
 
 pub returns-in-Linked-clause-slots : goal.returns-in-Linked-clause-slots
 returns-in-Linked-clause-slots c =

@@ -15,13 +15,15 @@ invariant_of-self c =
       All-permutation (LiesIn h.owner h.class) (h.list ++ c.args.parcel.items) c.store_all.new.list moved (All-append (LiesIn h.owner h.class) h.list c.args.parcel.items c.self.invariant.1 (ready_lies h.owner h.class c.args.parcel.items each)),
       rw back.1 c.self.invariant.2,
       c.self.invariant.3,
+      c.self.invariant.4,
+      c.self.invariant.5,
     )
 
 pub invariant_of-self-in_default : goal.invariant_of-self-in_default
 invariant_of-self-in_default c =
     let h = c.self.inside in
     let each : All (IsReady h.owner h.class) c.args.parcel.items = rw (← c.self.view_is) at c.requires.each in
-    (c.self.invariant.0, c.self.invariant.1, rw c.in_default.ensures (All-append (IsReady h.owner h.class) h.whole c.args.parcel.items c.self.invariant.2 each), c.self.invariant.3)
+    (c.self.invariant.0, c.self.invariant.1, rw c.in_default.ensures (All-append (IsReady h.owner h.class) h.whole c.args.parcel.items c.self.invariant.2 each), c.self.invariant.3, c.self.invariant.4, c.self.invariant.5)
 
 pub returns-in-Some-clause-slots : goal.returns-in-Some-clause-slots
 returns-in-Some-clause-slots c =

@@ -20,7 +20,8 @@ invariant_of-self c =
     let e = c.deref_mut.ensures.value in let within : k < length hs = rw c.self.invariant.count l in
     let one = taken_up hs ds k c.index-deref_mut-number.result e within in
     let n = c.claim.new.self in
-    claim_keeps c.self.inside.owner c.args.part k hs (put_back hs ds k n) c.self.invariant l (put_claimed hs ds k _ n c.args.part e within one c.claim.ensures.same)
+    claim_keeps c.self.inside.owner c.args.part k hs (put_back hs ds k n) c.self.invariant l
+    (put_claimed hs ds k _ n c.args.part e within one c.claim.ensures.same) (put_drawn hs ds k _ n c.args.part e within one c.claim.ensures.drawn)
 
 pub returns-clause-needed : goal.returns-clause-needed
 returns-clause-needed c =
