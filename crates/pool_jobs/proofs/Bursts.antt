@@ -13,9 +13,9 @@ use Rattle.pool_fabric.specs.Calls.{LendsTogether}
 use Rattle.pool_fabric.specs.Names.{Names}
 use Rattle.pool_fabric.specs.Stations.{StationState}
 use Rattle.pool_jobs.specs.Bursts.{Fills, LendsInto, TakesNone, WantsNoSlot, packed}
-use Rattle.pool_jobs.specs.Serving.{HasNoMore, HasOnlyUnused, IsClassFor, Keeps, Serves, ServesClass}
+use Rattle.pool_jobs.specs.Serving.{HasNoMore, HasNone, HasOnlyUnused, IsClassFor, Keeps, Serves, ServesClass}
 use Rattle.pool_jobs.specs.declared.error.PoolError.{PoolError}
-use Rattle.pool_jobs.specs.declared.error.PoolError.TheVariants.{TooLarge, UsedUp, NoMemory}
+use Rattle.pool_jobs.specs.declared.error.PoolError.TheVariants.{TooLarge, UsedUp, NoMemory, NoChunk}
 use Rattle.pool_jobs.proofs.Looking.{Step}
 use Rattle.pool_jobs.proofs.Waits.{keeps_since, serves_since}
 
@@ -192,12 +192,14 @@ pub served_size : (names : Names) (n c : ℕ) (old : StationState) (e : PoolErro
 served_size names n c old TooLarge new is h = absurd h.0
 served_size names n c old UsedUp new is h = ((c, is, h.0), h.1)
 served_size names n c old NoMemory new is h = ((c, is, h.0), h.1)
+served_size names n c old NoChunk new is h = ((c, is, h.0), h.1)
 
 -- what is refused changes nothing of what was lent
 pub served_keeps : (names : Names) (n : ℕ) (old : StationState) (e : PoolError) (new : StationState) → Serves names old n (Err e) new → Keeps names old new
 served_keeps names n old TooLarge new h = h.1
 served_keeps names n old UsedUp new h = h.1
 served_keeps names n old NoMemory new h = h.1
+served_keeps names n old NoChunk new h = h.1
 
 pub keeps_same : (names : Names) (old new : StationState) → new ≡ old → old.desk.digits ≡ names.digits → Keeps names old new
 keeps_same names old new e d =
@@ -208,8 +210,9 @@ keeps_same names old new e d =
 served_out : (names : Names) (c : ℕ) (old : StationState) (e : PoolError) (new : StationState) → ServesClass names old c (Err e) new
     → HasNoMore c new × Keeps names old new
 served_out names c old TooLarge new h = absurd h.0
-served_out names c old UsedUp new h = (inl h.0, h.1)
+served_out names c old UsedUp new h = (inl h.0.0, h.1)
 served_out names c old NoMemory new h = (inr h.0, h.1)
+served_out names c old NoChunk new h = (inl h.0.0, h.1)
 
 class_since : (names : Names) (old mid : StationState) (c : ℕ) (e : PoolError) (new : StationState) → Step old mid
     → ServesClass names mid c (Err e) new → ServesClass names old c (Err e) new
@@ -352,14 +355,16 @@ into_waited names n count old mid rest new p q r k e h f s =
 runs_out : (names : Names) (n c : ℕ) (old : StationState) (e : PoolError) (new : StationState) → IsClassFor names n c → Serves names old n (Err e) new
     → (d : ℕ) × IsClassFor names n d × HasNoMore d new
 runs_out names n c old TooLarge new is h = let small = h.0 c is.is_used in let holds = is.holds in absurd (omega (arith, small, holds))
-runs_out names n c old UsedUp new is h = (h.0.0, h.0.1, inl h.0.2)
+runs_out names n c old UsedUp new is h = (h.0.0, h.0.1, inl h.0.2.0)
 runs_out names n c old NoMemory new is h = (h.0.0, h.0.1, inr h.0.2)
+runs_out names n c old NoChunk new is h = (h.0.0, h.0.1, inl h.0.2.0)
 
-lacks_memory : (names : Names) (n c : ℕ) (old : StationState) (e : PoolError) (new : StationState) → IsClassFor names n c → e ≢ UsedUp
-    → Serves names old n (Err e) new → (d : ℕ) × IsClassFor names n d × HasOnlyUnused d new
-lacks_memory names n c old TooLarge new is ne h = let small = h.0 c is.is_used in let holds = is.holds in absurd (omega (arith, small, holds))
-lacks_memory names n c old UsedUp new is ne h = absurd (ne refl)
-lacks_memory names n c old NoMemory new is ne h = h.0
+lacks_other : (names : Names) (n c : ℕ) (old : StationState) (e : PoolError) (new : StationState) → IsClassFor names n c → e ≢ UsedUp
+    → Serves names old n (Err e) new → (d : ℕ) × IsClassFor names n d × (HasOnlyUnused d new ⊎ HasNone d new)
+lacks_other names n c old TooLarge new is ne h = let small = h.0 c is.is_used in let holds = is.holds in absurd (omega (arith, small, holds))
+lacks_other names n c old UsedUp new is ne h = absurd (ne refl)
+lacks_other names n c old NoMemory new is ne h = (h.0.0, h.0.1, inl h.0.2)
+lacks_other names n c old NoChunk new is ne h = (h.0.0, h.0.1, inr h.0.2)
 
 -- some were lent, and then none for want of memory
 pub filled_some : (names : Names) (n count : ℕ) (old mid : StationState) (p q : ParcelState) (k : ℕ) (e : PoolError) (new : StationState) (r : ParcelState)
@@ -372,5 +377,5 @@ filled_some names n count old mid p q k e new r ne other h f =
         subst (λ (z : ParcelState). LendsInto names n count old p k new z) (sym f.1) (into_kept names n count old mid new p q k h (served_keeps names n mid e new f.0)),
         inr (ne, runs_out names n s.0 mid e new s.1 f.0),
       ),
-      inr (lacks_memory names n s.0 mid e new s.1 other f.0),
+      inr (lacks_other names n s.0 mid e new s.1 other f.0),
     )

@@ -12,7 +12,7 @@ use Rattle.digit_route.specs.Profiles.{profile_of}
 use Rattle.pool_fabric.specs.Names.{Names}
 use Rattle.pool_fabric.specs.Stations.{StationState}
 use Rattle.pool_jobs.specs.declared.error.PoolError.{PoolError}
-use Rattle.pool_jobs.specs.declared.error.PoolError.TheVariants.{TooLarge, UsedUp, NoMemory}
+use Rattle.pool_jobs.specs.declared.error.PoolError.TheVariants.{TooLarge, UsedUp, NoMemory, NoChunk}
 use Rattle.pool_jobs.specs.Bursts.{Fills}
 use Rattle.pool_jobs.specs.Serving.{Serves}
 
@@ -44,6 +44,7 @@ served_largest names old new n (Ok b) h = (λ e. absurd (cc), λ l. let f = fits
 served_largest names old new n (Err TooLarge) h = (λ e. too_large (profile_of names.digits.bits) n h.0, λ l. refl)
 served_largest names old new n (Err UsedUp) h = (λ e. absurd (cc), λ l. let f = fits (profile_of names.digits.bits) n h.0.0 h.0.1 in absurd (omega arith))
 served_largest names old new n (Err NoMemory) h = (λ e. absurd (cc), λ l. let f = fits (profile_of names.digits.bits) n h.0.0 h.0.1 in absurd (omega arith))
+served_largest names old new n (Err NoChunk) h = (λ e. absurd (cc), λ l. let f = fits (profile_of names.digits.bits) n h.0.0 h.0.1 in absurd (omega arith))
 
 -- the same where a parcel is filled
 pub filled_largest : (names : Names) (old : StationState) (n count : ℕ) (p : ParcelState) (r : Result ℕ PoolError) (new : StationState) (p' : ParcelState)
@@ -52,3 +53,4 @@ filled_largest names old n count p (Ok k) new p' h = (λ e. absurd (cc), λ l. l
 filled_largest names old n count p (Err TooLarge) new p' h = (λ e. too_large (profile_of names.digits.bits) n h.0.0, λ l. refl)
 filled_largest names old n count p (Err UsedUp) new p' h = (λ e. absurd (cc), λ l. let f = fits (profile_of names.digits.bits) n h.0.0.0 h.0.0.1 in absurd (omega arith))
 filled_largest names old n count p (Err NoMemory) new p' h = (λ e. absurd (cc), λ l. let f = fits (profile_of names.digits.bits) n h.0.0.0 h.0.0.1 in absurd (omega arith))
+filled_largest names old n count p (Err NoChunk) new p' h = (λ e. absurd (cc), λ l. let f = fits (profile_of names.digits.bits) n h.0.0.0 h.0.0.1 in absurd (omega arith))

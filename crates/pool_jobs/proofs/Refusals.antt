@@ -8,7 +8,7 @@ use Rattle.pool_fabric.specs.Names.{Names}
 use Rattle.pool_fabric.specs.Stations.{StationState}
 use Rattle.pool_jobs.specs.Serving.{HasNoMore, HasOnlyUnused, IsClassFor, Keeps, RefusesClass, Serves}
 use Rattle.pool_jobs.specs.declared.error.PoolError.{PoolError}
-use Rattle.pool_jobs.specs.declared.error.PoolError.TheVariants.{TooLarge, UsedUp, NoMemory}
+use Rattle.pool_jobs.specs.declared.error.PoolError.TheVariants.{TooLarge, UsedUp, NoMemory, NoChunk}
 
 -- a desk refuses a buffer of a class for no other reason
 pub has_no_more : (c : ℕ) (s : StationState) (e : DeskError) → IsWanting c s.desk.home e → HasNoMore c s
@@ -25,8 +25,8 @@ not_both c s h l = l h.0 h.1 h.2 (ap class_at h.3 ∙ h.4)
 pub no_memory : (c : ℕ) (s : StationState) → HasNoMore c s → HasClass c s.desk.home → HasOnlyUnused c s
 no_memory c s h has = ⊎_elim (λ (l : LacksClass c s.desk.home). absurd (not_both c s has l)) (λ (u : HasOnlyUnused c s). u) h
 
-pub used_up : (c : ℕ) (s : StationState) → HasNoMore c s → (HasClass c s.desk.home → ⊥) → LacksClass c s.desk.home
-used_up c s h lacks = ⊎_elim (λ (l : LacksClass c s.desk.home). l) (λ (u : HasOnlyUnused c s). absurd (lacks u.0)) h
+pub lacking : (c : ℕ) (s : StationState) → HasNoMore c s → (HasClass c s.desk.home → ⊥) → LacksClass c s.desk.home
+lacking c s h lacks = ⊎_elim (λ (l : LacksClass c s.desk.home). l) (λ (u : HasOnlyUnused c s). absurd (lacks u.0)) h
 
 -- a class that is refused is that of a size
 pub refused : (names : Names) (n c : ℕ) (old : StationState) (e : PoolError) (new : StationState) → IsClassFor names n c
@@ -34,3 +34,4 @@ pub refused : (names : Names) (n c : ℕ) (old : StationState) (e : PoolError) (
 refused names n c old TooLarge new is h k = absurd h
 refused names n c old UsedUp new is h k = ((c, is, h), k)
 refused names n c old NoMemory new is h k = ((c, is, h), k)
+refused names n c old NoChunk new is h k = ((c, is, h), k)

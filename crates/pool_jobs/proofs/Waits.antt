@@ -5,7 +5,7 @@ use Rattle.pool_fabric.specs.Names.{Names}
 use Rattle.pool_fabric.specs.Stations.{StationState}
 use Rattle.pool_jobs.specs.Serving.{Keeps, Serves}
 use Rattle.pool_jobs.specs.declared.error.PoolError.{PoolError}
-use Rattle.pool_jobs.specs.declared.error.PoolError.TheVariants.{TooLarge, UsedUp, NoMemory}
+use Rattle.pool_jobs.specs.declared.error.PoolError.TheVariants.{TooLarge, UsedUp, NoMemory, NoChunk}
 use Rattle.pool_jobs.proofs.Looking.{Step}
 
 -- nothing was lent or freed since an earlier state
@@ -30,3 +30,4 @@ serves_since names old mid n (Ok b) new s h = (
 serves_since names old mid n (Err TooLarge) new s h = (h.0, keeps_since names old mid new s h.1)
 serves_since names old mid n (Err UsedUp) new s h = (h.0, keeps_since names old mid new s h.1)
 serves_since names old mid n (Err NoMemory) new s h = (h.0, keeps_since names old mid new s h.1)
+serves_since names old mid n (Err NoChunk) new s h = (h.0, keeps_since names old mid new s h.1)

@@ -241,8 +241,10 @@ impl<
     {
         if self.station.has_home(class) {
             PoolError::NoMemory
-        } else {
+        } else if self.station.has_drawn(class) {
             PoolError::UsedUp
+        } else {
+            PoolError::NoChunk
         }
     }
 
@@ -254,8 +256,10 @@ impl<
     /// allocator runs out of a class.
     ///
     /// [`PoolError::TooLarge`]: no class is large enough. [`PoolError::UsedUp`]: no slot of the class
-    /// was at home, none came, and the stock was empty. [`PoolError::NoMemory`]: the system refused the
-    /// memory for a slot's first use, and no slot that was used before came.
+    /// was at home, none came, and the stock was empty. [`PoolError::NoChunk`]: the same, and this
+    /// allocator never drew a chunk for the class, so that no slot of it will ever come.
+    /// [`PoolError::NoMemory`]: the system refused the memory for a slot's first use, and no slot that was
+    /// used before came.
     // One function from here to the desk, but for what is seldom: the compiler looks at a flag behind each
     // call that may wait, inlined or not.
     #[inline(always)]
@@ -296,8 +300,9 @@ impl<
     /// Gives a buffer as [`Allocator::alloc`] does, and where the pool is used up it waits until a slot
     /// comes home: it posts what is cached here, yields, and then sleeps, so that it uses little of a core.
     ///
-    /// A thread that waits while it holds back what others need can wait for ever, as one does that waits
-    /// for more buffers than the pool has.
+    /// It doesn't wait where no slot can ever come ([`PoolError::NoChunk`]). A thread that waits while it
+    /// holds back what others need can wait for ever, as one does that waits for more buffers than the
+    /// pool has.
     #[inline]
     pub fn alloc_waiting<R: Wait + Clock>(
         &mut self,

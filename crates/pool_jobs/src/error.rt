@@ -14,12 +14,16 @@ pub enum PoolError {
     #[error("no size class has as many bytes")]
     TooLarge,
     /// No slot of the class is at home at this allocator, none came in a batch, and every chunk is drawn.
-    /// Free slots of other classes, or at other allocators, don't help.
+    /// One of its slots of the class may come home later. Free slots of other classes, or at other
+    /// allocators, don't help.
     #[error("the pool has no slot of this size left")]
     UsedUp,
     /// The system refused the memory for a buffer that was never handed out before.
     #[error("no memory for a slot's first use")]
     NoMemory,
+    /// Every chunk is drawn, and this allocator drew none for the class: no slot will ever come.
+    #[error("every chunk is drawn, and none for this size")]
+    NoChunk,
 }
 
 impl PoolError {
@@ -31,6 +35,7 @@ impl PoolError {
             PoolError::TooLarge => 1,
             PoolError::UsedUp => 2,
             PoolError::NoMemory => 3,
+            PoolError::NoChunk => 4,
         }
     }
 }

@@ -26,7 +26,7 @@ fn no_chunk_at_all(rt: HostRuntime) -> Result<(), Fail> {
     let mut region = vec![in rt.alloc(); 0u8; CHUNK - 1]?;
     let pool = Pool::new(rt.alloc(), &mut region)?;
     let Outcome { answers, tally } = outcome_of(&rt, pool, vec![in rt.alloc(); Act::Asks]?)?;
-    assert!(&rt; answers.as_slice() == [Some(Err(PoolError::UsedUp))].as_slice());
+    assert!(&rt; answers.as_slice() == [Some(Err(PoolError::NoChunk))].as_slice());
     assert!(&rt; tally.counts.allocated == 0 && tally.counts.starved == 1 && tally.audit.is_ok());
     Ok(())
 }

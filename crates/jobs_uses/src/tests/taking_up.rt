@@ -19,7 +19,7 @@ fn answers<R: AllocGlobal + Wait>(rt: &R) -> Result<Answers, Fail> {
 #[test]
 fn a_desk_is_taken_up(rt: HostRuntime) -> Result<(), Fail> {
     let answers = answers(&rt)?;
-    assert_eq!(rt; answers.own, Err(PoolError::UsedUp));
+    assert_eq!(rt; answers.own, Err(PoolError::NoChunk));
     assert_eq!(rt; answers.taken_up, Ok(()));
     Ok(())
 }

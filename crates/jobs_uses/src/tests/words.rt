@@ -23,6 +23,11 @@ fn an_allocator_says_why_there_is_no_buffer(rt: HostRuntime) {
             "the pool has no slot of this size left",
         ),
         (PoolError::NoMemory, 3, "no memory for a slot's first use"),
+        (
+            PoolError::NoChunk,
+            4,
+            "every chunk is drawn, and none for this size",
+        ),
     ] {
         assert_eq!(rt; error.number(), number);
         is_printed(&rt, rt.alloc(), &error, text);

@@ -28,8 +28,9 @@ pub trait Heap: Drop {
     /// A buffer of at least `size` bytes, of which nothing is filled. It doesn't wait for a slot.
     ///
     /// It answers [`PoolError::TooLarge`] exactly where no class has as many. [`PoolError::UsedUp`]: this
-    /// heap has no slot of the class, none came, and every chunk is drawn. [`PoolError::NoMemory`]: the
-    /// system refused the memory for a slot's first use.
+    /// heap has no slot of the class, none came, and every chunk is drawn. [`PoolError::NoChunk`]: the same,
+    /// and it never drew a chunk for the class, so that no slot of it will ever come.
+    /// [`PoolError::NoMemory`]: the system refused the memory for a slot's first use.
     fn alloc<R: Wait>(&mut self, rt: &R, size: usize) -> Result<Self::Buffer, PoolError>
         ensures large_enough { IfOk result (λ b. size ≤ Self.Buffer.size b) }
         ensures empty { IfOk result (λ b. Self.Buffer.filled b ≡ 0) }
@@ -40,8 +41,9 @@ pub trait Heap: Drop {
     /// home, so that it never answers [`PoolError::UsedUp`]. It posts what it keeps of others, takes what
     /// came, yields, and then sleeps, so that it uses little of a core.
     ///
-    /// A task that waits while it holds back what others need can wait for ever, as one does that waits
-    /// for more buffers than the pool has. Buffers in messages that it didn't receive yet are held back by
+    /// It doesn't wait where no slot can ever come ([`PoolError::NoChunk`]). A task that waits while it
+    /// holds back what others need can wait for ever, as one does that waits for more buffers than the
+    /// pool has. Buffers in messages that it didn't receive yet are held back by
     /// it too: it doesn't look there while it waits.
     fn alloc_waiting<R: Wait + Clock>(
         &mut self,

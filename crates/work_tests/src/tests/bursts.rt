@@ -7,7 +7,7 @@ use std::process::Abort;
 use std::sync::Wait;
 use std::test::Fail;
 use std::thread::Threads;
-use std::time::Clock;
+use std::time::{Clock, Duration};
 
 // So many slots of 512 bytes has a chunk.
 const SLOTS: usize = 8;
@@ -25,6 +25,8 @@ enum Act {
     Hands,
     // Frees the parcel that it receives, once it has tried to fill it.
     Frees,
+    // Draws the only chunk for one class, and asks for another one.
+    Misses,
 }
 
 impl Task for Act {
@@ -49,6 +51,7 @@ impl Task for Act {
             Act::Lends => lend(rt, heap),
             Act::Hands => hand(rt, heap, &channels),
             Act::Frees => free(rt, heap, &channels),
+            Act::Misses => miss(rt, heap),
         }
     }
 }
@@ -143,6 +146,33 @@ fn lend<H: Heap, R: Wait + Clock>(rt: &R, heap: &mut H) -> Result<(), &'static s
     Ok(())
 }
 
+// All slots of a class are out, and so they may come home. Of another class there is no chunk, and none is left.
+fn ask_for_more<H: Heap, R: Wait + Clock>(rt: &R, heap: &mut H) -> Result<(), &'static str> {
+    let mut other = parcel(heap, SLOTS)?;
+    let same = heap.alloc(rt, 512).err();
+    check(same == Some(PoolError::UsedUp), "a slot that is lent")?;
+    let none = Some(PoolError::NoChunk);
+    check(heap.alloc(rt, 16).err() == none, "a slot of no chunk")?;
+    check(heap.alloc_waiting(rt, 16).err() == none, "a wait for none")?;
+    let within = heap.alloc_within(rt, 16, Duration::from_secs(3_600));
+    check(within.err() == none, "an hour's wait for none")?;
+    let filled = heap.fill_waiting(rt, &mut other, 16, SLOTS);
+    check(
+        filled == Err(PoolError::NoChunk),
+        "a parcel filled with none",
+    )?;
+    check(other.len() == 0, "something in the parcel")
+}
+
+fn miss<H: Heap, R: Wait + Clock>(rt: &R, heap: &mut H) -> Result<(), &'static str> {
+    let mut held = parcel(heap, SLOTS)?;
+    let filled = heap.fill(rt, &mut held, 512, SLOTS);
+    let asked = ask_for_more(rt, heap);
+    heap.free_all(rt, held);
+    check(filled == Ok(SLOTS), "not all slots of the chunk")?;
+    asked
+}
+
 fn hand<H: Heap, R: Wait + Clock>(
     rt: &R,
     heap: &mut H,
@@ -216,6 +246,15 @@ fn alone<R: AllocGlobal + Abort + Threads + Wait + Clock + Sync>(
 fn a_fill_takes_what_there_is(rt: HostRuntime) -> Result<(), Fail> {
     for inboxes in BOTH {
         alone(&rt, inboxes, Act::Exhausts, 8)?;
+    }
+    Ok(())
+}
+
+// Refuses an allocator that waits for ever, and one that says so of a class whose slots are lent.
+#[test]
+fn nobody_waits_for_a_class_without_a_chunk(rt: HostRuntime) -> Result<(), Fail> {
+    for inboxes in BOTH {
+        alone(&rt, inboxes, Act::Misses, 8)?;
     }
     Ok(())
 }
