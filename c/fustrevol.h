@@ -58,7 +58,7 @@
  * may need just these buffers.
  * A thread that is answered FV_USED_UP calls fv_collect from time to time, or waits until another thread
  * tells it that it flushed. Chunks of 4,096 bytes stay with the allocator and the size class that drew
- * them, until the pool is closed.
+ * them, until the pool is closed. So after FV_NO_CHUNK waiting doesn't help.
  *
  * WHAT THE LIBRARY PROMISES. It is written in Rattle. Where the caller keeps the rules below, these are
  * proved, in the contracts of the calls:
@@ -134,13 +134,14 @@ extern "C" {
 enum fv_answer {
   FV_OK = 0,
   FV_TOO_LARGE = 1,    /* no size class has so many bytes: more than FV_LARGEST were asked for */
-  FV_USED_UP = 2,      /* no slot of the class is at home, none came, and the region has no chunk left */
+  FV_USED_UP = 2,      /* no slot of the class is at home, none came, and no chunk is left; one may come */
   FV_NO_MEMORY = 3,    /* malloc refused what the library keeps its records in */
   FV_HOLDS = 4,        /* what was to be filled holds something: free it, or hand it on, first */
   FV_EMPTY = 5,        /* what was to be used holds nothing */
   FV_STRANGER = 6,     /* it belongs to another allocator, or another pool */
   FV_FULL = 7,         /* there is no room for more; of fv_pool_close: an allocator is attached */
   FV_BAD_ARGUMENT = 8, /* a number is out of its range */
+  FV_NO_CHUNK = 9,     /* the same, but none will ever come: this allocator drew no chunk for the class */
 
   /* Answers of fv_pool_close alone. The pool is closed. fv_pool_stat(pool, FV_POOL_FAULT) names the slot. */
   FV_AUDIT_STRANGER = 101, /* a slot was found of a chunk that nobody drew: a rule above was broken */
@@ -281,6 +282,7 @@ uint64_t fv_pool_stat(const fv_pool *pool, uint32_t which) FV_NOEXCEPT;
  * FV_OK
  * FV_TOO_LARGE  size is more than FV_LARGEST
  * FV_USED_UP    no slot of the class is at home, none came, and the region has no chunk left
+ * FV_NO_CHUNK   the same, and this allocator drew no chunk for the class: waiting doesn't help
  * FV_NO_MEMORY
  * FV_HOLDS      `buf` holds a buffer
  * FV_EMPTY      `allocator` holds none */
@@ -357,7 +359,7 @@ uint32_t fv_burst_open(fv_allocator *FV_RESTRICT allocator, fv_burst *FV_RESTRIC
  *
  * FV_OK        all of them
  * FV_FULL      there was no place left
- * FV_TOO_LARGE, FV_USED_UP, FV_NO_MEMORY  as fv_alloc
+ * FV_TOO_LARGE, FV_USED_UP, FV_NO_CHUNK, FV_NO_MEMORY  as fv_alloc
  * FV_STRANGER  another allocator opened the burst, of this pool or another
  * FV_EMPTY     the burst is not open, or `allocator` holds none */
 uint32_t fv_burst_fill(fv_allocator *FV_RESTRICT allocator, fv_burst *FV_RESTRICT burst, size_t size,

@@ -61,6 +61,7 @@ enum class status : std::uint32_t {
   stranger = FV_STRANGER,
   full = FV_FULL,
   bad_argument = FV_BAD_ARGUMENT,
+  no_chunk = FV_NO_CHUNK,
   audit_stranger = FV_AUDIT_STRANGER,
   audit_doubled = FV_AUDIT_DOUBLED,
   audit_missing = FV_AUDIT_MISSING,

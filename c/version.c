@@ -14,6 +14,7 @@ const char *fv_strerror(uint32_t answer) {
   case FV_STRANGER: return "it belongs to another allocator or pool";
   case FV_FULL: return "there is no room for more, or an allocator is attached";
   case FV_BAD_ARGUMENT: return "a number is out of its range";
+  case FV_NO_CHUNK: return "every chunk is drawn, and none for this size";
   case FV_AUDIT_STRANGER: return "the audit found a slot of a chunk that nobody drew";
   case FV_AUDIT_DOUBLED: return "the audit found a slot twice";
   case FV_AUDIT_MISSING: return "the audit misses a slot: its buffer was not freed";

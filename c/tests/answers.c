@@ -233,10 +233,11 @@ static void used_up(unsigned char *region) {
     ANSWERS(fv_alloc(&a, &eight[i], 512), FV_OK);
   }
   ANSWERS(fv_alloc(&a, &buf, 512), FV_USED_UP);
-  ANSWERS(fv_alloc(&a, &buf, 16), FV_USED_UP); /* the chunk is of another class */
-  ANSWERS(fv_alloc(&b, &buf, 512), FV_USED_UP);
+  ANSWERS(fv_alloc(&a, &buf, 16), FV_NO_CHUNK);  /* the chunk is of another class */
+  ANSWERS(fv_alloc(&b, &buf, 512), FV_NO_CHUNK); /* and another allocator's */
   ANSWERS(fv_burst_open(&a, &burst, 4), FV_OK);
   ANSWERS(fv_burst_fill(&a, &burst, 512, 4), FV_USED_UP);
+  ANSWERS(fv_burst_fill(&a, &burst, 16, 4), FV_NO_CHUNK);
   for (size_t i = 0; i < 2; i++) ANSWERS(fv_free(&b, &eight[i]), FV_OK);
   ANSWERS(fv_flush(&b), FV_OK);
   ANSWERS(fv_burst_fill(&a, &burst, 512, 4), FV_USED_UP);

@@ -39,7 +39,7 @@ static void lend_one(worker *w, lent_buf *place) {
   if (fv_buf_capacity(&place->buf) > 0) return;
   uint32_t answer = fv_alloc(&w->mine, &place->buf, size);
   if (answer != FV_OK) {
-    ANSWERS(answer, FV_USED_UP);
+    CHECK(answer == FV_USED_UP || answer == FV_NO_CHUNK);
     atomic_fetch_add(&refused, 1);
     return;
   }
@@ -81,7 +81,7 @@ static void swap_burst(worker *w) {
   } else {
     ANSWERS(fv_burst_open(&w->mine, &s->burst, BURST), FV_OK);
     uint32_t answer = fv_burst_fill(&w->mine, &s->burst, below(&w->state, FV_LARGEST + 1), BURST);
-    if (answer != FV_OK) ANSWERS(answer, FV_USED_UP);
+    CHECK(answer == FV_OK || answer == FV_USED_UP || answer == FV_NO_CHUNK);
     s->seed = (uint32_t)next_number(&w->state);
     for (size_t i = 0; i < fv_burst_len(&s->burst); i++) {
       ANSWERS(fv_burst_at(&s->burst, &span, i), FV_OK);

@@ -86,7 +86,7 @@ static void one_alloc(holder *h, place *p) {
   if (!h->attached) ANSWERS(answer, FV_EMPTY);
   else if (p->is.capacity > 0) ANSWERS(answer, FV_HOLDS);
   else if (size > FV_LARGEST) ANSWERS(answer, FV_TOO_LARGE);
-  else if (answer == FV_USED_UP) check_used_up();
+  else if (answer == FV_USED_UP || answer == FV_NO_CHUNK) check_used_up();
   else {
     ANSWERS(answer, FV_OK);
     CHECK(fv_buf_capacity(&p->buf) == class_size(size));
@@ -134,7 +134,7 @@ static void one_burst_fill(holder *h, parcel *b) {
   uint32_t answer = fv_burst_fill(&h->allocator, &b->burst, size, wanted);
   if (!h->attached || !b->open) ANSWERS(answer, FV_EMPTY);
   else if (b->owner != h->number) ANSWERS(answer, FV_STRANGER);
-  else if (answer == FV_USED_UP) check_used_up();
+  else if (answer == FV_USED_UP || answer == FV_NO_CHUNK) check_used_up();
   else ANSWERS(answer, FV_OK);
   size_t there = fv_burst_len(&b->burst);
   CHECK(there >= b->count && there <= b->count + wanted && (answer != FV_OK || there == b->count + wanted));

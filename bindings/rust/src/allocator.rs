@@ -74,8 +74,8 @@ impl<'p> Allocator<'p> {
     /// [`Buf::capacity`].
     ///
     /// [`Error::TooLarge`] above [`LARGEST`](crate::LARGEST) bytes, [`Error::UsedUp`] where no slot
-    /// is at home, none came and the region has no chunk left, [`Error::NoMemory`] where a slot is
-    /// used for the first time, and memory was refused.
+    /// is at home, none came and the region has no chunk left, [`Error::NoChunk`] where none will
+    /// ever come, [`Error::NoMemory`] where a slot is used for the first time, and memory was refused.
     pub fn alloc(&self, size: usize) -> Result<Buf<'p>, Error> {
         let mut raw = RawBuf::new();
         // SAFETY: the allocator is attached, and used on this thread alone, one call at a time.

@@ -9,7 +9,7 @@ use std::fmt;
 pub enum Error {
     /// No size class has so many bytes: more than [`LARGEST`](crate::LARGEST) were asked for.
     TooLarge,
-    /// No slot of the class is at home, none came, and the region has no chunk left.
+    /// No slot of the class is at home, none came, and the region has no chunk left. One may come later.
     UsedUp,
     /// Memory for the library's records was refused.
     NoMemory,
@@ -22,6 +22,8 @@ pub enum Error {
     Full,
     /// A number is out of its range.
     BadArgument,
+    /// As [`Error::UsedUp`], and the allocator drew no chunk for the class: no slot of it will ever come.
+    NoChunk,
     /// The audit found a slot of a chunk that nobody drew.
     AuditStranger,
     /// The audit found a slot twice.
@@ -45,6 +47,7 @@ impl Error {
             Error::Stranger => 6,
             Error::Full => 7,
             Error::BadArgument => 8,
+            Error::NoChunk => 9,
             Error::AuditStranger => 101,
             Error::AuditDoubled => 102,
             Error::AuditMissing => 103,
@@ -62,6 +65,7 @@ impl Error {
             Error::Stranger,
             Error::Full,
             Error::BadArgument,
+            Error::NoChunk,
             Error::AuditStranger,
             Error::AuditDoubled,
             Error::AuditMissing,

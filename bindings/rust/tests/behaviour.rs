@@ -56,11 +56,13 @@ fn answers_have_numbers_and_words() {
         Error::UsedUp,
         Error::Empty,
         Error::AuditMissing,
-        Error::Other(9),
+        Error::NoChunk,
+        Error::Other(10),
     ]
     .map(|error| error.to_string())
     .into();
-    assert_eq!(words.len(), 5);
+    assert_eq!(words.len(), 6);
+    assert_eq!(Error::NoChunk.number(), 9);
     assert_eq!(Error::AuditMissing.number(), 103);
     assert_eq!(fustrevol::version(), env!("CARGO_PKG_VERSION"));
 }
@@ -101,7 +103,7 @@ fn a_pool_that_is_used_up_says_so_and_goes_on() {
     assert_eq!(pool.attach().err(), Some(Error::Empty));
     let mut all: Vec<_> = (0..8).map(|_| mine.alloc(512).unwrap()).collect();
     assert_eq!(mine.alloc(512).err(), Some(Error::UsedUp));
-    assert_eq!(other.alloc(512).err(), Some(Error::UsedUp));
+    assert_eq!(other.alloc(512).err(), Some(Error::NoChunk)); // the only chunk is that of `mine`
     all.pop(); // at the allocator that this thread attached last
     assert_eq!(mine.alloc(512).err(), Some(Error::UsedUp));
     other.flush();

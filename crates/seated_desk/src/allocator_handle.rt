@@ -26,8 +26,8 @@ impl<'r> AllocatorHandle<'r> {
         AllocatorHandle { station: None }
     }
 
-    /// Lends a buffer of at least `size` bytes into a handle that holds none: `TooLarge`, `UsedUp`, `NoMemory`, or
-    /// `Holds`.
+    /// Lends a buffer of at least `size` bytes into a handle that holds none: `TooLarge`, `UsedUp`, `NoChunk`,
+    /// `NoMemory`, or `Holds`.
     #[inline(always)]
     pub fn alloc(&mut self, handle: &mut BufHandle<'r>, size: usize) -> u32
         ensures { LendsInto size result self.old self.new handle.old handle.new }

@@ -21,14 +21,6 @@ const LOOK_EVERY: u64 = 64;
 // How often it looks again where the stock is empty.
 const MOST_LOOKS: u32 = 64;
 
-// Why a desk lends no buffer of a class.
-fn refusal_of(error: DeskError) -> Refusal {
-    match error {
-        DeskError::NoMemory => Refusal::NoMemory,
-        _ => Refusal::UsedUp,
-    }
-}
-
 impl<'r> Station<'r> {
     // Takes what else came, as long as no slot of the class is among it: a look ends at its bound, and the stock is
     // empty.
@@ -84,6 +76,20 @@ impl<'r> Station<'r> {
         }
     }
 
+    // Why the desk gave no buffer of the class.
+    #[cold]
+    #[inline(never)]
+    fn refusal_of(&self, error: DeskError, class: Class) -> Refusal {
+        if let DeskError::NoMemory = error {
+            return Refusal::NoMemory;
+        }
+        if self.desk.has_drawn(class) {
+            Refusal::UsedUp
+        } else {
+            Refusal::NoChunk
+        }
+    }
+
     // A buffer of the class, of a slot at home.
     #[inline(always)]
     fn lend_class(&mut self, class: Class) -> Result<Buf<'r>, Refusal>
@@ -99,7 +105,7 @@ impl<'r> Station<'r> {
                 self.lent = self.lent.and(&buf);
                 Ok(buf)
             }
-            Err(error) => Err(refusal_of(error)),
+            Err(error) => Err(self.refusal_of(error, class)),
         }
     }
 

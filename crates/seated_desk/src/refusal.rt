@@ -7,7 +7,7 @@ ghost use Rattle.seated_desk.specs.Answers.{answer_of, refusal_number};
 pub enum Refusal {
     /// No size class is large enough.
     TooLarge,
-    /// No slot of the class is at home, none came, and no chunk is left to be drawn.
+    /// No slot of the class is at home, none came, and no chunk is left to be drawn. One may come later.
     UsedUp,
     /// The C library refused memory.
     NoMemory,
@@ -21,10 +21,12 @@ pub enum Refusal {
     Full,
     /// An argument is out of range.
     BadArgument,
+    /// As `UsedUp`, and the allocator drew no chunk for the class, so that no slot of it will ever come.
+    NoChunk,
 }
 
 impl Refusal {
-    /// Its number, from 1 to 8.
+    /// Its number, from 1 to 9.
     pub fn number(self) -> u32
         ensures { result ≡ refusal_number self }
     {
@@ -37,6 +39,7 @@ impl Refusal {
             Refusal::Stranger => 6,
             Refusal::Full => 7,
             Refusal::BadArgument => 8,
+            Refusal::NoChunk => 9,
         }
     }
 }
