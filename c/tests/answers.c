@@ -29,13 +29,13 @@ static void sizes_and_words(void) {
   char made[32];
   snprintf(made, sizeof made, "%d.%d.%d", FV_VERSION_MAJOR, FV_VERSION_MINOR, FV_VERSION_PATCH);
   CHECK(strcmp(made, FV_VERSION) == 0);
-  static const uint32_t known[] = {0, 1, 2, 3, 4, 5, 6, 7, 8, 101, 102, 103, 104};
+  static const uint32_t known[] = {0, 1, 2, 3, 4, 5, 6, 7, 8, 9, 101, 102, 103, 104};
   enum { KNOWN = sizeof known / sizeof known[0] };
   for (size_t i = 0; i < KNOWN; i++) {
     CHECK(strcmp(fv_strerror(known[i]), "unknown answer") != 0);
     for (size_t j = 0; j < i; j++) CHECK(strcmp(fv_strerror(known[i]), fv_strerror(known[j])) != 0);
   }
-  CHECK(strcmp(fv_strerror(9), "unknown answer") == 0 &&
+  CHECK(strcmp(fv_strerror(10), "unknown answer") == 0 &&
         strcmp(fv_strerror(UINT32_MAX), "unknown answer") == 0);
 }
 
