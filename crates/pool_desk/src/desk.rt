@@ -165,7 +165,7 @@ impl<'r> Desk<'r> {
     pub fn alloc(&mut self, alloc: Global, size: usize) -> Result<Buf<'r>, DeskError>
         ensures { Allocs self.old size result self.new }
     {
-        let Some(class) = self.cache.digits().profile().class_for(size) else {
+        let Some(class) = self.cache.digits().class_for(size) else {
             return Err(DeskError::TooLarge);
         };
         self.alloc_class(alloc, class)

@@ -150,14 +150,14 @@ impl<
             (λ class. IsClassFor J.names size class) }
         ensures digits { self.now.desk.digits ≡ J.names.digits }
     {
-        self.station.digits().profile().class_for(size)
+        self.station.digits().class_for(size)
     }
 
     /// The greatest size in bytes that [`Allocator::alloc`] lends.
     pub fn largest_size(&self) -> usize
         ensures { result ≡ largest_of (profile_of J.names.digits.bits) }
     {
-        self.station.digits().profile().largest()
+        self.station.digits().largest()
     }
 
     /// Takes what came home in batches, at most 64 of them, and no further one once 1,024 buffers came. Says

@@ -65,9 +65,10 @@ impl Class {
         }
     }
 
-    /// The least class whose size is at least `n`, of all classes. One look at a table.
+    /// The least class whose size is at least `n`, of all classes: for who knows already that `n` is at most
+    /// 1,024, as [`Profile::class_for`](crate::Profile::class_for) finds out. One look at a table.
     #[tactic(auto, using(crate::proofs::ByStep::least_class))]
-    pub(crate) fn least_for(n: usize) -> Class
+    pub fn least_for(n: usize) -> Class
         requires { n ≤ largest_of Pool2 }
         ensures holds { n ≤ size_of result }
         ensures least { (k : ℕ) → n ≤ size_of k → k < class_count → result ≤ k }
