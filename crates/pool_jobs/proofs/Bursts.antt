@@ -13,7 +13,7 @@ use Rattle.pool_fabric.specs.Calls.{LendsTogether}
 use Rattle.pool_fabric.specs.Names.{Names}
 use Rattle.pool_fabric.specs.Stations.{StationState}
 use Rattle.pool_jobs.specs.Bursts.{Fills, LendsInto, TakesNone, WantsNoSlot, packed}
-use Rattle.pool_jobs.specs.Serving.{HasNoMore, HasNone, HasOnlyUnused, IsClassFor, Keeps, Serves, ServesClass}
+use Rattle.pool_jobs.specs.Serving.{HasNoMore, HasOnlyUnused, IsClassFor, Keeps, Serves, ServesClass}
 use Rattle.pool_jobs.specs.declared.error.PoolError.{PoolError}
 use Rattle.pool_jobs.specs.declared.error.PoolError.TheVariants.{TooLarge, UsedUp, NoMemory, NoChunk}
 use Rattle.pool_jobs.proofs.Looking.{Step}
@@ -359,23 +359,23 @@ runs_out names n c old UsedUp new is h = (h.0.0, h.0.1, inl h.0.2.0)
 runs_out names n c old NoMemory new is h = (h.0.0, h.0.1, inr h.0.2)
 runs_out names n c old NoChunk new is h = (h.0.0, h.0.1, inl h.0.2.0)
 
-lacks_other : (names : Names) (n c : ℕ) (old : StationState) (e : PoolError) (new : StationState) → IsClassFor names n c → e ≢ UsedUp
-    → Serves names old n (Err e) new → (d : ℕ) × IsClassFor names n d × (HasOnlyUnused d new ⊎ HasNone d new)
-lacks_other names n c old TooLarge new is ne h = let small = h.0 c is.is_used in let holds = is.holds in absurd (omega (arith, small, holds))
-lacks_other names n c old UsedUp new is ne h = absurd (ne refl)
-lacks_other names n c old NoMemory new is ne h = (h.0.0, h.0.1, inl h.0.2)
-lacks_other names n c old NoChunk new is ne h = (h.0.0, h.0.1, inr h.0.2)
+lacks_memory : (names : Names) (n c : ℕ) (old : StationState) (e : PoolError) (new : StationState) → IsClassFor names n c → e ≢ UsedUp
+    → e ≢ NoChunk → Serves names old n (Err e) new → (d : ℕ) × IsClassFor names n d × HasOnlyUnused d new
+lacks_memory names n c old TooLarge new is u o h = let small = h.0 c is.is_used in let holds = is.holds in absurd (omega (arith, small, holds))
+lacks_memory names n c old UsedUp new is u o h = absurd (u refl)
+lacks_memory names n c old NoMemory new is u o h = h.0
+lacks_memory names n c old NoChunk new is u o h = absurd (o refl)
 
 -- some were lent, and then none for want of memory
 pub filled_some : (names : Names) (n count : ℕ) (old mid : StationState) (p q : ParcelState) (k : ℕ) (e : PoolError) (new : StationState) (r : ParcelState)
-    → (k ≡ 0 → ⊥) → e ≢ UsedUp → LendsInto names n count old p k mid q → Fills names mid n (count - k) q (Err e) new r
+    → (k ≡ 0 → ⊥) → e ≢ UsedUp → e ≢ NoChunk → LendsInto names n count old p k mid q → Fills names mid n (count - k) q (Err e) new r
     → Fills names old n count p (Ok k) new r × WantsNoSlot names old n count k new r
-filled_some names n count old mid p q k e new r ne other h f =
+filled_some names n count old mid p q k e new r ne u o h f =
     let s = some_class names n h.buffers (λ z. ne (sym h.number ∙ z)) h.lends.class in (
       (
         s,
         subst (λ (z : ParcelState). LendsInto names n count old p k new z) (sym f.1) (into_kept names n count old mid new p q k h (served_keeps names n mid e new f.0)),
         inr (ne, runs_out names n s.0 mid e new s.1 f.0),
       ),
-      inr (lacks_other names n s.0 mid e new s.1 other f.0),
+      inr (lacks_memory names n s.0 mid e new s.1 u o f.0),
     )

@@ -4,7 +4,7 @@ use Rattle.slot_chain.specs.Buffer.{Buffer}
 use Rattle.slot_chain.specs.Parcels.{ParcelState, unforwarded}
 use Rattle.pool_fabric.specs.Names.{Names}
 use Rattle.pool_fabric.specs.Stations.{StationState}
-use Rattle.pool_jobs.specs.Serving.{HasNoMore, HasNone, HasOnlyUnused, IsClassFor, SameDesk, Serves}
+use Rattle.pool_jobs.specs.Serving.{HasNoMore, HasOnlyUnused, IsClassFor, SameDesk, Serves}
 use Rattle.pool_jobs.specs.declared.error.PoolError.{PoolError}
 
 -- These buffers of the desk's own were lent out, one after the other: each of the least class that holds n bytes, and
@@ -42,8 +42,7 @@ Fills names old n count p (Ok k) new p' =
     × (TakesNone (count - k) old.desk.number p' ⊎ ((k ≢ 0) × ((c : ℕ) × IsClassFor names n c × HasNoMore c new)))
 Fills names old n count p (Err e) new p' = Serves names old n (Err e) new × (p' ≡ p)
 
--- It ended for no want of slots that may come: the parcel takes no more than these k, or each slot of the class at home
--- wants memory, or there is none and no chunk was drawn for it.
+-- It ended for no want of slots: the parcel takes no more than these k, or each slot of the class at home wants memory.
 abbrev pub WantsNoSlot : Names → StationState → ℕ → ℕ → ℕ → StationState → ParcelState → Type 0
 WantsNoSlot names old n count k new p' =
-    TakesNone (count - k) old.desk.number p' ⊎ ((c : ℕ) × IsClassFor names n c × (HasOnlyUnused c new ⊎ HasNone c new))
+    TakesNone (count - k) old.desk.number p' ⊎ ((c : ℕ) × IsClassFor names n c × HasOnlyUnused c new)

@@ -4,7 +4,7 @@ ghost use Rattle.pool_jobs.specs.Bursts.{Fills, LendsInto, WantsNoSlot};
 ghost use Rattle.pool_jobs.specs.Serving.{HasNoMore, IsClassFor, Keeps, ServesClass};
 ghost use Rattle.region_cut.specs.Classes.{classes_of};
 ghost use Rattle.digit_route.specs.Profiles.{profile_of};
-ghost use Rattle.pool_jobs.specs.declared.error.PoolError.TheVariants.{UsedUp};
+ghost use Rattle.pool_jobs.specs.declared.error.PoolError.TheVariants.{NoChunk, UsedUp};
 
 use crate::allocator::{Allocator, recall};
 use crate::error::PoolError;
@@ -81,7 +81,7 @@ impl<
                 Ok(0) => return Ok(lent),
                 Ok(more) => lent += more,
                 Err(error) => {
-                    if !wants_slots(error) {
+                    if !wants_slots(error, lent) {
                         if lent == 0 {
                             return Err(error);
                         }
@@ -210,12 +210,14 @@ impl<
     }
 }
 
-// Whether a slot may come home that ends the want.
-fn wants_slots(error: PoolError) -> bool
-    ensures { IsTrue result ↔ (error ≡ UsedUp) }
+// Whether a slot may come home that ends the want, where so many were lent before. A class that lent some has a
+// chunk: for want of one it stops only where none was lent.
+fn wants_slots(error: PoolError, lent: usize) -> bool
+    ensures { IsTrue result ↔ ((error ≡ UsedUp) ⊎ ((error ≡ NoChunk) × (lent ≢ 0))) }
 {
     match error {
         PoolError::UsedUp => true,
+        PoolError::NoChunk => lent != 0,
         _ => false,
     }
 }

@@ -1,7 +1,7 @@
-use Rattle.std.proofs.Common.{◌≢◌, refl, sym, ap, ◌∙◌, arith, true≢false}
+use Rattle.std.proofs.Common.{◌≢◌, inl, inr, refl, sym, ap, ◌∙◌, arith, true≢false}
 use Rattle.pool_fabric.specs.Stations.{StationState}
 use Rattle.pool_jobs.proofs.Bursts.{filled_some, filled_stop, into_none, into_then, into_waited, keeps_same}
-use Rattle.pool_jobs.specs.declared.error.PoolError.TheVariants.{UsedUp}
+use Rattle.pool_jobs.specs.declared.error.PoolError.TheVariants.{NoChunk, UsedUp}
 use Rattle.pool_jobs.proofs.allocator.Allocator.fill_waiting.Goals as goal
 
 pub loop-init : goal.loop-init
@@ -26,6 +26,8 @@ returns-in-Ok-eq0 g c =
 
 pub returns-then-not-wants_slots : goal.returns-then-not-wants_slots
 returns-then-not-wants_slots g c =
-    let other : c.in-Err.error ≢ UsedUp = λ e. true≢false (sym (c.if-not-wants_slots.ensures.1 e)) in
-    let out = filled_some g.J.Naming.names c.args.size c.args.count c.args.self.now c.loop.self c.args.parcel.now c.loop.parcel c.loop.lent c.in-Err.error c.fill.new.self c.fill.new.parcel c.if-lent-eq0.false other c.loop.invariant c.in-Err.ensures in
+    let goes = c.if-not-wants_slots.ensures.1 in
+    let u : c.in-Err.error ≢ UsedUp = λ e. true≢false (sym (goes (inl e))) in
+    let o : c.in-Err.error ≢ NoChunk = λ e. true≢false (sym (goes (inr (e, c.if-lent-eq0.false)))) in
+    let out = filled_some g.J.Naming.names c.args.size c.args.count c.args.self.now c.loop.self c.args.parcel.now c.loop.parcel c.loop.lent c.in-Err.error c.fill.new.self c.fill.new.parcel c.if-lent-eq0.false u o c.loop.invariant c.in-Err.ensures in
     record { fills = out.0; waits = λ e. absurd (cc); slots = out.1 }
