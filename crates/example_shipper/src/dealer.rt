@@ -31,12 +31,8 @@ impl<H: Heap> Dealer<H> {
     /// they stay with this allocator. So a parcel can always be filled, whatever the others hold.
     pub fn new<R: Wait + Clock>(rt: &R, heap: &mut H, parsers: usize) -> Result<Dealer<H>> {
         for size in SIZES {
-            let mut parcel = heap.parcel(PARCEL_LINES)?;
-            let lent = heap.fill(rt, &mut parcel, size, PARCEL_LINES);
-            heap.free_all(rt, parcel);
-            if lent.context("taking the first buffers")? < PARCEL_LINES {
-                bail!("taking the first buffers: too few of {size} bytes");
-            }
+            heap.reserve(rt, size, PARCEL_LINES)
+                .context("taking the first buffers")?;
         }
         Ok(Dealer {
             parcel: None,

@@ -1,6 +1,6 @@
 -- Buffers are lent into a parcel, some after others.
 use Rattle.std.proofs.Common.{◌≡◌, ◌≢◌, ◌⊎◌, inl, inr, ⊎_elim, ℕ, ◌+◌, ◌-◌, ◌≤◌, ◌<◌, List, [], ◌∷◌, ◌++◌, length, map, take, refl, sym, ap, subst, ◌∙◌, arith, append-nil, append_assoc, All, Result, Ok, Err}
-use Rattle.std.specs.Prelude.{MatchResult, IfOk, replicate}
+use Rattle.std.specs.Prelude.{MatchResult, IfErr, IfOk, replicate}
 use Rattle.std.proofs.lemmas.Bool.{cases_lt}
 use Rattle.std.proofs.lemmas.List.{length-append, length-map, map-append}
 use Rattle.std.proofs.lemmas.List.Elements.{All-append, All-cons, All-head, All-nil, All-tail, All-weaker}
@@ -12,8 +12,8 @@ use Rattle.pool_desk.specs.Homes.{IsReady}
 use Rattle.pool_fabric.specs.Calls.{LendsTogether}
 use Rattle.pool_fabric.specs.Names.{Names}
 use Rattle.pool_fabric.specs.Stations.{StationState}
-use Rattle.pool_jobs.specs.Bursts.{Fills, LendsInto, TakesNone, WantsNoSlot, packed}
-use Rattle.pool_jobs.specs.Serving.{HasNoMore, HasOnlyUnused, IsClassFor, Keeps, Serves, ServesClass}
+use Rattle.pool_jobs.specs.Bursts.{Fills, LendsInto, Reserves, TakesNone, WantsNoSlot, packed}
+use Rattle.pool_jobs.specs.Serving.{HasNoMore, HasOnlyUnused, IsClassFor, Keeps, SameDesk, Serves, ServesClass}
 use Rattle.pool_jobs.specs.declared.error.PoolError.{PoolError}
 use Rattle.pool_jobs.specs.declared.error.PoolError.TheVariants.{TooLarge, UsedUp, NoMemory, NoChunk}
 use Rattle.pool_jobs.proofs.Looking.{Step}
@@ -379,3 +379,52 @@ filled_some names n count old mid p q k e new r ne u o h f =
       ),
       inr (lacks_memory names n s.0 mid e new s.1 u o f.0),
     )
+
+-- what was lent into an empty parcel came home with it
+pub reserved : (names : Names) (n count : ℕ) (old mid : StationState) (p q : ParcelState) (k : ℕ) (new : StationState) → p.items ≡ []
+    → LendsInto names n count old p k mid q → SameDesk names mid new → new.lent ≡ mid.lent → new.freed ≡ mid.freed ++ q.items
+    → Reserves names old n k new
+reserved names n count old mid p q k new none h desk lent freed = record {
+  desk = record { number = desk.number ∙ h.lends.desk.number; digits = desk.digits };
+  buffers = h.buffers;
+  number = h.number;
+  class = h.lends.class;
+  lent = lent ∙ h.lends.lent;
+  freed = freed ∙ (ap (λ bs. bs ++ q.items) h.lends.freed
+      ∙ ap (λ bs. old.freed ++ bs) (ap (λ (z : ParcelState). z.items) h.into ∙ ap (λ bs. bs ++ map unforwarded h.buffers) none));
+}
+
+-- none was lent
+pub reserved_none : (names : Names) (n : ℕ) (old mid : StationState) (p q : ParcelState) (new : StationState) → p.items ≡ [] → q ≡ p
+    → Keeps names old mid → SameDesk names mid new → new.lent ≡ mid.lent → new.freed ≡ mid.freed ++ q.items → Reserves names old n 0 new
+reserved_none names n old mid p q new none same keeps desk lent freed = record {
+  desk = record { number = desk.number ∙ keeps.desk.number; digits = desk.digits };
+  buffers = [];
+  number = refl;
+  class = All-nil _;
+  lent = lent ∙ (keeps.lent ∙ sym (append-nil old.lent));
+  freed = freed ∙ (ap (λ bs. bs ++ q.items) keeps.freed ∙ ap (λ bs. old.freed ++ bs) (ap (λ (z : ParcelState). z.items) same ∙ none));
+}
+
+-- what was lent came home, whether or not the parcel was filled
+pub reserved_some : (names : Names) (n count : ℕ) (old mid : StationState) (p q : ParcelState) (r : Result ℕ PoolError) (new : StationState)
+    → p.items ≡ [] → Fills names old n count p r mid q → SameDesk names mid new → new.lent ≡ mid.lent → new.freed ≡ mid.freed ++ q.items
+    → (k : ℕ) × Reserves names old n k new
+reserved_some names n count old mid p q (Ok k) new none h desk lent freed = (k, reserved names n count old mid p q k new none h.1 desk lent freed)
+reserved_some names n count old mid p q (Err e) new none h desk lent freed =
+    (0, reserved_none names n old mid p q new none h.1 (served_keeps names n old e mid h.0) desk lent freed)
+
+-- nothing was asked for
+pub reserved_same : (names : Names) (n : ℕ) (s : StationState) → s.desk.digits ≡ names.digits → Reserves names s n 0 s
+reserved_same names n s d = record {
+  desk = record { number = refl; digits = d };
+  buffers = [];
+  number = refl;
+  class = All-nil _;
+  lent = sym (append-nil s.lent);
+  freed = sym (append-nil s.freed);
+}
+
+pub if_err : (r : Result (Unit {0}) PoolError) (P : Type 0) → P → IfErr r (λ _. P)
+if_err (Ok a) P p = tt
+if_err (Err e) P p = p

@@ -46,3 +46,12 @@ Fills names old n count p (Err e) new p' = Serves names old n (Err e) new × (p'
 abbrev pub WantsNoSlot : Names → StationState → ℕ → ℕ → ℕ → StationState → ParcelState → Type 0
 WantsNoSlot names old n count k new p' =
     TakesNone (count - k) old.desk.number p' ⊎ ((c : ℕ) × IsClassFor names n c × HasOnlyUnused c new)
+
+-- k buffers of at least n bytes were lent, and came home
+pub record Reserves (names : Names) (old : StationState) (n k : ℕ) (new : StationState) : Type 0 where
+  pub desk : SameDesk names old new
+  pub buffers : List Buffer
+  pub number : length buffers ≡ k
+  pub class : All (λ (b : Buffer). IsClassFor names n b.class) buffers
+  pub lent : new.lent ≡ old.lent ++ buffers
+  pub freed : new.freed ≡ old.freed ++ map unforwarded buffers

@@ -1,12 +1,12 @@
 //! A heap that counts how often it gave no buffer.
-ghost use Rattle.std.specs.Prelude.{◌≡◌, ◌≢◌, ◌<◌, ◌≤◌, ◌↔◌, ◌+◌, [], ◌∷◌, ◌++◌, map, replicate, IsTrue, IfOk, IfSome, MatchResult};
+ghost use Rattle.std.specs.Prelude.{◌≡◌, ◌≢◌, ℕ, ◌<◌, ◌≤◌, ◌↔◌, ◌+◌, [], ◌∷◌, ◌++◌, map, replicate, IsTrue, IfErr, IfOk, IfSome, MatchResult};
 ghost use Rattle.region_cut.specs.Classes.{size_of, largest_of};
 ghost use Rattle.digit_route.specs.Profiles.{profile_of};
 ghost use Rattle.slot_balance.specs.Limits.{most_taken};
 ghost use Rattle.pool_jobs.specs.declared.error.PoolError.TheVariants.{TooLarge, UsedUp};
 ghost use Rattle.slot_chain.specs.Counts.{capped};
 ghost use Rattle.slot_chain.specs.Filling.{data_of};
-ghost use Rattle.pool_jobs.specs.Bursts.{Fills};
+ghost use Rattle.pool_jobs.specs.Bursts.{Fills, Reserves};
 ghost use Rattle.pool_jobs.specs.Counted.{Counts, none_counted};
 ghost use Rattle.pool_jobs.specs.Serving.{Keeps, SameDesk, Serves};
 
@@ -217,6 +217,17 @@ impl<
         ensures counted { Counts self.old.counts result self.new.counts }
     {
         let answer = self.allocator.fill_waiting(rt, parcel, size, count);
+        self.counts.count(answer.is_ok());
+        answer
+    }
+
+    fn reserve<R: Wait>(&mut self, rt: &R, size: usize, count: usize) -> Result<(), PoolError>
+        ensures all { IfOk result (λ _. Reserves J.names self.old.allocator size count self.new.allocator) }
+        ensures some { IfErr result (λ _. (k : ℕ) × Reserves J.names self.old.allocator size k self.new.allocator) }
+        ensures too_large { (result ≡ Err TooLarge) ↔ (largest_of (profile_of J.names.digits.bits) < size) }
+        ensures counted { Counts self.old.counts result self.new.counts }
+    {
+        let answer = self.allocator.reserve(rt, size, count);
         self.counts.count(answer.is_ok());
         answer
     }

@@ -1,10 +1,10 @@
 //! Parcels that are filled by one call.
-ghost use Rattle.std.specs.Prelude.{◌≡◌, ◌≢◌, ◌+◌, ◌≤◌, ◌<◌, ◌⊎◌, ◌↔◌, length, IsTrue, IfOk, MatchResult};
-ghost use Rattle.pool_jobs.specs.Bursts.{Fills, LendsInto, WantsNoSlot};
+ghost use Rattle.std.specs.Prelude.{◌≡◌, ◌≢◌, ℕ, ◌+◌, ◌≤◌, ◌<◌, ◌⊎◌, ◌↔◌, length, IsTrue, IfOk, IfErr, MatchResult};
+ghost use Rattle.pool_jobs.specs.Bursts.{Fills, LendsInto, Reserves, WantsNoSlot};
 ghost use Rattle.pool_jobs.specs.Serving.{HasNoMore, IsClassFor, Keeps, ServesClass};
-ghost use Rattle.region_cut.specs.Classes.{classes_of};
+ghost use Rattle.region_cut.specs.Classes.{classes_of, largest_of};
 ghost use Rattle.digit_route.specs.Profiles.{profile_of};
-ghost use Rattle.pool_jobs.specs.declared.error.PoolError.TheVariants.{NoChunk, UsedUp};
+ghost use Rattle.pool_jobs.specs.declared.error.PoolError.TheVariants.{NoChunk, TooLarge, UsedUp};
 
 use crate::allocator::{Allocator, recall};
 use crate::error::PoolError;
@@ -92,6 +92,33 @@ impl<
             }
         }
         unreachable!()
+    }
+
+    /// Makes `count` slots for buffers of at least `size` bytes ready: they are lent at once, which draws chunks
+    /// and takes the memory for their first use, and come home. So they stay with this allocator.
+    ///
+    /// [`PoolError::TooLarge`]: no class is large enough. [`PoolError::NoMemory`]: the system refused the
+    /// memory for an array of `count` pointers or for the first slot. [`PoolError::NoChunk`]: every chunk is drawn,
+    /// and none for the class by this allocator. [`PoolError::UsedUp`]: there are fewer slots for now, or
+    /// memory for fewer; these are ready.
+    pub fn reserve<R: Wait>(&mut self, rt: &R, size: usize, count: usize) -> Result<(), PoolError>
+        ensures all { IfOk result (λ _. Reserves J.names self.old size count self.new) }
+        ensures some { IfErr result (λ _. (k : ℕ) × Reserves J.names self.old size k self.new) }
+        ensures too_large { (result ≡ Err TooLarge) ↔ (largest_of (profile_of J.names.digits.bits) < size) }
+    {
+        recall(&self.station);
+        if size > self.largest_size() {
+            return Err(PoolError::TooLarge);
+        }
+        let Ok(mut parcel) = self.parcel(count) else {
+            return Err(PoolError::NoMemory);
+        };
+        let lent = self.fill(rt, &mut parcel, size, count);
+        self.free_all(rt, parcel);
+        if lent? < count {
+            return Err(PoolError::UsedUp);
+        }
+        Ok(())
     }
 
     // How many of so many buffers the parcel takes.

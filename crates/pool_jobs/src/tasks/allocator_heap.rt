@@ -1,10 +1,10 @@
 //! An allocator as the heap of a task.
-ghost use Rattle.std.specs.Prelude.{◌≡◌, ◌≢◌, ◌<◌, ◌≤◌, ◌↔◌, [], ◌∷◌, ◌++◌, map, replicate, IsTrue, IfOk, MatchResult};
+ghost use Rattle.std.specs.Prelude.{◌≡◌, ◌≢◌, ℕ, ◌<◌, ◌≤◌, ◌↔◌, [], ◌∷◌, ◌++◌, map, replicate, IsTrue, IfErr, IfOk, MatchResult};
 ghost use Rattle.region_cut.specs.Classes.{size_of, largest_of};
 ghost use Rattle.digit_route.specs.Profiles.{profile_of};
 ghost use Rattle.slot_chain.specs.Filling.{data_of};
 ghost use Rattle.slot_balance.specs.Limits.{most_taken};
-ghost use Rattle.pool_jobs.specs.Bursts.{Fills};
+ghost use Rattle.pool_jobs.specs.Bursts.{Fills, Reserves};
 ghost use Rattle.pool_jobs.specs.Serving.{Keeps, SameDesk, Serves};
 ghost use Rattle.pool_jobs.specs.declared.error.PoolError.TheVariants.{TooLarge, UsedUp};
 
@@ -125,6 +125,14 @@ impl<
         ensures fills { Fills J.names self.old size count parcel.old result self.new parcel.new }
     {
         self.fill_waiting(rt, parcel, size, count)
+    }
+
+    fn reserve<R: Wait>(&mut self, rt: &R, size: usize, count: usize) -> Result<(), PoolError>
+        ensures all { IfOk result (λ _. Reserves J.names self.old size count self.new) }
+        ensures some { IfErr result (λ _. (k : ℕ) × Reserves J.names self.old size k self.new) }
+        ensures too_large { (result ≡ Err TooLarge) ↔ (largest_of (profile_of J.names.digits.bits) < size) }
+    {
+        self.reserve(rt, size, count)
     }
 
     #[inline]

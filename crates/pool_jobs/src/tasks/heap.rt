@@ -125,6 +125,18 @@ pub trait Heap: Drop {
         ensures waits { result ≢ Err UsedUp }
         ensures largest { largest self.new ≡ largest self.old };
 
+    /// Makes `count` slots for buffers of at least `size` bytes ready: it lends them all at once, which draws
+    /// chunks and takes the memory for their first use, and takes them back. These slots stay with this heap, so that
+    /// it can lend as many of the size, whatever other tasks hold. To be called for each size before the first
+    /// buffer.
+    ///
+    /// [`PoolError::TooLarge`] and [`PoolError::NoChunk`] are those of [`Heap::alloc`].
+    /// [`PoolError::NoMemory`]: the system refused the memory for an array of `count` pointers, or for the first
+    /// slot. [`PoolError::UsedUp`]: there are fewer slots for now, or memory for fewer; these are ready.
+    fn reserve<R: Wait>(&mut self, rt: &R, size: usize, count: usize) -> Result<(), PoolError>
+        ensures too_large { (result ≡ Err TooLarge) ↔ (largest self.old < size) }
+        ensures largest { largest self.new ≡ largest self.old };
+
     /// Takes all buffers of a parcel back, whichever allocator of the pool made it, as [`Heap::free`] does
     /// one. Of another's parcel no buffer is looked at, but for the first few that a task frees.
     fn free_all<R: Wait>(&mut self, rt: &R, parcel: Self::Parcel);

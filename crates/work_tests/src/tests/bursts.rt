@@ -27,6 +27,8 @@ enum Act {
     Frees,
     // Draws the only chunk for one class, and asks for another one.
     Misses,
+    // Makes the only chunk's slots ready, and asks for more.
+    Reserves,
 }
 
 impl Task for Act {
@@ -52,6 +54,7 @@ impl Task for Act {
             Act::Hands => hand(rt, heap, &channels),
             Act::Frees => free(rt, heap, &channels),
             Act::Misses => miss(rt, heap),
+            Act::Reserves => reserve(rt, heap),
         }
     }
 }
@@ -173,6 +176,22 @@ fn miss<H: Heap, R: Wait + Clock>(rt: &R, heap: &mut H) -> Result<(), &'static s
     asked
 }
 
+// What was reserved is there. There are no more of the class, none of another, and none too large.
+fn reserve<H: Heap, R: Wait>(rt: &R, heap: &mut H) -> Result<(), &'static str> {
+    check(heap.reserve(rt, 512, SLOTS) == Ok(()), "not all slots")?;
+    let ninth = heap.reserve(rt, 512, SLOTS + 1);
+    check(ninth == Err(PoolError::UsedUp), "a ninth slot")?;
+    let other = heap.reserve(rt, 16, 1);
+    check(other == Err(PoolError::NoChunk), "a slot of no chunk")?;
+    let large = heap.largest_size().saturating_add(1);
+    let too_large = heap.reserve(rt, large, 0);
+    check(too_large == Err(PoolError::TooLarge), "too large a slot")?;
+    let mut parcel = parcel(heap, SLOTS)?;
+    let filled = heap.fill(rt, &mut parcel, 512, SLOTS);
+    heap.free_all(rt, parcel);
+    check(filled == Ok(SLOTS), "a slot that isn't there")
+}
+
 fn hand<H: Heap, R: Wait + Clock>(
     rt: &R,
     heap: &mut H,
@@ -255,6 +274,14 @@ fn a_fill_takes_what_there_is(rt: HostRuntime) -> Result<(), Fail> {
 fn nobody_waits_for_a_class_without_a_chunk(rt: HostRuntime) -> Result<(), Fail> {
     for inboxes in BOTH {
         alone(&rt, inboxes, Act::Misses, 8)?;
+    }
+    Ok(())
+}
+
+#[test]
+fn what_is_reserved_is_there(rt: HostRuntime) -> Result<(), Fail> {
+    for inboxes in BOTH {
+        alone(&rt, inboxes, Act::Reserves, 24)?;
     }
     Ok(())
 }

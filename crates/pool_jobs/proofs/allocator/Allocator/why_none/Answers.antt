@@ -1,4 +1,3 @@
-use Rattle.std.proofs.Common.{ℕ, ◌≡◌}
 use Rattle.pool_desk.specs.HomesState.{HasChunk, LacksChunk, LacksClass}
 use Rattle.pool_desk.proofs.DeskLaws.{not_both}
 use Rattle.pool_jobs.proofs.Refusals.{lacking, no_memory}
