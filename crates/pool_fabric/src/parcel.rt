@@ -3,7 +3,7 @@ ghost use Rattle.std.specs.Prelude.{◌≡◌, ◌<◌, ◌≤◌, ◌^◌, ◌�
 ghost use Rattle.std.specs.Prelude.{Some, slice_get};
 ghost use Rattle.std.specs.Fn.{FnOnceReturnsAtMut};
 ghost use Rattle.region_cut.specs.Classes.{size_of};
-ghost use Rattle.slot_chain.specs.Filling.{data_of, holding};
+ghost use Rattle.slot_chain.specs.Filling.{Extends, data_of, holding};
 ghost use Rattle.slot_chain.specs.Parcels.{EditsAt, KeepsOut, Packs};
 ghost use Rattle.slot_chain.specs.Slots.{slot_of};
 ghost use Rattle.pool_desk.specs.Steps.{IsFilledUp, LendsWhole};
@@ -15,7 +15,7 @@ use crate::naming::Naming;
 use loan_ledger::Receipt;
 use pool_desk::Desk;
 use region_cut::Class;
-use slot_chain::{Buf, BufParcel};
+use slot_chain::{Buf, BufParcel, Full};
 use std::alloc::Global;
 use std::fmt;
 use std::marker::{Model, PhantomData};
@@ -189,6 +189,15 @@ impl<'r, J: Naming> Parcel<'r, J> {
         ensures { EditsAt at (λ b b'. b' ≡ record b { filled = len }) self.old self.new }
     {
         self.parcel.set_len_at(at, len);
+    }
+
+    /// Appends these bytes to those that are filled of the buffer at place `at`. [`Full`]: there is no room
+    /// for all of them, and none is written.
+    pub fn extend_at(&mut self, at: usize, bytes: &[u8]) -> Result<(), Full>
+        requires { at < length self.old.items }
+        ensures { EditsAt at (λ b b'. Extends b bytes.now result b') self.old self.new }
+    {
+        self.parcel.extend_at(at, bytes)
     }
 }
 

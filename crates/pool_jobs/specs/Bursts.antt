@@ -1,5 +1,6 @@
--- What the filling of a parcel does.
-use Rattle.std.specs.Prelude.{◌≡◌, ◌≢◌, ℕ, ◌-◌, ◌≤◌, ◌⊎◌, List, ◌++◌, All, Result, Ok, Err, length, map}
+-- What the filling of a parcel, and of its buffers, does.
+use Rattle.std.specs.Prelude.{◌≡◌, ◌≢◌, ℕ, ◌-◌, ◌≤◌, ◌⊎◌, List, ◌++◌, All, Result, Ok, Err, Some, length, map}
+use Rattle.std.specs.Prelude.{slice_get, slice_set}
 use Rattle.slot_chain.specs.Buffer.{Buffer}
 use Rattle.slot_chain.specs.Parcels.{ParcelState, unforwarded}
 use Rattle.pool_fabric.specs.Names.{Names}
@@ -55,3 +56,7 @@ pub record Reserves (names : Names) (old : StationState) (n k : ℕ) (new : Stat
   pub class : All (λ (b : Buffer). IsClassFor names n b.class) buffers
   pub lent : new.lent ≡ old.lent ++ buffers
   pub freed : new.freed ≡ old.freed ++ map unforwarded buffers
+
+-- these bytes come behind what the buffer at place i is filled with, and the others are as before
+abbrev pub AppendsAt : ℕ → List ℕ → List (List ℕ) → List (List ℕ) → Type 0
+AppendsAt i bs old new = (filling : List ℕ) × (slice_get old i ≡ Some filling) × (new ≡ slice_set old i (filling ++ bs))

@@ -1,6 +1,8 @@
 -- What a buffer is filled with.
-use Rattle.std.specs.Prelude.{◌≡◌, ℕ, ◌+◌, List, ◌++◌, length, take, drop}
+use Rattle.std.specs.Prelude.{◌≡◌, ℕ, ◌+◌, ◌<◌, List, ◌++◌, Result, MatchResult, length, take, drop}
+use Rattle.region_cut.specs.Classes.{size_of}
 use Rattle.slot_chain.specs.Buffer.{Buffer}
+use Rattle.slot_chain.specs.declared.error.Full.{Full}
 
 -- the bytes that are filled
 abbrev pub data_of : Buffer → List ℕ
@@ -22,3 +24,9 @@ overwritten xs i bs = take i xs ++ bs ++ drop (i + length bs) xs
 pub record Appends (old : Buffer) (bs : List ℕ) (new : Buffer) : Type 0 where
   pub appended : data_of new ≡ data_of old ++ bs
   pub same : new ≡ holding old (overwritten old.bytes.now old.filled bs) (old.filled + length bs)
+
+-- either all of bs come behind what was filled, or there is no room for all of them, and nothing changes
+abbrev pub Extends : Buffer → List ℕ → Result (Unit {0}) Full → Buffer → Type 0
+Extends old bs result new = MatchResult result
+    (λ _. Appends old bs new)
+    (λ _. (size_of old.class < old.filled + length bs) × (new ≡ old))

@@ -6,7 +6,7 @@ ghost use Rattle.std.specs.Io.{WritesAtMost};
 ghost use Rattle.std.specs.Io.KnownBytes.{Keeps, ReadConsumes, WriteAppends};
 ghost use Rattle.region_cut.specs.Classes.{size_of};
 ghost use Rattle.slot_chain.specs.Buffer.{Buffer};
-ghost use Rattle.slot_chain.specs.Filling.{Appends, data_of, emptied, holding, overwritten};
+ghost use Rattle.slot_chain.specs.Filling.{Appends, Extends, data_of, emptied, holding, overwritten};
 
 use crate::buf::Buf;
 use crate::error::Full;
@@ -84,9 +84,7 @@ impl<'r> Buf<'r> {
     /// Appends these bytes to those that are filled. Where there is no room for all of them, none is
     /// written.
     pub fn extend_from_slice(&mut self, bytes: &[u8]) -> Result<(), Full>
-        ensures { MatchResult result
-            (λ _. Appends self.old bytes.now self.new)
-            (λ _. (size_of self.old.class < self.old.filled + length bytes.now) × (self.new ≡ self.old)) }
+        ensures { Extends self.old bytes.now result self.new }
     {
         let start = self.len();
         if self.capacity() - start < bytes.len() {

@@ -5,12 +5,12 @@ ghost use Rattle.std.specs.Prelude.{vec_capacity};
 ghost use Rattle.region_cut.specs.Classes.{size_of};
 ghost use Rattle.slot_chain.specs.Buffer.{ended_of};
 ghost use Rattle.slot_chain.specs.Counts.{capped, sizes};
-ghost use Rattle.slot_chain.specs.Filling.{emptied, holding};
+ghost use Rattle.slot_chain.specs.Filling.{Extends, emptied, holding};
 ghost use Rattle.slot_chain.specs.Parcels.{EditsAt, EmptiesSome, IsOf, IsPacked, KeepsOut, Packs, most_places};
 ghost use Rattle.std.specs.Fn.{FnOnceReturnsAtMut};
 
 use crate::buf::Buf;
-use crate::error::NoMemory;
+use crate::error::{Full, NoMemory};
 use region_cut::Class;
 use region_cut::endings::Endings;
 use std::alloc::{Allocator, Global};
@@ -193,6 +193,16 @@ impl<'r> BufParcel<'r> {
         ensures { EditsAt at (λ b b'. b' ≡ record b { filled = len }) self.old self.new }
     {
         self.buffers[at].set_len(len);
+    }
+
+    /// Appends these bytes to those that are filled of the buffer at place `at`. [`Full`]: there is no room
+    /// for all of them, and none is written.
+    pub fn extend_at(&mut self, at: usize, bytes: &[u8]) -> Result<(), Full>
+        requires { at < length self.old.items }
+        ensures { EditsAt at (λ b b'. Extends b bytes.now result b') self.old self.new }
+    {
+        self.buffers[at].extend_from_slice(bytes)?;
+        Ok(())
     }
 
     /// Empties the buffers, as long as each is of this class, and says whether all are. A buffer of which

@@ -92,8 +92,11 @@ fn hand_over(rt: &impl Abort, alloc: Global) -> Result<(), NoMemory> {
     holds(rt, &parcel.buffers()[0], b"aaaaa");
     parcel.edit_at(0, |bytes| bytes.fill(b'b'));
     holds(rt, &parcel.buffers()[0], b"bbbbb");
+    assert!(rt; parcel.extend_at(0, b"nine more b").is_ok());
+    assert!(rt; parcel.extend_at(0, b"!").err() == Some(Full));
+    holds(rt, &parcel.buffers()[0], b"bbbbbnine more b");
     let buf = parcel.pop().expect(rt, "the same");
-    holds(rt, &buf, b"bbbbb");
+    holds(rt, &buf, b"bbbbbnine more b");
     Ok(())
 }
 

@@ -1,6 +1,7 @@
 //! What a task does with a parcel.
 ghost use Rattle.std.specs.Prelude.{◌≡◌, ℕ, List, [], ◌∷◌, ◌++◌, ◌≤◌, ◌<◌, ◌↔◌, length, map, take, slice_set};
 ghost use Rattle.std.specs.Prelude.{IsTrue, MatchOption, MatchResult};
+ghost use Rattle.pool_jobs.specs.Bursts.{AppendsAt};
 
 use crate::buffers::bytes::Bytes;
 use crate::buffers::data::Data;
@@ -68,6 +69,14 @@ pub trait Burst<B: Bytes>: Drop {
         requires place { at < length (fillings self.old) }
         ensures filled { MatchResult result
             (λ _. (bytes : List ℕ) × (length bytes ≡ len) × (fillings self.new ≡ slice_set (fillings self.old) at bytes))
+            (λ _. fillings self.new ≡ fillings self.old) }
+        ensures places { places self.new ≡ places self.old };
+
+    /// Appends these bytes to those that are filled of the buffer at place `at`. [`Full`]: there is no room
+    /// for all of them, or no buffer, and nothing is changed.
+    fn extend_at(&mut self, at: usize, bytes: &[u8]) -> Result<(), Full>
+        ensures appended { MatchResult result
+            (λ _. AppendsAt at bytes.now (fillings self.old) (fillings self.new))
             (λ _. fillings self.new ≡ fillings self.old) }
         ensures places { places self.new ≡ places self.old };
 }

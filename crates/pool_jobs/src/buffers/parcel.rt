@@ -60,4 +60,13 @@ impl<'r, J: Naming> Burst<Buffer<'r, J>> for Parcel<'r, J> {
         self.set_len_at(at, len);
         Ok(())
     }
+
+    #[tactic(auto, using(crate::proofs::Fillings::fillings_length))]
+    fn extend_at(&mut self, at: usize, bytes: &[u8]) -> Result<(), Full> {
+        if at < self.len() {
+            self.extend_at(at, bytes)
+        } else {
+            Err(Full)
+        }
+    }
 }

@@ -2,7 +2,7 @@
 ghost use Rattle.std.specs.Prelude.{◌≡◌, ◌≤◌};
 
 use super::{BOTH, Ground, Inboxes, Outcome, outcome_of};
-use pool_jobs::{Burst, Channels, Data, Heap, Message, PoolError, Task};
+use pool_jobs::{Burst, Bytes, Channels, Data, Heap, Message, PoolError, Task};
 use std::process::Abort;
 use std::sync::Wait;
 use std::test::Fail;
@@ -29,6 +29,8 @@ enum Act {
     Misses,
     // Makes the only chunk's slots ready, and asks for more.
     Reserves,
+    // Writes lines into the buffers of a parcel.
+    Writes,
 }
 
 impl Task for Act {
@@ -55,6 +57,7 @@ impl Task for Act {
             Act::Frees => free(rt, heap, &channels),
             Act::Misses => miss(rt, heap),
             Act::Reserves => reserve(rt, heap),
+            Act::Writes => write(rt, heap),
         }
     }
 }
@@ -192,6 +195,57 @@ fn reserve<H: Heap, R: Wait>(rt: &R, heap: &mut H) -> Result<(), &'static str> {
     check(filled == Ok(SLOTS), "a slot that isn't there")
 }
 
+// A parcel with a line in each buffer, and whether all lines are in it.
+fn written<H: Heap, R: Wait + Clock>(
+    rt: &R,
+    heap: &mut H,
+    lines: &[&[u8]],
+) -> Result<(H::Parcel, bool), PoolError> {
+    let mut parcel = heap.parcel(lines.len())?;
+    let _lent = heap.fill_waiting(rt, &mut parcel, 512, lines.len())?;
+    let mut are_all_in = true;
+    for (at, line) in lines.iter().enumerate() {
+        are_all_in &= parcel.extend_at(at, line).is_ok(); // too long, or no buffer was lent for it
+    }
+    Ok((parcel, are_all_in))
+}
+
+// What the buffer at this place is filled with.
+fn holds<B: Bytes, P: Burst<B>>(parcel: &P, at: usize, want: &[u8]) -> Result<(), &'static str> {
+    let buffer = parcel.buffers().get(at).ok_or("no buffer")?;
+    check(buffer.data() == want, "another line")
+}
+
+// A line that is too long by a byte, or has no buffer, changes nothing. One that just fits is written.
+fn extend<B: Bytes, P: Burst<B>>(parcel: &mut P) -> Result<(), &'static str> {
+    holds(parcel, 0, b"GET /")?;
+    holds(parcel, 1, b"")?;
+    check(parcel.extend_at(2, b"none").is_err(), "a third buffer")?;
+    check(parcel.extend_at(0, &[b'x'; 507]).is_ok(), "no room")?;
+    check(parcel.extend_at(0, b"y").is_err(), "too much room")?;
+    check(parcel.extend_at(0, b"").is_ok(), "no room for nothing")?;
+    check(parcel.extend_at(1, &[b'z'; 513]).is_err(), "a long line")?;
+    check(parcel.extend_at(1, &[b'z'; 512]).is_ok(), "no whole line")?;
+    check(parcel.len() == 2, "another number of buffers")?;
+    let first = parcel.buffers().get(0).ok_or("no buffer")?.data();
+    check(
+        first.starts_with(b"GET /x") && first.ends_with(b"x") && first.len() == 512,
+        "another line",
+    )?;
+    holds(parcel, 1, &[b'z'; 512])
+}
+
+fn write<H: Heap, R: Wait + Clock>(rt: &R, heap: &mut H) -> Result<(), &'static str> {
+    let lines: [&[u8]; 2] = [b"GET /", b""];
+    let Ok((mut parcel, are_all_in)) = written(rt, heap, &lines) else {
+        return Err("no parcel");
+    };
+    let extended = extend(&mut parcel);
+    heap.free_all(rt, parcel);
+    check(are_all_in, "a line is missing")?;
+    extended
+}
+
 fn hand<H: Heap, R: Wait + Clock>(
     rt: &R,
     heap: &mut H,
@@ -282,6 +336,14 @@ fn nobody_waits_for_a_class_without_a_chunk(rt: HostRuntime) -> Result<(), Fail>
 fn what_is_reserved_is_there(rt: HostRuntime) -> Result<(), Fail> {
     for inboxes in BOTH {
         alone(&rt, inboxes, Act::Reserves, 24)?;
+    }
+    Ok(())
+}
+
+#[test]
+fn a_line_is_written_where_it_fits(rt: HostRuntime) -> Result<(), Fail> {
+    for inboxes in BOTH {
+        alone(&rt, inboxes, Act::Writes, 2)?;
     }
     Ok(())
 }
